@@ -39,12 +39,27 @@ hv::Bytes StoredFile::read(size_t start, size_t length) const {
     return bytes;
 }
 
-hv::Column load_column(const StoredFile &file) {
+static const std::string line_of_type = "hivevigil type 1 ";
+
+// The format in the line of a type, which is taken off the bytes; none where there is no such line.
+static std::optional<std::string> format_of_line(hv::Bytes &bytes) {
+    const std::string begun(bytes.begin(), std::find(bytes.begin(), bytes.end(), '\n'));
+    if (begun.size() == bytes.size() || begun.compare(0, line_of_type.size(), line_of_type) != 0) return std::nullopt;
+    bytes.erase(bytes.begin(), bytes.begin() + static_cast<std::ptrdiff_t>(begun.size() + 1));
+    return begun.substr(line_of_type.size());
+}
+
+NamedColumn load_column(const StoredFile &file) {
+    const Failure refused(file.path() + ", of " + with_commas(file.size()) + " bytes, is not the file of a column");
+    hv::Bytes bytes = file.read(0, file.size());
+    const std::optional<std::string> format = format_of_line(bytes);
     try {
-        return hv::Column::from_bytes(file.read(0, file.size()));
+        NamedColumn named{"", format.value_or(""), hv::Column::from_bytes(bytes), file.size()};
+        if (format && (!named.type().logical || !are_texts({*format}))) throw refused;
+        return named;
     } catch (const hv::Error &error) {
         if (error.number != HV_BAD_METADATA) throw;
-        throw Failure(file.path() + ", of " + with_commas(file.size()) + " bytes, is not the file of a column");
+        throw refused;
     }
 }
 
@@ -87,7 +102,15 @@ static mode_t mode_of_new_files() {
     return 0666 & ~mask;
 }
 
-void save_column(const hv::Column &column, const std::string &path) { save_bytes(column.to_bytes(), path); }
+void save_column(const hv::Column &column, const RowType &type, const std::string &path) {
+    hv::Bytes bytes = column.to_bytes();
+    if (type.logical) {
+        const std::string line = line_of_type + type.logical->format() + "\n";
+        if (line.find('\n') + 1 < line.size()) throw Failure(path + ": the zone of a column in a file is one line");
+        bytes.insert(bytes.begin(), line.begin(), line.end());
+    }
+    save_bytes(bytes, path);
+}
 
 void save_bytes(const hv::Bytes &bytes, const std::string &path) {
     struct stat there {};

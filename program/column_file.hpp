@@ -1,8 +1,9 @@
-// Columns in files, each a message of its own as docs/BYTES.md says it.
+// Columns in files, each a message of its own as docs/BYTES.md says it. Where the integers of a column mean something
+// else, a line comes first, "hivevigil type 1 FORMAT", as docs/TYPES.md says it.
 #ifndef HIVEVIGIL_PROGRAM_COLUMN_FILE_HPP
 #define HIVEVIGIL_PROGRAM_COLUMN_FILE_HPP
+#include "logical.hpp"
 #include <cstdio>
-#include <hivevigil.hpp>
 #include <memory>
 #include <string>
 
@@ -26,12 +27,20 @@ private:
     hv::Bytes read_all() const;
 };
 
-// The column of a file. Throws a Failure where it cannot be read, or is not a column's.
-hv::Column load_column(const StoredFile &file);
+struct NamedColumn {
+    std::string name, logical_type; // a format of Arrow, or empty
+    hv::Column column;
+    size_t message_bytes = 0; // in the file from which it was read
+
+    RowType type() const { return type_of_format(column.kind(), logical_type); }
+};
+
+// The column of a file, which has no name. Throws a Failure where it cannot be read, or is not a column's.
+NamedColumn load_column(const StoredFile &file);
 
 // Writes the bytes as a file, which is replaced whole or not at all; one that is not a regular file (/dev/stdout) is
 // written to. Throws a Failure.
 void save_bytes(const hv::Bytes &bytes, const std::string &path);
-void save_column(const hv::Column &column, const std::string &path);
+void save_column(const hv::Column &column, const RowType &type, const std::string &path);
 
 #endif

@@ -1,19 +1,11 @@
 #include "csv_columns.hpp"
 #include "failure.hpp"
+#include "floats.hpp"
+#include "times.hpp"
 #include "values.hpp"
 #include <algorithm>
 
 using Fields = std::vector<std::string>;
-
-static bool are_texts(const Fields &names) {
-    try {
-        hv::Column::texts({names.begin(), names.end()});
-        return true;
-    } catch (const hv::Error &error) {
-        if (error.number == HV_TYPE_MISMATCH) return false;
-        throw;
-    }
-}
 
 // Reads the records after the names, each with as many fields as there are names.
 class NamedReader {
@@ -40,58 +32,101 @@ private:
     Fields found;
 };
 
-// What all fields of a column are, so far: booleans, integers, decimals; else texts.
+// A double has each number of so many digits in these digits.
+static constexpr size_t digits_of_floats = 15;
+
+// What all fields of a column are, so far: booleans, integers, decimals, floats, dates, times of day, timestamps
+// without an offset or with one; else texts.
 class Guess {
 public:
     void add(const std::string &field) {
         if (field.empty() || (seen && field == last)) return;
         seen = true, last = field;
         truths = truths && (field == "true" || field == "false");
-        const std::optional<NumberText> number = numbers ? number_text(field) : std::nullopt;
-        numbers = number.has_value();
-        if (!numbers) return;
-        digits = std::max(digits, number->digits), places = std::max(places, number->places);
-        whole = whole && !number->places && number->digits <= 19; // 64 bits have at most 19 digits
+        if (decimals || floats) add_number(field);
+        dates = dates && day_of_text(field);
+        if (times || timestamps || instants) add_time(field);
+    }
+    RowType type() const {
+        if (!seen) return {hv::nullable(hv::kinds::utf8), std::nullopt};
+        if (truths) return {hv::nullable(hv::kinds::boolean), std::nullopt};
+        if (decimals || floats) return number_type();
+        if (dates) return of_name("date");
+        const std::string unit = unit_of(places_of_second);
+        const bool is_past = unit == "ns" && !(of_i64(first) && of_i64(latest));
+        if (times) return of_name("time[" + unit + "]");
+        if (timestamps && !is_past) return of_name("timestamp[" + unit + "]");
+        if (instants && !is_past) return of_name("timestamp[" + unit + ", UTC]");
+        return {hv::nullable(hv::kinds::utf8), std::nullopt};
+    }
+
+private:
+    using Wide = hv::detail::Wide;
+    bool seen = false, truths = true, whole = true, decimals = true, floats = true;
+    bool dates = true, times = true, timestamps = true, instants = true; // with an offset
+    std::string last;
+    size_t digits = 1, places = 0, places_of_second = 0; // the most of each
+    Wide least = 0, greatest = 0, first = 0, latest = 0; // of integers; of nanoseconds
+
+    static RowType of_name(const std::string &name) { return type_of_text(name + "?"); }
+    static bool of_i64(Wide number) { return hv::detail::range_of(hv::kinds::i64).has(number); }
+    // The coarsest unit that has so many digits after the second.
+    static std::string unit_of(size_t count) { return count == 0 ? "s" : count < 4 ? "ms" : count < 7 ? "us" : "ns"; }
+    void add_number(const std::string &field) {
+        const std::optional<NumberText> number = number_text(field);
+        // no decimal has the sign of -0.0
+        const bool is_negative_zero = number && number->places && field.find_first_not_of("-0.") == field.npos;
+        decimals = decimals && number && !(is_negative_zero && field[0] == '-');
+        const bool is_short = number && number->digits + number->places <= digits_of_floats;
+        floats = floats && (is_short || is_shortest_float(field));
+        whole = whole && decimals && !number->places && number->digits <= 19; // 64 bits have at most 19 digits
+        if (decimals) digits = std::max(digits, number->digits), places = std::max(places, number->places);
         if (!whole) return;
         const auto value = std::get<hv::Decimal>(value_of_text(field, hv::kinds::i64)).digits();
         least = std::min(least, value), greatest = std::max(greatest, value);
     }
-    hv_kind kind() const {
-        if (seen && truths) return hv::nullable(hv::kinds::boolean);
-        if (!seen || !numbers || digits + places > most_digits) return hv::nullable(hv::kinds::utf8);
+    void add_time(const std::string &field) {
+        const std::optional<TimeOfDay> time = times ? time_of_text(field) : std::nullopt;
+        const std::optional<Instant> instant = timestamps || instants ? instant_of_text(field) : std::nullopt;
+        times = time.has_value();
+        timestamps = timestamps && instant && !instant->has_offset;
+        instants = instants && instant && instant->has_offset;
+        places_of_second = std::max({places_of_second, time ? time->places : 0, instant ? instant->places : 0});
+        if (instant) first = std::min(first, instant->nanoseconds), latest = std::max(latest, instant->nanoseconds);
+    }
+    RowType number_type() const {
         for (hv_kind integer : {hv::kinds::i32, hv::kinds::i64})
             if (whole && hv::detail::range_of(integer).has(least) && hv::detail::range_of(integer).has(greatest))
-                return hv::nullable(integer);
-        return hv::nullable(hv::kinds::decimal(static_cast<uint8_t>(digits + places), static_cast<int8_t>(places)));
+                return {hv::nullable(integer), std::nullopt};
+        if (decimals && digits + places <= most_digits) {
+            const auto kind = hv::kinds::decimal(static_cast<uint8_t>(digits + places), static_cast<int8_t>(places));
+            return {hv::nullable(kind), std::nullopt};
+        }
+        return floats ? of_name("float64") : RowType{hv::nullable(hv::kinds::utf8), std::nullopt};
     }
-
-private:
-    bool seen = false, truths = true, numbers = true, whole = true;
-    std::string last;
-    size_t digits = 1, places = 0; // the most of each
-    hv::detail::Wide least = 0, greatest = 0;
 };
 
 // Takes fields of one type, and passes the first of a stretch of equal ones to the library at once, so that a refusal
 // is about this line, and the others together.
 class Gathered {
 public:
-    explicit Gathered(hv_kind kind) : builder(kind) {}
+    explicit Gathered(RowType rows) : type(std::move(rows)), builder(type.kind) {}
     void add(const std::string &field) {
         nulls += field.empty();
         if (some && field == last) return void(waiting++);
         flush();
-        value = field.empty() ? hv::Value() : value_of_text(field, builder.kind());
+        value = field.empty() ? hv::Value() : value_of_text(field, type);
         builder.append(value);
         some = true, last = field;
     }
     // The rows in runs.
     CsvColumn finish(const std::string &name) {
         flush();
-        return {name, builder.finish(), nulls};
+        return {name, type, builder.finish(), nulls};
     }
 
 private:
+    RowType type;
     hv::Builder builder;
     bool some = false;
     std::string last;
@@ -114,15 +149,15 @@ static std::vector<size_t> places_of(const CsvOptions &options, const Fields &na
     return places;
 }
 
-static std::vector<hv_kind> guessed(const CsvOptions &options, const std::vector<size_t> &places) {
-    if (options.kind) return {*options.kind};
+static std::vector<RowType> guessed(const CsvOptions &options, const std::vector<size_t> &places) {
+    if (options.type) return {*options.type};
     NamedReader reader(options);
     std::vector<Guess> guesses(places.size());
     for (Fields fields; reader.next(fields);)
         for (size_t at = 0; at < places.size(); at++) guesses[at].add(fields[places[at]]);
-    std::vector<hv_kind> kinds;
-    for (const Guess &guess : guesses) kinds.push_back(guess.kind());
-    return kinds;
+    std::vector<RowType> types;
+    for (const Guess &guess : guesses) types.push_back(guess.type());
+    return types;
 }
 
 static void add_field(Gathered &column, const std::string &field, const NamedReader &reader, size_t place) {
@@ -142,7 +177,7 @@ std::vector<CsvColumn> read_csv(const CsvOptions &options) {
     NamedReader reader(options);
     const std::vector<size_t> places = places_of(options, reader.names());
     std::vector<Gathered> gathered;
-    for (hv_kind kind : guessed(options, places)) gathered.emplace_back(kind);
+    for (RowType &type : guessed(options, places)) gathered.emplace_back(std::move(type));
     for (Fields fields; reader.next(fields);)
         for (size_t at = 0; at < places.size(); at++) add_field(gathered[at], fields[places[at]], reader, places[at]);
     std::vector<CsvColumn> columns;

@@ -3,19 +3,20 @@
 #ifndef HIVEVIGIL_PROGRAM_CSV_COLUMNS_HPP
 #define HIVEVIGIL_PROGRAM_CSV_COLUMNS_HPP
 #include "csv_reader.hpp"
-#include <hivevigil.hpp>
+#include "logical.hpp"
 
 // How a CSV file is read.
 struct CsvOptions {
     std::string path;
     std::optional<char> separator;
     std::optional<std::string> column; // the only one that is read; all where there is none
-    std::optional<hv_kind> kind;       // the type of that column, in place of the one that its fields have
+    std::optional<RowType> type;       // the type of that column, in place of the one that its fields have
 };
 
 // A column that was read, as few runs as there can be. An empty field is null.
 struct CsvColumn {
     std::string name;
+    RowType type;
     hv::Column runs;
     size_t nulls;
 };

@@ -15,8 +15,9 @@ inline constexpr char help[] = R"(Columns in runs: of CSV files, kept in files, 
   hivevigil query FILE.hv filter CONDITION  the rows that meet it, a line each
 
 A CSV file has the names in its first line, and an empty field is null. Columns
-are booleans, integers, decimals or texts, by all of their fields. A row is
-printed as a field of a CSV file: null as an empty line.
+are booleans, integers, decimals, floats, dates, times, timestamps or texts, by
+all of their fields. A row is printed as a field of a CSV file: null as an empty
+line.
 
 Of a table, show and query take --column NAME, to show or ask that column, and
 a CONDITION has the name of a column in front: 'level > 4'. Rows of a table are
@@ -28,7 +29,9 @@ Options:
   --to FILE.hv       where: the file is replaced whole, or not at all
   --type TYPE        its type, in place of the one that its fields have: u8 to
                      u64, i8 to i64, bool, utf8, binary (hexadecimal digits),
-                     decimal(10,2), with a ? after it where rows may be null
+                     decimal(10,2), float16 to float64, date, time[us],
+                     timestamp[us], timestamp[us, UTC], duration[us], with a ?
+                     after it where rows may be null
   --separator MARK   divides the fields, in place of the first of , ; tab |
                      that the first line has
   --rows N           prints rows, at most N
@@ -43,7 +46,9 @@ Options:
   --version          prints the version
 
 A CONDITION is one argument, an operator and a value: '> 4', '= Oslo', 'ne 7'.
-Operators are = != < <= > >=, or eq ne lt le gt ge. A null meets none.
+Operators are = != < <= > >=, or eq ne lt le gt ge. A null meets none. Dates and
+times are '< 2024-03-01', '< 10:00:00', '< 2024-03-01T10:00:00', with Z or +02:00
+after it where the type has a zone; a duration is a number of seconds.
 
 The status is 0; 1 where a file or a value is not served, and 2 where the
 command line is wrong, which a sentence on standard error says.

@@ -93,7 +93,7 @@ static CsvOptions csv_options(const Arguments &arguments) {
         throw BadUsage("--separator takes one character of ASCII, not '" + *mark + "'");
     if (mark) options.separator = (*mark)[0];
     try {
-        if (type) options.kind = kind_of_text(*type);
+        if (type) options.type = type_of_text(*type);
     } catch (const Failure &error) {
         throw BadUsage(error.what());
     }
@@ -138,7 +138,7 @@ static void report(const Arguments &arguments) {
     for (const CsvColumn &column : read_csv(csv_options(arguments))) {
         const Column &runs = column.runs;
         const size_t flat = bytes_flat(runs), in_runs = runs.bytes_used();
-        lines.push_back({column.name, hv::to_string(runs.kind()), with_commas(runs.size()), with_commas(column.nulls),
+        lines.push_back({column.name, to_string(column.type), with_commas(runs.size()), with_commas(column.nulls),
                          with_commas(runs.runs().size()), with_commas(flat), with_commas(in_runs)});
         all_flat += flat, all_in_runs += in_runs;
     }
@@ -152,14 +152,19 @@ static std::vector<std::string> names_of(const Table &table) {
     return names;
 }
 
-// What --sort asks for: nothing where it is not given.
-static std::vector<SortKey> asked_keys(const Arguments &arguments, const std::vector<std::string> &names) {
-    const std::optional<std::string> asked = arguments.value("sort");
+// What a refusal within is about: the file.
+template <class Work> static auto about_file(const Arguments &arguments, Work work) {
     try {
-        return asked ? sort_keys(*asked, names) : std::vector<SortKey>();
+        return work();
     } catch (const Failure &error) {
         throw Failure(arguments.words[1] + ": " + error.what());
     }
+}
+
+// What --sort asks for: nothing where it is not given.
+static std::vector<SortKey> asked_keys(const Arguments &arguments, const std::vector<std::string> &names) {
+    const std::optional<std::string> asked = arguments.value("sort");
+    return about_file(arguments, [&] { return asked ? sort_keys(*asked, names) : std::vector<SortKey>(); });
 }
 
 // The rows in the order that --sort asks for.
@@ -177,9 +182,12 @@ static void convert(const Arguments &arguments) {
         if (arguments.has(option) && is_one)
             throw BadUsage("--" + std::string(option) + " is of a table, and --column keeps a column");
     std::vector<CsvColumn> found = read_csv(csv_options(arguments));
-    if (is_one) return save_column(found[0].runs, to);
+    if (is_one) return save_column(found[0].runs, found[0].type, to);
     Table table{found.empty() ? 0 : found[0].runs.size(), {}};
-    for (CsvColumn &column : found) table.columns.push_back({column.name, "", std::move(column.runs)});
+    for (CsvColumn &column : found) {
+        const std::string format = column.type.logical ? column.type.logical->format() : "";
+        table.columns.push_back({column.name, format, std::move(column.runs)});
+    }
     save_table(in_order(arguments, std::move(table)), to, arguments.has("differences"));
 }
 
@@ -187,7 +195,7 @@ static void convert(const Arguments &arguments) {
 static NamedColumn asked_column(const Arguments &arguments, const StoredFile &file) {
     const std::optional<std::string> name = arguments.value("column");
     if (name && !is_table(file)) throw Failure(file.path() + " is not the file of a table, and its column has no name");
-    if (!name) return {"", "", load_column(file), file.size()};
+    if (!name) return load_column(file);
     return std::move(load_table(file, std::vector<std::string>{*name}).columns[0]);
 }
 
@@ -201,8 +209,9 @@ static void show_table(const Arguments &arguments, const StoredFile &file) {
     if (arguments.has("runs")) throw BadUsage("--runs of a table takes --column too");
     Table table = load_table(file);
     if (arguments.has("rows")) {
-        const auto [start, stop] = asked_rows(arguments, table.rows);
-        return print_table_rows(in_order(arguments, std::move(table)), start, stop);
+        const auto asked = asked_rows(arguments, table.rows);
+        table = in_order(arguments, std::move(table));
+        return about_file(arguments, [&] { print_table_rows(table, asked.first, asked.second); });
     }
     size_t in_memory = 0;
     for (const NamedColumn &named : table.columns) in_memory += named.column.bytes_used();
@@ -224,27 +233,25 @@ static void show(const Arguments &arguments) {
     if (arguments.has("sort")) throw BadUsage("--sort is of the rows of a table, and this is one column");
     const NamedColumn named = asked_column(arguments, file);
     const Column &column = named.column;
-    if (runs) return print_runs(column);
+    if (runs) return about_file(arguments, [&] { print_runs(column, named.type()); });
     if (rows) {
-        const auto [start, stop] = asked_rows(arguments, column.size());
-        return print_rows(column, start, stop);
+        const auto asked = asked_rows(arguments, column.size());
+        return about_file(arguments, [&] { print_rows(column, named.type(), asked.first, asked.second); });
     }
-    std::printf("%s, %s null; %s bytes in the file, %s in memory\n", summary_of(column).c_str(),
+    std::printf("%s, %s null; %s bytes in the file, %s in memory\n", summary_of(column, named.type()).c_str(),
                 with_commas(column.size() - count_valid(column)).c_str(), with_commas(named.message_bytes).c_str(),
                 with_commas(column.bytes_used()).c_str());
 }
 
-static void print_number(const hv::Sum &sum) {
-    std::visit([](auto total) { std::printf("%s\n", std::to_string(total).c_str()); }, sum.total);
-}
-
-static void answer(const Arguments &arguments, const Column &rows) {
+static void answer(const Arguments &arguments, const Column &rows, const RowType &type) {
     const std::string question = arguments.words[2];
-    if (question == "filter" && arguments.has("to")) save_column(rows, *arguments.value("to"));
-    else if (question == "filter") print_rows(rows, 0, rows.size());
-    else if (question == "sum") print_number(rows.sum());
-    else if (question == "count") std::printf("%zu\n", count_valid(rows));
-    else std::printf("%s\n", csv_field(question == "min" ? rows.least() : rows.greatest()).c_str());
+    if (question == "filter" && arguments.has("to")) return save_column(rows, type, *arguments.value("to"));
+    about_file(arguments, [&] {
+        if (question == "filter") print_rows(rows, type, 0, rows.size());
+        else if (question == "sum") std::printf("%s\n", sum_of(rows, type).c_str());
+        else if (question == "count") std::printf("%zu\n", count_valid(rows));
+        else std::printf("%s\n", csv_field(extreme_of(rows, type, question == "max"), type).c_str());
+    });
 }
 
 // Reads only the columns that are asked for.
@@ -257,9 +264,11 @@ static void query_table(const Arguments &arguments, const StoredFile &file, cons
     for (const NamedCondition &asked : conditions) wanted.push_back(asked.name);
     for (const SortKey &key : asked_keys(arguments, names)) wanted.push_back(key.name);
     const Table rows = in_order(arguments, table_where(load_table(file, wanted), conditions));
-    if (is_one) answer(arguments, column_of_table(rows, wanted[0]).column);
-    else if (arguments.has("to")) save_table(rows, *arguments.value("to"), arguments.has("differences"));
-    else print_table_rows(rows, 0, rows.rows);
+    if (is_one) {
+        const NamedColumn &named = column_of_table(rows, wanted[0]);
+        answer(arguments, named.column, named.type());
+    } else if (arguments.has("to")) save_table(rows, *arguments.value("to"), arguments.has("differences"));
+    else about_file(arguments, [&] { print_table_rows(rows, 0, rows.rows); });
 }
 
 static void query(const Arguments &arguments) {
@@ -284,7 +293,8 @@ static void query(const Arguments &arguments) {
             throw Failure(file.path() + " is not the file of a table, which --" + option + " is of");
     std::vector<Condition> conditions;
     for (const std::string &text : texts) conditions.push_back(condition_of_text(text));
-    answer(arguments, rows_where(asked_column(arguments, file).column, conditions));
+    const NamedColumn named = asked_column(arguments, file);
+    answer(arguments, rows_where(named.column, named.type(), conditions), named.type());
 }
 
 static void run(const Arguments &arguments) {

@@ -56,8 +56,8 @@ size_t count_valid(const Column &column) {
     return count;
 }
 
-std::string summary_of(const Column &column) {
-    const std::string rows = hv::to_string(column.kind()) + ": " + with_commas(column.size()) + " rows";
+std::string summary_of(const Column &column, const RowType &type) {
+    const std::string rows = to_string(type) + ": " + with_commas(column.size()) + " rows";
     if (column.form() == Form::constant) return rows + " of one value";
     if (column.form() != Form::runs) return rows + ", flat";
     const size_t runs = column.empty() ? 0 : column.run_of(column.size() - 1) + 1 - column.run_of(0);
@@ -92,9 +92,9 @@ static Column one_of_each_run(const Column &column, const hv::Runs &runs) {
 }
 
 // The runs that meet the condition, in memory by runs: a constant of 2^60 rows, say, has one.
-static Column runs_where(const Column &column, const Condition &condition, const hv::Value &value) {
+static Column runs_where(const Column &column, const RowType &type, const Condition &condition) {
     const hv::Runs runs = column.runs();
-    const Column mask = one_of_each_run(column, runs).compare(condition.by, value);
+    const Column mask = compare_with_text(one_of_each_run(column, runs), type, condition.by, condition.value);
     hv::Builder kept(column.kind());
     for (size_t run = 0; run < runs.size(); run++) {
         if (mask.at(run) != hv::Value(true)) continue;
@@ -104,13 +104,11 @@ static Column runs_where(const Column &column, const Condition &condition, const
     return kept.finish();
 }
 
-Column rows_where(const Column &column, const std::vector<Condition> &conditions) {
+Column rows_where(const Column &column, const RowType &type, const std::vector<Condition> &conditions) {
     Column rows = column.clone();
-    for (const Condition &condition : conditions) {
-        const hv::Value value = value_of_text(condition.value, column.kind());
-        if (rows.form() == Form::flat) rows = rows.filter(rows.compare(condition.by, value));
-        else rows = runs_where(rows, condition, value);
-    }
+    for (const Condition &condition : conditions)
+        if (rows.form() != Form::flat) rows = runs_where(rows, type, condition);
+        else rows = rows.filter(compare_with_text(rows, type, condition.by, condition.value));
     return rows;
 }
 
@@ -135,22 +133,29 @@ static std::vector<std::string> fields_of_lists(const Column &column, size_t sta
     return fields;
 }
 
-std::vector<std::string> fields_of_rows(const Column &column, size_t start, size_t stop) {
+std::vector<std::string> fields_of_rows(const Column &column, const RowType &type, size_t start, size_t stop) {
     if (column.kind().number == HV_LIST) return fields_of_lists(column, start, stop);
     std::vector<std::string> fields;
-    for (size_t row = start; row < stop; row++) fields.push_back(csv_field(column.at(row)));
+    for (size_t row = start; row < stop; row++) {
+        try {
+            fields.push_back(csv_field(column.at(row), type));
+        } catch (const Failure &error) {
+            throw Failure("row " + std::to_string(row) + ": " + error.what());
+        }
+    }
     return fields;
 }
 
-void print_rows(const Column &column, size_t start, size_t stop) {
+void print_rows(const Column &column, const RowType &type, size_t start, size_t stop) {
     for (const size_t step = 4096; start < stop; start += step)
-        for (const std::string &field : fields_of_rows(column, start, std::min(stop, start + step))) print_line(field);
+        for (const std::string &field : fields_of_rows(column, type, start, std::min(stop, start + step)))
+            print_line(field);
 }
 
-void print_runs(const Column &column) {
+void print_runs(const Column &column, const RowType &type) {
     const Column flat = column.form() == Form::flat ? column.encode_rows() : Column();
     const hv::Runs runs = (flat ? flat : column).runs();
     print_line("start,stop,value");
     for (const hv::Run &run : runs)
-        print_line(std::to_string(run.start) + "," + std::to_string(run.stop) + "," + csv_field(run.value));
+        print_line(std::to_string(run.start) + "," + std::to_string(run.stop) + "," + csv_field(run.value, type));
 }

@@ -1,7 +1,7 @@
 // What is asked of a column beyond the calls of the library.
 #ifndef HIVEVIGIL_PROGRAM_QUESTIONS_HPP
 #define HIVEVIGIL_PROGRAM_QUESTIONS_HPP
-#include <hivevigil.hpp>
+#include "logical.hpp"
 #include <string>
 #include <vector>
 
@@ -9,7 +9,7 @@
 size_t count_valid(const hv::Column &column);
 
 // "i64?: 6 rows in 3 runs"
-std::string summary_of(const hv::Column &column);
+std::string summary_of(const hv::Column &column, const RowType &type);
 
 // A comparison with one value, as it is written.
 struct Condition {
@@ -22,15 +22,15 @@ Condition condition_of_text(const std::string &text);
 bool has_operator(const std::string &text);
 
 // The rows that meet all conditions; a null meets none. Throws a Failure for a value that the type cannot have.
-hv::Column rows_where(const hv::Column &column, const std::vector<Condition> &conditions);
+hv::Column rows_where(const hv::Column &column, const RowType &type, const std::vector<Condition> &conditions);
 
 // Rows `start` to `stop` - 1 (some of them, since all are held at once) as fields of a CSV file; lists as JSON.
-std::vector<std::string> fields_of_rows(const hv::Column &column, size_t start, size_t stop);
+std::vector<std::string> fields_of_rows(const hv::Column &column, const RowType &type, size_t start, size_t stop);
 
 // Writes rows `start` to `stop` - 1, a line each, as such fields.
-void print_rows(const hv::Column &column, size_t start, size_t stop);
+void print_rows(const hv::Column &column, const RowType &type, size_t start, size_t stop);
 
 // Writes a line for each run: its first row, the row after its last, and its value. Flat rows are put into runs first.
-void print_runs(const hv::Column &column);
+void print_runs(const hv::Column &column, const RowType &type);
 
 #endif

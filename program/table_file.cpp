@@ -55,12 +55,7 @@ public:
     std::string text(unsigned field) {
         const Bytes found = content(field);
         const std::string text(found.begin(), found.end());
-        try {
-            Column::texts({text});
-        } catch (const hv::Error &error) {
-            if (error.number == HV_TYPE_MISMATCH) throw Damaged();
-            throw;
-        }
+        if (!are_texts({text})) throw Damaged();
         return text;
     }
 

@@ -5,12 +5,6 @@
 #include <optional>
 #include <vector>
 
-struct NamedColumn {
-    std::string name, logical_type; // a format of Arrow, or empty
-    hv::Column column;
-    size_t message_bytes = 0; // in the file from which it was read
-};
-
 // Columns of one number of rows, each with another name.
 struct Table {
     size_t rows;

@@ -34,15 +34,18 @@ NamedCondition named_condition(const std::string &text, const std::vector<std::s
 }
 
 // Row by row whether it meets the condition: of runs each value is compared once.
-static Column mask_of(const Column &column, const Condition &condition) {
-    const hv::Value value = value_of_text(condition.value, column.kind());
-    if (column.form() != Form::runs) return column.compare(condition.by, value);
-    return Column::runs(column.ends(), column.values().compare(condition.by, value), column.offset(), column.size());
+static Column mask_of(const NamedColumn &named, const Condition &condition) {
+    const Column &column = named.column;
+    const auto compared = [&](const Column &rows) {
+        return compare_with_text(rows, named.type(), condition.by, condition.value);
+    };
+    if (column.form() != Form::runs) return compared(column);
+    return Column::runs(column.ends(), compared(column.values()), column.offset(), column.size());
 }
 
 Table table_where(Table table, const std::vector<NamedCondition> &conditions) {
     for (const NamedCondition &asked : conditions) {
-        const Column mask = mask_of(column_of_table(table, asked.name).column, asked.condition);
+        const Column mask = mask_of(column_of_table(table, asked.name), asked.condition);
         for (NamedColumn &named : table.columns) named.column = named.column.filter(mask);
         table.rows = table.columns[0].column.size();
     }
@@ -62,8 +65,10 @@ std::vector<std::vector<std::string>> lines_of_table(const Table &table) {
     for (const NamedColumn &named : table.columns) {
         const Column &column = named.column;
         const bool is_list = column.kind().number == HV_LIST;
-        const std::string logical = named.logical_type.empty() ? "" : " " + csv_field(named.logical_type);
-        lines.push_back({csv_field(named.name), hv::to_string(column.kind()) + logical,
+        const RowType type = named.type();
+        const bool is_known = type.logical || named.logical_type.empty();
+        const std::string unknown = is_known ? "" : " " + csv_field(named.logical_type);
+        lines.push_back({csv_field(named.name), to_string(type) + unknown,
                          with_commas(column.size() - count_valid(column)),
                          is_list ? "" : with_commas(column.encode_rows().runs().size()),
                          with_commas(named.message_bytes), with_commas(column.bytes_used())});
@@ -84,7 +89,8 @@ void print_table_rows(const Table &table, size_t start, size_t stop) {
     for (const size_t step = 4096; start < stop; start += step) {
         const size_t end = std::min(stop, start + step);
         std::vector<std::vector<std::string>> columns;
-        for (const NamedColumn &named : table.columns) columns.push_back(fields_of_rows(named.column, start, end));
+        for (const NamedColumn &named : table.columns)
+            columns.push_back(fields_of_rows(named.column, named.type(), start, end));
         for (size_t row = 0; row < end - start; row++) {
             std::vector<std::string> fields;
             for (const std::vector<std::string> &column : columns) fields.push_back(column[row]);

@@ -19,8 +19,8 @@ Table table_where(Table table, const std::vector<NamedCondition> &conditions);
 // The column of a name, which the table has.
 const NamedColumn &column_of_table(const Table &table, const std::string &name);
 
-// A line for each column: its name, its type with its logical type, rows that are null, runs, bytes in the file and in
-// memory.
+// A line for each column: its name, its type (and a format of Arrow that is not of such integers), rows that are null,
+// runs, bytes in the file and in memory.
 std::vector<std::vector<std::string>> lines_of_table(const Table &table);
 
 // Writes the names, then rows `start` to `stop` - 1, as a CSV file.

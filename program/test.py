@@ -10,8 +10,6 @@ are shown or refused as the model of examples/bytes has it, where Protocol Buffe
 """
 
 import argparse
-import csv
-import io
 import itertools
 import json
 import os
@@ -24,17 +22,17 @@ import subprocess
 import sys
 import tempfile
 import warnings
-from decimal import Decimal
 from pathlib import Path
 
+import logical_model
+from csv_model import (
+    IN_WORDS, OPERATORS, flat_bytes, found_mark, meets, random_csv, random_value, read_by_csv, rows_of, run_bytes, runs_of,
+    shown, type_of, value_of,
+)
+from logical_model import format_of, is_logical
+
 TOP = Path(__file__).resolve().parents[1]
-NUMBER = re.compile(r"-?(0|[1-9][0-9]*)(\.[0-9]+)?")
-MOST_DIGITS, PART_ROWS = 38, 65536
-OPERATORS = {
-    "=": lambda row, value: row == value, "!=": lambda row, value: row != value, "<": lambda row, value: row < value,
-    "<=": lambda row, value: row <= value, ">": lambda row, value: row > value, ">=": lambda row, value: row >= value,
-}
-IN_WORDS = {"=": "eq ", "!=": "ne ", "<": "lt ", "<=": "le ", ">": "gt ", ">=": "ge "}
+PART_ROWS = 65536
 
 
 class Program:
@@ -58,148 +56,16 @@ class Program:
         assert (status, said) == (0, ""), f"{words} ended with {status}: {said}"
         return out.decode()
 
+    def stops(self, sentence: str, *words: str) -> None:
+        """Ends with status 1 and this sentence, at a row that is not written, those before it maybe are."""
+        status, _, said = self.run(*words)
+        assert status == 1 and re.fullmatch(f"hivevigil: {sentence}\n", said), f"{words} ended with {status}: {said}"
+
     def refuses(self, status: int, sentence: str, *words: str, **more) -> None:
         """Ends with the status, prints nothing, and says this sentence, and no other line."""
         found, out, said = self.run(*words, **more)
         assert (found, out) == (status, b""), f"{words} ended with {found} and printed {out!r}"
         assert re.fullmatch(rf"hivevigil: {sentence}\n", said), f"{words} said {said!r} and not {sentence!r}"
-
-
-# ---- The model: types, rows and bytes of a column, from its fields
-
-
-def type_of(fields: list[str]) -> str:
-    texts = [field for field in fields if field]
-    if not texts:
-        return "utf8?"
-    if set(texts) <= {"true", "false"}:
-        return "bool?"
-    if all(map(NUMBER.fullmatch, texts)):
-        parts = [text.removeprefix("-").partition(".") for text in texts]
-        digits, places = (max(len(part[place]) for part in parts) for place in (0, 2))
-        if places == 0:
-            for bits in (32, 64):
-                if all(-(2 ** (bits - 1)) <= int(text) < 2 ** (bits - 1) for text in texts):
-                    return f"i{bits}?"
-        if digits + places <= MOST_DIGITS:
-            return f"decimal({digits + places}, {places})?"
-    return "utf8?"
-
-
-def rows_of(fields: list[str], kind: str) -> list:
-    """Plain rows, None for null: integers, decimals, booleans, and texts as their bytes, by which they are ordered."""
-    read = {"i": int, "d": Decimal, "b": "true".__eq__, "u": str.encode}[kind[0]]
-    return [read(field) if field else None for field in fields]
-
-
-def shown(row, kind: str) -> str:
-    """The row as a field of a CSV file."""
-    if row is None:
-        return ""
-    if kind.startswith("bool"):
-        return str(row).lower()
-    if kind.startswith("decimal"):
-        scale = int(kind.partition(", ")[2].rstrip(")?"))
-        return f"{row:.{scale}f}" if row else f"{0:.{scale}f}"
-    if not kind.startswith("utf8"):
-        return str(row)
-    text = row.decode()
-    return text if text and not set(text) & set(',"\r\n') else '"' + text.replace('"', '""') + '"'
-
-
-def flat_bytes(rows: list, kind: str) -> int:
-    """What hivevigil.h says that rows take, a bit more for each where some are null and some are not."""
-    bits = (len(rows) + 7) // 8
-    width = {"i": lambda: int(kind.strip("i?")) // 8 * len(rows), "d": lambda: 16 * len(rows), "b": lambda: bits}
-    texts = lambda: sum(24 + len(row or b"") for row in rows)
-    return width.get(kind[0], texts)() + (bits if 0 < rows.count(None) < len(rows) else 0)
-
-
-def runs_of(rows: list) -> list[tuple[int, int, object]]:
-    runs, start = [], 0
-    for value, stretch in itertools.groupby(rows):
-        stop = start + len(list(stretch))
-        runs.append((start, stop, value))
-        start = stop
-    return runs
-
-
-def run_bytes(rows: list, kind: str) -> int:
-    runs = runs_of(rows)
-    width = next(width for width in (1, 2, 4, 8) if len(rows) < 256**width)
-    return width * len(runs) + flat_bytes([value for _, _, value in runs], kind)
-
-
-# ---- Random files
-
-
-def random_field(chance: random.Random, sort: str) -> str:
-    match sort:
-        case "small":
-            return str(chance.randrange(-3, 4))
-        case "wide":
-            return str(chance.choice([2**31 - 1, -(2**31), 2**31, 2**63 - 1, -(2**63), 0]))
-        case "wider":
-            return str(chance.choice([2**63, -(2**63) - 1, 10**37, -(10**38) + 1, 5]))
-        case "price":
-            return f"{chance.randrange(-200, 200)}.{chance.randrange(10 ** chance.randrange(1, 4))}"
-        case "truth":
-            return chance.choice(["true", "false"])
-        case "number or text":
-            return chance.choice(["1", "01", "1.", ".5", "+1", "1e5", "-", "true", "١", "-0", "1" * 39])
-    return chance.choice(TEXTS)
-
-
-TEXTS = ["Oslo", "a, b", 'said "so"', "two\nlines", "\r", "Zürich", "\U0001f41d", " ", "x" * 99, ";|\t"]
-SORTS = ["small", "small", "wide", "wider", "price", "truth", "number or text", "text", "none"]
-
-
-def random_fields(chance: random.Random, count: int) -> list[str]:
-    """Fields of a column, most of them in runs, some of them empty."""
-    sort, stretch, empty = chance.choice(SORTS), chance.choice([1, 2, 8]), chance.choice([0, 0, 0.3])
-    fields = []
-    while len(fields) < count:
-        field = "" if sort == "none" or chance.random() < empty else random_field(chance, sort)
-        fields += [field] * chance.randint(1, stretch)
-    return fields[:count]
-
-
-def random_csv(chance: random.Random) -> tuple[dict[str, list[str]], bytes, list[str]]:
-    """Columns by name, a file of them, and the options by which it is read. One column is never empty, since a line
-    without a byte is not a row."""
-    rows = chance.choice([0, 1, 2, 9, 64, 300, 700])
-    names = ["row", *chance.sample(["count", "place, or town", "größe", 'a "b"', " ", "x;y"], chance.randrange(5))]
-    columns = {name: random_fields(chance, rows) for name in names}
-    columns["row"] = [str(row) for row in range(rows)]
-    mark = chance.choice([",", ",", ";", "\t", "|"])
-    ending = chance.choice(["\n", "\r\n", "\r"])
-    out = io.StringIO(newline="")
-    # the writer puts only its own line ending in quotes
-    has_lines = any(set("\r\n") & set(field) for fields in columns.values() for field in fields)
-    quoting = csv.QUOTE_ALL if has_lines else chance.choice([csv.QUOTE_MINIMAL, csv.QUOTE_ALL])
-    writer = csv.writer(out, delimiter=mark, lineterminator=ending, quoting=quoting)
-    writer.writerows([names, *zip(*columns.values(), strict=True)])
-    text = out.getvalue()
-    if chance.random() < 0.2 and not has_lines:
-        text = text.replace(ending, ending * 2)  # lines without a byte, which are skipped
-    if chance.random() < 0.3:
-        text = text.removesuffix(ending)
-    data = b"\xef\xbb\xbf" * (chance.random() < 0.2) + text.encode()
-    # a name may have the mark for which the program looks first
-    is_found = found_mark(data) == mark and chance.random() < 0.7
-    return columns, data, [] if is_found else ["--separator", mark]
-
-
-def found_mark(data: bytes) -> str:
-    names = re.split(r"[\r\n]", data.decode("utf-8-sig"), maxsplit=1)[0]
-    return next((mark for mark in ",;\t|" if mark in names), ",")
-
-
-def read_by_csv(data: bytes, mark: str) -> dict[str, list[str]]:
-    """The columns as Python's csv module reads them."""
-    lines = csv.reader(io.StringIO(data.decode("utf-8-sig"), newline=""), delimiter=mark, strict=True)
-    names, *rows = (line for line in lines if line)
-    return {name: [row[place] for row in rows] for place, name in enumerate(names)}
 
 
 # ---- What the program answers
@@ -221,6 +87,11 @@ def expected_report(columns: dict[str, list[str]]) -> str:
     return "\n".join([*table, "{:,} bytes flat, {:,} in runs\n".format(*sums)])
 
 
+def line_of_type(kind: str) -> bytes:
+    """What a file of a column of this type begins with."""
+    return f"hivevigil type 1 {format_of(kind)}\n".encode() if is_logical(kind) else b""
+
+
 def lines_of(rows: list, kind: str) -> str:
     return "".join(f"{shown(row, kind)}\n" for row in rows)
 
@@ -228,8 +99,14 @@ def lines_of(rows: list, kind: str) -> str:
 def check_column(chance: random.Random, program: Program, name: str, fields: list[str], options: list[str]) -> None:
     program.answers("convert", "random.csv", "--column", name, "--to", "column.hv", *options)
     kind = type_of(fields)
-    rows = rows_of(fields, kind)
-    size = (program.folder / "column.hv").stat().st_size
+    check_kept(chance, program, rows_of(fields, kind), kind)
+
+
+def check_kept(chance: random.Random, program: Program, rows: list, kind: str) -> None:
+    """What is shown and asked of a file of these rows."""
+    data = (program.folder / "column.hv").read_bytes()
+    size, line = len(data), line_of_type(kind)
+    assert data.startswith(line + b"\x08\x01"), data[:40]
     summary = f"{kind}: {len(rows):,} rows in {len(runs_of(rows)):,} runs, {rows.count(None):,} null; "
     assert program.answers("show", "column.hv") == summary + (
         f"{size:,} bytes in the file, {run_bytes(rows, kind):,} in memory\n"
@@ -252,7 +129,15 @@ def check_questions(program: Program, rows: list, kind: str, where: list[str], c
     assert program.answers("query", file, "count", *where) == f"{len(valid)}\n"
     for question, best in ("min", min), ("max", max):
         found = program.answers("query", file, question, *where)
-        assert found == lines_of([best(valid, default=None)], kind), (question, where, found)
+        due = logical_model.best(valid, kind, best) if is_logical(kind) else best(valid, default=None)
+        assert found == lines_of([due], kind), (question, where, found)
+    check_sum(program, valid, kind, file, where)
+
+
+def check_sum(program: Program, valid: list, kind: str, file: str, where: list[str]) -> None:
+    if is_logical(kind) and (due := logical_model.total(valid, kind)) is not None:
+        assert program.answers("query", file, "sum", *where) == f"{due}\n", (valid, kind)
+        return
     sums = list(itertools.accumulate(valid, initial=0)) if kind[0] == "i" else []
     overflow = next((True for total in sums if not -(2**63) <= total < 2**63), False)
     if kind[0] != "i":
@@ -264,21 +149,6 @@ def check_questions(program: Program, rows: list, kind: str, where: list[str], c
         assert program.answers("query", file, "sum", *where) == f"{sum(valid)}\n"
 
 
-def value_of(text: str, kind: str):
-    """What is written after an operator; a number may have more places than the rows."""
-    return text.encode() if kind[0] == "u" else text == "true" if kind[0] == "b" else Decimal(text)
-
-
-def random_value(chance: random.Random, rows: list, kind: str) -> str:
-    """A value to compare with: one of the rows, or another, which the type may not have."""
-    some = [shown(row, kind) for row in rows if row is not None and kind[0] != "u"]
-    if kind.startswith("bool"):
-        return chance.choice(["true", "false"])
-    if kind.startswith("utf8"):
-        return chance.choice(["", "Oslo", "Zürich", " ", "~", *[row.decode() for row in rows if row][:2]])
-    return chance.choice([*some[:3], "0", "-1.5", "0.0005", "2147483648", "9" * 38, "-" + "9" * 38])
-
-
 def check_condition(chance: random.Random, program: Program, rows: list, kind: str) -> None:
     """A filter by one condition or by two, and the answers about the rows that it leaves."""
     conditions, left = [], rows
@@ -288,12 +158,47 @@ def check_condition(chance: random.Random, program: Program, rows: list, kind: s
         space = " " if value.startswith((" ", "=")) or chance.random() < 0.5 else ""
         conditions.append(f"{IN_WORDS[operator]}{value}" if chance.random() < 0.3 else f"{operator}{space}{value}")
         right = value_of(value, kind)
-        left = [row for row in left if row is not None and OPERATORS[operator](row, right)]
+        left = [row for row in left if meets(row, operator, right, kind)]
     more = [word for condition in conditions[1:] for word in ("--where", condition)]
     assert program.answers("query", "column.hv", "filter", conditions[0], *more) == lines_of(left, kind), conditions
     program.answers("query", "column.hv", "filter", conditions[0], *more, "--to", "left.hv")
     assert program.answers("show", "left.hv", "--rows", str(len(rows) + 1)) == lines_of(left, kind)
     check_questions(program, left, kind, [f"--where={condition}" for condition in conditions])
+
+
+TYPES = ["date", "date[ms]", "float16", "float32", "float64", "timestamp[us, Europe/Berlin]", "timestamp[s,UTC]"]
+TYPES += [f"{sort}[{unit}]" for sort in ("time", "timestamp", "duration") for unit in ("s", "ms", "us", "ns")]
+
+
+def random_row(chance: random.Random, kind: str) -> int:
+    """A row of a logical type that is written."""
+    unit = logical_model.NANOSECONDS[logical_model.unit_of(kind)]
+    match logical_model.sort_of(kind):
+        case "float":
+            bits = logical_model.float_bits(kind)
+            number = chance.choice([chance.uniform(-9, 9), 0.0, -0.0, float("inf"), float("nan"), 2.0**-14, 6e-8])
+            return logical_model.key_of(number, bits)
+        case "date":
+            return chance.randrange(-719_162, 2_932_896) * (logical_model.NANOSECONDS["D"] // unit)
+        case "time":
+            return chance.randrange(0, logical_model.NANOSECONDS["D"], chance.choice([1, 10**9])) // unit
+    return chance.choice([0, -1, 1, chance.randrange(-9 * 10**15, 9 * 10**15) // unit, chance.randrange(-99, 99)])
+
+
+def check_typed_column(chance: random.Random, program: Program, asked: str) -> None:
+    """A column of a type that is asked for: of fields that are its rows, as they are written."""
+    kind = asked.replace(",UTC", ", UTC") + "?"
+    rows, count = [], chance.choice([1, 5, 40])
+    while len(rows) < count:
+        rows += [None if chance.random() < 0.2 else random_row(chance, kind)] * chance.randint(1, 4)
+    if logical_model.sort_of(kind) == "float":  # a NaN is read as the one without a sign or a payload
+        nan = logical_model.key_of(float("nan"), logical_model.float_bits(kind))
+        rows = [nan if row is not None and logical_model.number_shown(row, kind) != logical_model.number_shown(row, kind)
+                else row for row in rows]
+    fields = "".join(f"{number},{shown(row, kind)}\n" for number, row in enumerate(rows))
+    (program.folder / "typed.csv").write_text(f"row,a\n{fields}")
+    program.answers("convert", "typed.csv", "--column=a", "--to=column.hv", "--type", asked + "?")
+    check_kept(chance, program, rows, kind)
 
 
 def check_random_file(chance: random.Random, program: Program) -> None:
@@ -312,7 +217,8 @@ def check_random_file(chance: random.Random, program: Program) -> None:
 
 BAD_KINDS = [
     "", "i128", "?", "i8??", "list", "decimal", "decimal(0,0)", "decimal(39,0)", "decimal(3,4)", "decimal(3,-1)",
-    "decimal(3,2", "decimal(3,2)x",
+    "decimal(3,2", "decimal(3,2)x", "date[D]x", "date[us]", "time", "time[D]", "time[us, UTC]", "timestamp[]", "duration",
+    "timestamp[us", "timestamp[us,]", "float8", "float", "date[ms, UTC]",
 ]
 
 
@@ -351,7 +257,21 @@ BAD_TYPES = {
     ("decimal(3,1)", "1.25"): "1.25 does not fit decimal(3, 1)",
     ("decimal(38,0)", "9" * 39): f"{'9' * 39} has more than 38 digits",
     ("decimal(38,37)", "1." + "0" * 38): f"1.{'0' * 38} has more than 38 digits",
-    ("binary", "0g"): "'0g' is not bytes in hexadecimal digits",
+    ("date?", "2023-02-29"): "'2023-02-29' is not a date as 2024-03-01",
+    ("date", "2024-03-01T00:00"): "'2024-03-01T00:00' is not a date as 2024-03-01", ("date", ""): "null does not fit i32",
+    ("time[ms]", "24:00"): "'24:00' is not a time of day as 10:00:00",
+    ("time[ms]", "10:00:00.0005"): "'10:00:00.0005' is finer than time[ms]",
+    ("timestamp[s]", "2024-03-01"): "'2024-03-01' is not a date and a time without an offset as 2024-03-01T10:00:00",
+    ("timestamp[s]", "2024-03-01T10:00Z"):
+        "'2024-03-01T10:00Z' is not a date and a time without an offset as 2024-03-01T10:00:00",
+    ("timestamp[s,UTC]", "2024-03-01 10:00"):
+        "'2024-03-01 10:00' is not a date and a time with an offset as 2024-03-01T10:00:00Z",
+    ("timestamp[ns]", "1500-01-01T00:00"): "'1500-01-01T00:00' does not fit timestamp[ns]",
+    ("duration[s]", "1.5"): "'1.5' is finer than duration[s]", ("duration[s]", "x"): "'x' is not a number of seconds",
+    ("duration[ns]", "10000000000"): "'10000000000' does not fit duration[ns]",
+    ("float32", "0.1"): "no float32 is 0.1", ("float16", "65505"): "no float16 is 65505",
+    ("float64", "1e400"): "no float64 is 1e400", ("float64", "-nan"): "'-nan' is not a number",
+    ("float64", ".5"): "'.5' is not a number", ("binary", "0g"): "'0g' is not bytes in hexadecimal digits",
     ("binary", "abc"): "'abc' is not bytes in hexadecimal digits",
 }
 
@@ -471,8 +391,17 @@ def json_of(model, elements, row: str) -> str:
     return f"[{','.join(words)}]"
 
 
-def field_of(model, message, row: str) -> str:
-    """A row of the model as a field of a CSV file."""
+def meant(model, message, format: str) -> str | None:
+    """The logical type that a format of Arrow gives a column; None where it is not one of such integers."""
+    kind = logical_model.name_of_format(format)
+    stored = {"i16": 6, "i32": 7, "i64": 8}.get(logical_model.storage_of(kind) if kind else "")
+    return kind if stored == message.type else None
+
+
+def field_of(model, message, row: str, format: str = "") -> str | None:
+    """A row of the model as a field of a CSV file; None where it is a date or a time that is not written."""
+    if row != "null" and (kind := meant(model, message, format)):
+        return logical_model.shown(int(row), kind)
     if message.type == model.LIST:
         return "" if row == "null" else shown(json_of(model, message.elements, row).encode(), "utf8")
     item = item_of(model, message, row)
@@ -481,23 +410,48 @@ def field_of(model, message, row: str) -> str:
     return shown(item if message.type == model.UTF8 else item.hex().encode(), "utf8")
 
 
-def check_message(program: Program, model, data: bytes) -> bool:
-    """Whether the message is a column's, as the model has it, and the program too."""
-    (program.folder / "message.hv").write_bytes(data)
+def line_before(chance: random.Random) -> tuple[bytes, str]:
+    """A line of a type, which one of three has changed, and the format in it; or none."""
+    if chance.random() < 0.4:
+        return b"", ""
+    format = chance.choice([*logical_model.FORMATS, "tsu:UTC", "tss:\u00fc", "tsx:", "", "tdD "])
+    line = f"hivevigil type 1 {format}\n".encode()
+    if chance.random() < 0.3:
+        place = chance.randrange(len(line))
+        line = chance.choice([line[:place], line[place + 1 :], line.replace(b"1", b"2"), line[:-2] + b"\xff\n", line * 2])
+    return line, format if line == f"hivevigil type 1 {format}\n".encode() else "damaged"
+
+
+def check_rows_of_message(program: Program, rows: list, kind: str | None, data: bytes) -> None:
+    """Shows the first rows; None is one that is a date or a time that is not written."""
+    if None in rows:
+        sentence = rf"message\.hv: row {rows.index(None)}: -?\d+ of {re.escape(kind)} is not .*"
+        program.stops(sentence, "show", "message.hv", "--rows", "20")
+        return
+    due, found = "".join(f"{row}\n" for row in rows), program.answers("show", "message.hv", "--rows", "20")
+    assert found == due, f"{data.hex()}: {found} and not {due}"
+
+
+def check_message(program: Program, model, data: bytes, line: bytes = b"", format: str = "") -> bool:
+    """Whether the message is a column's, as the model has it, and the program too; a line of its type may come first."""
     message = model.column(data)
-    if message is None:
+    data = line + data
+    (program.folder / "message.hv").write_bytes(data)
+    kind = meant(model, message, format) if message is not None and line else None
+    if message is None or line and not kind:
         sentence = rf"message\.hv, of {len(data):,} bytes, is not the file of a column"
         program.refuses(1, sentence, "show", "message.hv")
         return False
     rows = [model.row(message, row) for row in range(message.rows)]
-    due = "".join(f"{field_of(model, flat_of(message), row)}\n" for row in rows[:20])
-    found = program.answers("show", "message.hv", "--rows", "20")
-    assert found == due, f"{data.hex()}: {found} and not {due}"
+    fields = [field_of(model, flat_of(message), row, format) for row in rows]
+    check_rows_of_message(program, fields[:20], kind, data)
     assert program.answers("query", "message.hv", "count") == f"{len(rows) - rows.count('null')}\n", data.hex()
     assert f": {len(rows):,} rows" in program.answers("show", "message.hv")
     # of a window of runs the rows that are shown, and no other
     some = next((row for row in rows[::-1] if row != "null"), None)
-    if some is not None and message.type not in (model.LIST, model.DECIMAL):
+    if kind and some is not None and None not in fields:
+        check_value(program, fields, logical_model.number_shown(int(some), kind), fields[rows.index(some)], kind)
+    elif not kind and some is not None and message.type not in (model.LIST, model.DECIMAL):
         value = item_of(model, flat_of(message), some)
         word = value if isinstance(value, str) else value.hex() if message.type == model.BINARY else value.decode()
         found = program.answers("query", "message.hv", "count", "--where", f"= {word}")
@@ -505,8 +459,16 @@ def check_message(program: Program, model, data: bytes) -> bool:
     return True
 
 
+def check_value(program: Program, fields: list, number, field: str, kind: str) -> None:
+    """Counts the rows of a logical type that equal one of them: of floats both zeros, and no NaN."""
+    same = [number == logical_model.exact(other, kind) for other in fields if other]
+    found = program.answers("query", "message.hv", "count", "--where", f"= {field}")
+    assert found == f"{same.count(True)}\n", (field, kind, found)
+
+
 def check_messages(program: Program, count: int, seed: int) -> int:
-    """Shows random messages, of which two of three are changed; how many of them are refused."""
+    """Shows random messages, of which two of three are changed, some of them with the line of a type in front; how many
+    of them are refused."""
     sys.path.insert(0, str(TOP / "examples/bytes"))
     import messages
     import model
@@ -514,7 +476,10 @@ def check_messages(program: Program, count: int, seed: int) -> int:
     warnings.simplefilter("ignore")
     # a message that was changed may have any number of rows; those of more are shown by their first ones elsewhere
     made = [data for data in messages.messages(count, seed) if (model.column(data) or model.Column()).rows <= 1000]
-    return sum(not check_message(program, model, data) for data in made)
+    chance = random.Random(seed)
+    of_integers = [data for data in made if (found := model.column(data)) and found.type in (6, 7, 8)]
+    refused = sum(not check_message(program, model, data, *line_before(chance)) for data in of_integers)
+    return refused + sum(not check_message(program, model, data) for data in made)
 
 
 def main() -> None:
@@ -532,6 +497,8 @@ def main() -> None:
         check_page(program)
         for number in range(chosen.files):
             check_random_file(random.Random(f"{chosen.seed} {number}"), program)
+        for number, kind in enumerate(TYPES):
+            check_typed_column(random.Random(f"{chosen.seed} {number} {kind}"), program, kind)
         said = f"{chosen.files} random files"
         try:
             refused = check_messages(program, chosen.messages, chosen.seed)

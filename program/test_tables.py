@@ -18,10 +18,13 @@ import tempfile
 import warnings
 from pathlib import Path
 
-from test import (
-    IN_WORDS, OPERATORS, TOP, Program, check_questions, field_of, flat_of, found_mark, lines_of, random_csv,
-    random_value, read_by_csv, rows_of, run_bytes, runs_of, shown, type_of, value_of,
+import logical_model
+from csv_model import (
+    IN_WORDS, OPERATORS, found_mark, meets, random_csv, random_value, read_by_csv, rows_of, run_bytes, runs_of, shown,
+    type_of, value_of,
 )
+from logical_model import format_of, is_logical
+from test import TOP, Program, check_questions, field_of, flat_of, line_of_type, lines_of
 
 # ---- The model: what is printed of a table
 
@@ -65,8 +68,10 @@ def check_random_file(chance: random.Random, program: Program, model) -> None:
     sizes = {}
     for name in columns:
         program.answers("convert", "random.csv", "--column", name, "--to", "column.hv", *options)
-        sizes[name] = (program.folder / "column.hv").stat().st_size
-        assert program.answers("show", "table.hv", "--column", name) == program.answers("show", "column.hv")
+        size = (program.folder / "column.hv").stat().st_size
+        sizes[name] = size - len(line_of_type(kinds[name]))
+        due = program.answers("show", "column.hv").replace(f"{size:,} bytes in", f"{sizes[name]:,} bytes in")
+        assert program.answers("show", "table.hv", "--column", name) == due
     kept = (program.folder / "table.hv").read_bytes()
     if model is not None:
         assert model.table(kept) is not None, kept.hex()
@@ -81,6 +86,11 @@ def check_random_file(chance: random.Random, program: Program, model) -> None:
         check_conditions(chance, program, rows, kinds)
 
 
+def formats_of(kinds: dict[str, str]) -> dict[str, str]:
+    """The formats of Arrow of the columns that have a logical type."""
+    return {name: format_of(kind) for name, kind in kinds.items() if is_logical(kind)}
+
+
 def check_differences(
     program: Program, model, rows: dict[str, list], kinds: dict[str, str], plain: bytes, options: list[str]
 ) -> None:
@@ -90,7 +100,7 @@ def check_differences(
     columns = dict(zip(rows, model.table(plain).columns))
     kept = {name: model.as_differences(column) for name, column in columns.items()}
     kept = {name: parts for name, parts in kept.items() if parts is not None}
-    assert short == model.written(model.made(len(rows["row"]), columns, {}, kept)), short.hex()
+    assert short == model.written(model.made(len(rows["row"]), columns, formats_of(kinds), kept)), short.hex()
     assert (short == plain) == (not kept) and (kept or len(rows["row"]) < 100)
     sizes = {footer.name: footer.size for footer in model.table(short).footer.columns}
     assert program.answers("show", "short.hv") == expected_table(rows, kinds, sizes, len(short))
@@ -158,8 +168,7 @@ def check_conditions(chance: random.Random, program: Program, rows: dict[str, li
         in_words = chance.random() < 0.3
         conditions.append(f"{name} {IN_WORDS[operator]}{value}" if in_words else f"{name}{front}{operator}{space}{value}")
         right = value_of(value, kinds[name])
-        valid = [line for line in left if rows[name][line] is not None]
-        left = [line for line in valid if OPERATORS[operator](rows[name][line], right)]
+        left = [line for line in left if meets(rows[name][line], operator, right, kinds[name])]
     more = [word for condition in conditions[1:] for word in ("--where", condition)]
     asked = ["query", "table.hv", "filter", conditions[0], *more]
     assert program.answers(*asked) == expected_rows(rows, kinds, left), conditions
@@ -247,16 +256,28 @@ def check_message(program: Program, model, data: bytes) -> bool:
         program.refuses(1, sentence, "show", "message.hv")
         return False
     footers, columns = message.footer.columns, model.columns(message)
-    lines = [",".join(field(footer.name) for footer in footers)]
+    lines = [[field(footer.name) for footer in footers]]
+    formats = [footer.logical_type for footer in footers]
     for at in range(message.footer.rows):
-        rows = [(column, model.model.row(column, at)) for column in columns]
-        lines.append(",".join(field_of(model.model, flat_of(column), row) for column, row in rows))
-    found = program.answers("show", "message.hv", "--rows", "9999")
-    assert found == "".join(f"{line}\n" for line in lines), f"{data.hex()}: {found}"
+        rows = [(flat_of(column), model.model.row(column, at)) for column in columns]
+        lines.append([field_of(model.model, *each, format) for each, format in zip(rows, formats)])
+    refused = [line.index(None) for line in zip(*lines[1:]) if None in line]
+    if refused:  # of the first column that has such a row
+        sentence = rf"message\.hv: row {refused[0]}: -?\d+ of (date|time|timestamp)\S* (UTC\] )?is not .*"
+        program.stops(sentence, "show", "message.hv", "--rows", "9999")
+    else:
+        found = program.answers("show", "message.hv", "--rows", "9999")
+        assert found == "".join(f"{','.join(line)}\n" for line in lines), f"{data.hex()}: {found}"
     title, *shown_columns, summary = program.answers("show", "message.hv").splitlines()
     assert title.startswith("column") and len(shown_columns) == len(columns)
     assert summary.startswith(f"{message.footer.rows:,} rows, {len(columns)} columns; {len(data):,} bytes in the file")
     return True
+
+
+def stored_column(name: str, kind: str, form: str, *rows: str) -> tuple[str, ...]:
+    """The name and the rows of a line of the corpus, in which columns of the name `at` are seconds of UTC."""
+    meant = (lambda row: logical_model.shown(int(row), "timestamp[s, UTC]")) if name == "at" else str
+    return name, *("" if row == "null" else meant(row) for row in rows)
 
 
 def check_stored_tables(program: Program) -> None:
@@ -271,8 +292,7 @@ def check_stored_tables(program: Program) -> None:
         rows, columns, digits = line.split("\t")
         (program.folder / "message.hv").write_bytes(bytes.fromhex(digits))
         found = [line.split(",") for line in program.answers("show", "message.hv", "--rows", rows).splitlines()]
-        due = [(words.split(" ")[0], *words.replace("null", "").split(" ")[3:]) for words in columns.split(", ")]
-        assert list(zip(*found, strict=True)) == due
+        assert list(zip(*found, strict=True)) == [stored_column(*words.split(" ")) for words in columns.split(", ")]
 
 
 def check_each_truncation(program: Program, model) -> None:

@@ -74,6 +74,7 @@ static hv_kind decimal_of_text(const std::string &text, const Failure &unknown) 
 hv_kind kind_of_text(const std::string &text) {
     using namespace hv::kinds;
     const Failure unknown("'" + text + "' is not a type: u8 .. u64, i8 .. i64, bool, utf8, binary, decimal(10,2), "
+                                       "float64, date, time[us], timestamp[us], timestamp[us, UTC], duration[us], "
                                        "and ? after it where rows may be null");
     const bool may_be_null = !text.empty() && text.back() == '?';
     const std::string name = text.substr(0, text.size() - may_be_null);
@@ -108,6 +109,16 @@ std::string json_of(const hv::Value &value) {
         json += escaped;
     }
     return json + "\"";
+}
+
+bool are_texts(const std::vector<std::string> &texts) {
+    try {
+        hv::Column::texts({texts.begin(), texts.end()});
+        return true;
+    } catch (const hv::Error &error) {
+        if (error.number == HV_TYPE_MISMATCH) return false;
+        throw;
+    }
 }
 
 std::string with_commas(size_t number) {

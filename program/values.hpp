@@ -29,6 +29,9 @@ std::string csv_field(const hv::Value &value);
 // The value within a list, as JSON has it; bytes are a text of hexadecimal digits.
 std::string json_of(const hv::Value &value);
 
+// Are all of them UTF-8?
+bool are_texts(const std::vector<std::string> &texts);
+
 // "1,234,567"
 std::string with_commas(size_t number);
 

@@ -32,7 +32,7 @@ MAGIC, VERSIONS = "hivevigil", (1, 2)
 ROWS, AS_FLAT, AS_RUNS = 0, 1, 2  # how a column is kept: as its rows, or as the differences of one of these forms
 I64, MOST = 8, 2**26
 NAMES = ["level", "place", "", "größe", "x,y", "level "]
-LOGICAL_TYPES = ["", "", "", "tdD", "tsu:UTC"]
+LOGICAL_TYPES = ["", "", "tdD", "tsu:UTC", "e", "f", "g", "tts", "ttu", "tdm", "tDn", "tsn:", "tsx:", "days"]
 
 # ---- what is written
 
