@@ -24,7 +24,7 @@ from csv_model import (
     type_of, value_of,
 )
 from logical_model import format_of, is_logical
-from test import TOP, Program, check_questions, field_of, flat_of, line_of_type, lines_of
+from test import TOP, Program, check_questions, field_of, flat_of, line_of_type, lines_of, meant
 
 # ---- The model: what is printed of a table
 
@@ -270,6 +270,9 @@ def check_message(program: Program, model, data: bytes) -> bool:
         assert found == "".join(f"{','.join(line)}\n" for line in lines), f"{data.hex()}: {found}"
     title, *shown_columns, summary = program.answers("show", "message.hv").splitlines()
     assert title.startswith("column") and len(shown_columns) == len(columns)
+    for line, column, format in zip(shown_columns, columns, formats):
+        kind = meant(model.model, flat_of(column), format)
+        assert (f" {kind}{'?' * model.has_null(column)}  " if kind else f" {field(format)}" if format else "") in line, (line, kind, format)
     assert summary.startswith(f"{message.footer.rows:,} rows, {len(columns)} columns; {len(data):,} bytes in the file")
     return True
 

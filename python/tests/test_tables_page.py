@@ -23,6 +23,6 @@ def test_the_page(tmp_path, monkeypatch):
         subprocess.run([program, *shlex.split(words)], check=True, capture_output=True, text=True).stdout
         for words in commands
     ]
-    assert len(said) == 4 and (said[0], said[2], said[3]) == ("", "43\n", "")
+    assert len(said) == 5 and (said[0], *said[2:]) == ("", "43\n", "", "288\n")
     assert said[1].splitlines()[1].split()[:4] == ["station", "utf8?", "0", "2"]
     assert said[1].splitlines()[-1].startswith("576 rows, 6 columns; ")
