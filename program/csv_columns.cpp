@@ -32,7 +32,7 @@ private:
     Fields found;
 };
 
-// A double has each number of so many digits in these digits.
+// A double has each number of this number of digits, in these digits.
 static constexpr size_t digits_of_floats = 15;
 
 // What all fields of a column are, so far: booleans, integers, decimals, floats, dates, times of day, timestamps
@@ -70,7 +70,7 @@ private:
 
     static RowType of_name(const std::string &name) { return type_of_text(name + "?"); }
     static bool of_i64(Wide number) { return hv::detail::range_of(hv::kinds::i64).has(number); }
-    // The coarsest unit that has so many digits after the second.
+    // The coarsest unit that has this number of digits after the second.
     static std::string unit_of(size_t count) { return count == 0 ? "s" : count < 4 ? "ms" : count < 7 ? "us" : "ns"; }
     void add_number(const std::string &field) {
         const std::optional<NumberText> number = number_text(field);

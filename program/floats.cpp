@@ -47,7 +47,7 @@ static std::optional<Digits> digits_of(const std::string &text) {
     return found;
 }
 
-// A double to so many digits after the first, or in its shortest digits.
+// A double to this number of digits after the first, or in its shortest digits.
 static std::string scientific(double number, std::optional<int> places = std::nullopt) {
     std::string text(1200, '\0');
     char *const first = text.data(), *const last = first + text.size();

@@ -176,8 +176,8 @@ def random_row(chance: random.Random, kind: str) -> int:
     match logical_model.sort_of(kind):
         case "float":
             bits = logical_model.float_bits(kind)
-            number = chance.choice([chance.uniform(-9, 9), 0.0, -0.0, float("inf"), float("nan"), 2.0**-14, 6e-8])
-            return logical_model.key_of(number, bits)
+            number = chance.choice([0.1, 0.1, -7.7, 0.0, -0.0, float("inf"), float("nan"), 2.0**-14, 6e-8])
+            return logical_model.key_of(number, bits) + chance.choice([0, 0, 1, -1])  # neighbours, and past infinity NaN
         case "date":
             return chance.randrange(-719_162, 2_932_896) * (logical_model.NANOSECONDS["D"] // unit)
         case "time":

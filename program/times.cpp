@@ -94,7 +94,7 @@ std::optional<Instant> instant_of_text(const std::string &text) {
 
 // ---- Written ----
 
-// A number in at least so many digits.
+// A number in at least this number of digits.
 static std::string padded(int64_t number, size_t digits) {
     const std::string text = std::to_string(number);
     return std::string(digits - std::min(digits, text.size()), '0') + text;

@@ -30,7 +30,7 @@ std::optional<Instant> instant_of_text(const std::string &text);
 
 // ---- Written ----
 
-// The date that is so many days after 1970-01-01; none where it is not from the year 1 to the year 9999.
+// The date that is this number of days after 1970-01-01; none where it is not from the year 1 to the year 9999.
 std::optional<std::string> text_of_day(hv::detail::Wide day);
 // A time from midnight, which is within a day: seconds, and after them nothing, six digits or nine.
 std::string text_of_time(int64_t nanoseconds);
