@@ -201,7 +201,7 @@ fi
 
 if found=$(python_with numpy); then
     run "python/demo.py with NumPy" timeout 60 "$found" examples/python/demo.py
-    run "bench/columns, few rows" env PYTHON="$found" timeout 300 sh bench/columns/run.sh --smoke
+    run "bench/columns, few rows" env PYTHON="$found" timeout 900 sh bench/columns/run.sh --smoke
 else
     skip "python/demo.py with NumPy, bench/columns" "NumPy for Python"
 fi
