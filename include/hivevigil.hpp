@@ -345,6 +345,18 @@ public:
         if (total.kind == HV_SIGNED) return {total.as_signed, empty};
         throw overflow();
     }
+    // The same of decimals, exactly, at the scale of the column and whatever its precision. Refused as HV_UNSUPPORTED
+    // unless the rows are decimals, and as HV_CAST_OUT_OF_RANGE where the sum leaves 38 digits; the first field is the
+    // row with which it does.
+    DecimalSum decimal_sum() const {
+        hv_pair sum{};
+        uint8_t is_empty = 0;
+        hv_error fields{};
+        const int32_t answer = hv_decimal_sum(&handle, &sum, &is_empty, &fields);
+        detail::ask([&](auto *error) { return *error = fields, answer; },
+                    [&](int32_t number) { return detail::words_of_decimals(kind(), number, fields); });
+        return {{sum.low, sum.high, kind().scale}, is_empty != 0};
+    }
     bool is_constant(const hv_session &session = initial_session()) const {
         uint8_t truth = 0;
         detail::ask([&](auto *error) { return hv_is_constant(&session, &handle, &truth, error); });

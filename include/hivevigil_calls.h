@@ -307,6 +307,12 @@ HV_CALL size_t hv_bytes_used(const hv_column *column) {
     return (hv_bytes_used)(hv_lent(column));
 }
 
+/* Decimals */
+HV_ANSWER hv_decimal_sum(const hv_column *column, hv_pair *sum, uint8_t *is_empty, hv_error *error) {
+    hv_error ignored;
+    return (hv_decimal_sum)(hv_lent(column), sum, is_empty, HV_FIELDS);
+}
+
 /* Floats */
 HV_ANSWER hv_float_encode(const hv_column *bits, uint8_t is_canonical, hv_column *out, hv_error *error) {
     hv_error ignored;

@@ -118,6 +118,9 @@ HV_EXPORT uint8_t hv_form(hv_column *column);
 HV_EXPORT size_t hv_offset(hv_column *column);
 HV_EXPORT size_t hv_bytes_used(hv_column *column);
 
+/* Decimals */
+HV_EXPORT int32_t hv_decimal_sum(hv_column *column, hv_pair *sum, uint8_t *is_empty, hv_error *error);
+
 /* Floats */
 HV_EXPORT int32_t hv_float_encode(hv_column *bits, uint8_t is_canonical, hv_column *out, hv_error *error);
 HV_EXPORT int32_t hv_float_decode(hv_column *floats, hv_column *out, hv_error *error);
@@ -235,6 +238,7 @@ HV_EXPORT void hv_free(hv_column *column);
 #define hv_form(...) hv_call_form(__VA_ARGS__)
 #define hv_offset(...) hv_call_offset(__VA_ARGS__)
 #define hv_bytes_used(...) hv_call_bytes_used(__VA_ARGS__)
+#define hv_decimal_sum(...) hv_call_decimal_sum(__VA_ARGS__)
 #define hv_float_encode(...) hv_call_float_encode(__VA_ARGS__)
 #define hv_float_decode(...) hv_call_float_decode(__VA_ARGS__)
 #define hv_float_compare(...) hv_call_float_compare(__VA_ARGS__)

@@ -161,6 +161,13 @@ inline std::string words_of_group(hv_kind values, const hv_error &fields) {
     return "integer overflow: the sum of group " + std::to_string(fields.first) + " does not fit " + type;
 }
 
+// A sum of decimals of a column that has none, or that leaves 38 digits.
+inline std::string words_of_decimals(hv_kind kind, int32_t answer, const hv_error &fields) {
+    if (answer == HV_UNSUPPORTED) return to_string(kind) + " has no sum of decimals";
+    if (answer != HV_CAST_OUT_OF_RANGE) return "";
+    return "decimal overflow: with row " + std::to_string(fields.first) + " the sum leaves 38 digits";
+}
+
 inline auto words_of_read(hv_kind kind, hv_kind asked) {
     return [=](int32_t answer) -> std::string {
         if (answer != HV_TYPE_MISMATCH && answer != HV_UNSUPPORTED) return "";

@@ -60,6 +60,12 @@ struct Sum {
     }
 };
 
+// A sum of decimals, at the scale of their column. `empty`: no row is valid, and the sum is 0.
+struct DecimalSum {
+    Decimal total;
+    bool empty;
+};
+
 // Types by name, without null: hv::kinds::i64, and hv::nullable(hv::kinds::i64).
 namespace kinds {
 inline constexpr hv_kind u8{HV_U8, 0, 0, 0}, u16{HV_U16, 0, 0, 0}, u32{HV_U32, 0, 0, 0}, u64{HV_U64, 0, 0, 0};

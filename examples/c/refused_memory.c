@@ -136,6 +136,7 @@ static hv_value value, greatest;
 static uint8_t text[64], letter_room[8], truth, message[2048];
 static uint64_t words[ROWS + 1];
 static size_t size, stop;
+static hv_pair decimal_sum;
 
 #define STEP(name, call) \
     static int32_t name(void) { return call; }
@@ -196,6 +197,7 @@ STEP(compare_constant, hv_compare_scalar(&session, &many_texts, HV_GT, &letter, 
 STEP(fill_constant, hv_fill(&session, &many_texts, &letter, letters, 1, &out, &error))
 STEP(filter_constant, hv_filter(&session, &many_texts, &many_truths, &out, &error))
 STEP(sum, hv_sum(&session, &runs, &total, &error))
+STEP(sum_decimals, hv_decimal_sum(&decimals, &decimal_sum, &truth, &error))
 STEP(is_constant, hv_is_constant(&session, &runs, &truth, &error))
 STEP(is_sorted, hv_is_sorted(&session, &runs, 0, &truth, &error))
 STEP(extreme, hv_extreme(&session, &runs, 1, &value, text, sizeof text, &error))
@@ -408,8 +410,8 @@ static const step steps[] = {
     NAMED(first_float), NAMED(sum_floats), NAMED(read_float), NAMED(reverse_runs), NAMED(reverse_texts),
     NAMED(sort_runs), NAMED(sort_texts), NAMED(sort_constant), NAMED(count_runs), NAMED(count_texts),
     NAMED(cast_constant), NAMED(compare_constants),
-    NAMED(compare_constant), NAMED(fill_constant), NAMED(filter_constant), NAMED(sum), NAMED(is_constant),
-    NAMED(is_sorted), NAMED(extreme), NAMED(extreme_text),
+    NAMED(compare_constant), NAMED(fill_constant), NAMED(filter_constant), NAMED(sum), NAMED(sum_decimals),
+    NAMED(is_constant), NAMED(is_sorted), NAMED(extreme), NAMED(extreme_text),
     NAMED(min_max_numbers),
     NAMED(min_max), NAMED(at), NAMED(read_i64), NAMED(read_decimals), NAMED(read_bools), NAMED(read_validity), NAMED(read_no_nulls),
     NAMED(read_offsets), NAMED(read_large_offsets), NAMED(read_bytes), NAMED(window_numbers),

@@ -379,6 +379,62 @@ static void check_float_sums() {
     }
 }
 
+// ---- Sums of decimals ----
+
+// Integers of 128 bits added row by row, as long as they have 38 digits; the row that leaves them, or no row.
+static std::pair<hv::detail::Wide, std::optional<size_t>> sum_due(const std::vector<std::optional<Decimal>> &rows) {
+    hv::detail::Wide sum = 0, greatest = 1;
+    for (int digit = 0; digit < 38; digit++) greatest *= 10;
+    for (size_t row = 0; row < rows.size(); row++) {
+        const hv::detail::Wide number = rows[row] ? rows[row]->digits() : 0;
+        if (sum + number >= greatest || sum + number <= -greatest) return {sum, row};
+        sum += number;
+    }
+    return {sum, std::nullopt};
+}
+
+static void check_decimal_sum(const std::vector<std::optional<Decimal>> &rows) {
+    std::vector<Decimal> items;
+    std::vector<bool> valid;
+    for (const auto &row : rows) items.push_back(row.value_or(Decimal())), valid.push_back(row.has_value());
+    const Column flat = Column::decimals(items, 38, 2, &valid), runs = flat.encode_rows();
+    const auto [sum, leaving] = sum_due(rows);
+    for (const Column *column : {&flat, &runs}) {
+        if (leaving) {
+            check_refused(HV_CAST_OUT_OF_RANGE,
+                          "decimal overflow: with row " + std::to_string(*leaving) + " the sum leaves 38 digits",
+                          [&] { (void)column->decimal_sum(); });
+            continue;
+        }
+        const hv::DecimalSum found = column->decimal_sum();
+        CHECK(found.total.digits() == sum && found.total.scale == 2);
+        CHECK(found.empty == (std::find(valid.begin(), valid.end(), true) == valid.end()));
+    }
+}
+
+static void check_decimal_sums() {
+    const auto none = std::nullopt;
+    const Decimal tenth = {68739955140067328u, 542101086242752217, 2}; // 10^37
+    const Decimal negative = {~tenth.low + 1, ~tenth.high, 2};
+    CHECK(to_string(tenth) == "1" + std::string(35, '0') + ".00" && tenth.digits() == -negative.digits());
+    check_decimal_sum({});
+    check_decimal_sum({none, none});
+    check_decimal_sum({Decimal::of(1050, 2), none, Decimal::of(-51, 2), Decimal::of(-51, 2)});
+    for (const size_t count : {9u, 10u, 25u}) {
+        std::vector<std::optional<Decimal>> rows(count, tenth);
+        rows.insert(rows.begin() + 4, none);
+        check_decimal_sum(rows);
+        rows.insert(rows.begin(), 9, negative); // of 18 rows the product has 39 digits, and no sum on the way has
+        check_decimal_sum(rows);
+        rows.insert(rows.begin() + 9, Decimal::of(-1, 2));
+        check_decimal_sum(rows);
+    }
+    const Column whole = Column::of(std::vector<int64_t>{4});
+    check_refused(HV_UNSUPPORTED, "i64 has no sum of decimals", [&] { (void)whole.decimal_sum(); });
+    const Column many = Column::constant(hv::kinds::decimal(4, 2), Decimal::of(1050, 2), size_t{1} << 60);
+    CHECK(many.decimal_sum().total.digits() == hv::detail::Wide(1050) * (int64_t{1} << 60));
+}
+
 // ---- Rows in another order ----
 
 static void check_sorts() {
@@ -412,6 +468,7 @@ int main() {
     check_groups();
     check_pairs();
     check_sorts();
+    check_decimal_sums();
     check_rows_in_words();
     check_values_in_words();
     std::cout << "numbers of every type are read, shown, compared and refused by their values\n";

@@ -5,7 +5,7 @@ import ctypes
 from decimal import Decimal
 from typing import TYPE_CHECKING, Any, Optional
 
-from . import _comparing, _float_columns, _floats, _runs, _times
+from . import _comparing, _decimals, _float_columns, _floats, _runs, _times
 from ._library import Total, Value, ask, calls, session
 from ._making import is_array
 from ._types import TYPES, WHOLE_NUMBERS, range_of
@@ -22,7 +22,8 @@ _CLASSES: dict[str, Any] = {
 
 
 def total(column: Column) -> Any:
-    """The sum of the rows that are not null; an OverflowError where it leaves 64 bits on the way from row to row."""
+    """The sum of the rows that are not null; an OverflowError where it leaves 64 bits, or of decimals 38 digits, on the way
+    from row to row."""
     logical = column._there()._logical
     if _floats.is_float(logical):
         return _float_columns.total(column)[0]
@@ -31,6 +32,8 @@ def total(column: Column) -> Any:
             hint = "column.storage().sum() is that of their integers"
             raise TypeError(f"sum: rows of type {logical} have no sum; {hint}")
         return _times.shown(logical, total(column.storage()))
+    if TYPES[column._kind.number] == "decimal":
+        return _decimals.total(column)
     found = Total()
     ask(calls.hv_sum, session, column, found)
     if found.kind:

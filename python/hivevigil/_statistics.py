@@ -27,17 +27,18 @@ _INTERPOLATIONS = ("linear", "lower", "higher", "nearest", "midpoint")
 
 def mean(column: Column) -> Optional[float]:
     """The mean of the rows that are not null; None where there is none."""
-    refuse_other_than_numbers(column, "mean")
+    if TYPES[column._there()._kind.number] != "decimal":
+        refuse_other_than_numbers(column, "mean")
     if _floats.is_float(column._logical):
         return _questions.float_mean(column)
     count = column._length - column.null_count
     if not count:
         return None
     try:
-        total: int = _questions.total(column)
-    except OverflowError:  # past 64 bits on the way
-        total = sum(number * rows for number, rows in _weighed(column))
-    return total / count
+        total = Fraction(_questions.total(column))
+    except OverflowError:  # past 64 bits, or 38 digits, on the way
+        total = Fraction(sum(Fraction(number) * rows for number, rows in _weighed(column)))
+    return float(total / count)
 
 
 def variance(column: Column, ddof: Any) -> Optional[float]:

@@ -447,13 +447,14 @@ class Column(_comparing.Comparisons, _pairs.Pairs):
 
     def sum(self) -> Any:
         """The sum of the rows that are not null, 0 where there is none; a duration of durations, and of no other times.
-        OverflowError where it leaves 64 bits on the way from row to row, which names the row. A sum of floats is exact and
-        rounded once, an infinity past the finite floats, and NaN where a row is or both infinities are."""
+        OverflowError where it leaves 64 bits, or of decimals 38 digits, on the way from row to row, which names the row. A
+        sum of floats is exact and rounded once, an infinity past the finite floats, and NaN where a row is or both
+        infinities are."""
         return _questions.total(self)
 
     def mean(self) -> Optional[float]:
-        """The sum by the number of rows that are not null, of integers and floats. None where there is none. That of
-        integers is exact and rounded once, also where the sum is past 64 bits."""
+        """The sum by the number of rows that are not null, of integers, decimals and floats. None where there is none. That
+        of integers and decimals is exact and rounded once, also where the sum is past 64 bits, or 38 digits."""
         return _statistics.mean(self)
 
     def var(self, ddof: int = 1, axis: None = None, dtype: None = None, out: None = None) -> Optional[float]:

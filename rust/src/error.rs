@@ -66,6 +66,8 @@ enum Detail {
     Overflow(usize, Kind),
     /// Says that the sum of this group does not fit its type.
     GroupOverflow(u64, Kind),
+    /// Says that a sum of decimals leaves 38 digits with this row.
+    DigitsOverflow(u64),
     /// Has words about two types.
     Pair(Kind, Kind, &'static str),
     /// Says that what two integers give does not fit their type.
@@ -234,6 +236,14 @@ impl Error {
         self
     }
 
+    /// Names the row with which a sum of decimals leaves 38 digits, where that is what was refused.
+    pub(crate) fn of_digits(self) -> Error {
+        if self.kind() == Some(ErrorKind::CastOutOfRange) {
+            return self.with(Detail::DigitsOverflow(self.fields.first));
+        }
+        self
+    }
+
     /// Puts a refusal of two types in words about both.
     pub(crate) fn of_pair(self, left: Kind, right: Kind, words: &'static str) -> Error {
         match self.kind() {
@@ -361,6 +371,10 @@ impl fmt::Display for Error {
             Detail::GroupOverflow(group, kind) => write!(
                 formatter,
                 "integer overflow: the sum of group {group} does not fit {kind}"
+            ),
+            Detail::DigitsOverflow(row) => write!(
+                formatter,
+                "decimal overflow: with row {row} the sum leaves 38 digits"
             ),
             Detail::Pair(left, right, words) => write!(formatter, "{left} and {right} {words}"),
             Detail::PairOverflow(left, sign, right, kind) => write!(

@@ -1,7 +1,10 @@
 //! Questions to columns, and what is read out of them.
 use crate::column::turn_of;
-use crate::raw::{self, RawTotal, RawValue};
-use crate::{ask, Column, Error, ErrorKind, Fields, Form, Kind, Native, Run, Session, Sum, Value};
+use crate::raw::{self, Pair, RawTotal, RawValue};
+use crate::{
+    ask, Column, Decimal, DecimalSum, Error, ErrorKind, Fields, Form, Kind, Native, Run, Session,
+    Sum, Value,
+};
 
 /// Questions.
 impl Column {
@@ -70,6 +73,39 @@ impl Column {
         Ok(Sum {
             total: number,
             empty: total.empty != 0,
+        })
+    }
+
+    /// Adds the decimals that are not null, exactly, at the scale of the column and whatever its precision; refused as
+    /// `Unsupported` unless the rows are decimals, and as `CastOutOfRange` where the sum leaves 38 digits: the first
+    /// field is the row with which it does.
+    ///
+    /// ```
+    /// use hivevigil::{Column, Decimal, DecimalSum, Kind};
+    /// let prices = Column::constant(Kind::decimal(4, 2), Decimal::new(1050, 2), 1000)?;
+    /// let total = Decimal::new(1_050_000, 2);
+    /// assert_eq!(prices.decimal_sum()?, DecimalSum { total, empty: false });
+    /// let large = Decimal::new(10i128.pow(37), 0);
+    /// let refused = Column::constant(Kind::decimal(38, 0), large, 30)?.decimal_sum().unwrap_err();
+    /// let sentence = "decimal overflow: with row 9 the sum leaves 38 digits";
+    /// assert_eq!((refused.fields.first, refused.to_string().as_str()), (9, sentence));
+    /// # Ok::<(), hivevigil::Error>(())
+    /// ```
+    pub fn decimal_sum(&self) -> Result<DecimalSum, Error> {
+        let (mut sum, mut is_empty) = (Pair::default(), 0);
+        ask(|fields| unsafe {
+            raw::hv_decimal_sum(self.handle.get(), &mut sum, &mut is_empty, fields)
+        })
+        .map_err(|error| {
+            let words = "has no sum of decimals";
+            error
+                .about(ErrorKind::Unsupported, self.kind(), words, None)
+                .of_digits()
+        })?;
+        let digits = (i128::from(sum.high) << 64) + i128::from(sum.low);
+        Ok(DecimalSum {
+            total: Decimal::new(digits, self.kind().scale),
+            empty: is_empty != 0,
         })
     }
 

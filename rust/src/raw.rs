@@ -372,6 +372,12 @@ extern "C" {
     pub fn hv_form(column: *mut Handle) -> u8;
     pub fn hv_offset(column: *mut Handle) -> usize;
     pub fn hv_bytes_used(column: *mut Handle) -> usize;
+    pub fn hv_decimal_sum(
+        column: *mut Handle,
+        sum: *mut Pair,
+        is_empty: *mut u8,
+        error: *mut Fields,
+    ) -> i32;
     pub fn hv_float_encode(
         bits: *mut Handle,
         is_canonical: u8,

@@ -46,6 +46,15 @@ pub struct Sum {
     pub empty: bool,
 }
 
+/// Holds a sum of decimals, at the scale of their column and of up to 38 digits; `empty`: no row is valid, and it is 0.
+#[derive(Clone, Copy, Debug, PartialEq, Eq)]
+pub struct DecimalSum {
+    /// Holds the sum of the rows that are not null.
+    pub total: Decimal,
+    /// Says whether every row is null, or the column has none.
+    pub empty: bool,
+}
+
 /// `row operator value`, by the numbers of `hivevigil.h`.
 #[derive(Clone, Copy, Debug, PartialEq, Eq)]
 #[repr(u8)]

@@ -3,3 +3,4 @@ pub mod Answered
 pub mod GroupEndings
 pub mod FloatEndings
 pub mod OrderEndings
+pub mod DecimalEndings

@@ -6,3 +6,4 @@ pub mod Hashed
 pub mod Grouped
 pub mod Floats
 pub mod Ordered
+pub mod Decimals

@@ -1,10 +1,12 @@
 //! Two columns that C holds, worked row by row at the cost of the runs of both, or one grouped by the other; one
-//! reversed, sorted, and counted by value; and columns of floats, stored by their keys in columns of integers.
+//! reversed, sorted, and counted by value; columns of floats, stored by their keys in columns of integers; and the sum
+//! of decimals.
 #![tactic(auto)]
 
 mod chosen;
 mod combined;
 mod counted;
+mod decimal_calls;
 mod equal;
 mod float_answers;
 mod float_calls;
@@ -23,6 +25,7 @@ mod tested;
 pub use chosen::choose_handles;
 pub use combined::combine;
 pub use counted::{BoxedCounts, count_values};
+pub use decimal_calls::decimal_sum_in_handle;
 pub use equal::{are_equal, equal_handles};
 pub use float_calls::{
     compare_handle, decode_handle, encode_handle, float_in_handle, min_max_in_handle, sum_in_handle,

@@ -5,6 +5,7 @@
 
 mod commands;
 mod constants;
+mod decimals;
 mod encodings;
 mod flat;
 mod floats;
