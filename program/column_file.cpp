@@ -43,10 +43,13 @@ static const std::string line_of_type = "hivevigil type 1 ";
 
 // The format in the line of a type, which is taken off the bytes; none where there is no such line.
 static std::optional<std::string> format_of_line(hv::Bytes &bytes) {
-    const std::string begun(bytes.begin(), std::find(bytes.begin(), bytes.end(), '\n'));
-    if (begun.size() == bytes.size() || begun.compare(0, line_of_type.size(), line_of_type) != 0) return std::nullopt;
-    bytes.erase(bytes.begin(), bytes.begin() + static_cast<std::ptrdiff_t>(begun.size() + 1));
-    return begun.substr(line_of_type.size());
+    const auto before = std::mismatch(line_of_type.begin(), line_of_type.end(), bytes.begin(), bytes.end());
+    if (before.first != line_of_type.end()) return std::nullopt;
+    const auto end = std::find(before.second, bytes.end(), '\n');
+    if (end == bytes.end()) return std::nullopt; // and no column either
+    std::string format(before.second, end);
+    bytes.erase(bytes.begin(), end + 1);
+    return format;
 }
 
 NamedColumn load_column(const StoredFile &file) {

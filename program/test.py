@@ -22,6 +22,7 @@ import subprocess
 import sys
 import tempfile
 import warnings
+from decimal import Decimal, localcontext
 from pathlib import Path
 
 import logical_model
@@ -199,6 +200,23 @@ def check_typed_column(chance: random.Random, program: Program, asked: str) -> N
     (program.folder / "typed.csv").write_text(f"row,a\n{fields}")
     program.answers("convert", "typed.csv", "--column=a", "--to=column.hv", "--type", asked + "?")
     check_kept(chance, program, rows, kind)
+
+
+def check_between_floats(program: Program, bits: int) -> None:
+    """Adjacent floats, compared with the number between two of them, which has no float of this width."""
+    kind = f"float{bits}"
+    for number in 0.1, -7.7, 0.0, -0.0:
+        key = logical_model.key_of(number, bits)
+        rows = [key - 1, key, key + 1]
+        (program.folder / "typed.csv").write_text("row,a\n" + "".join(f"0,{shown(row, kind)}\n" for row in rows))
+        program.answers("convert", "typed.csv", "--column=a", "--to=column.hv", "--type", kind)
+        for some in rows[:2], rows[1:]:
+            with localcontext() as context:
+                context.prec = 1200
+                middle = f"{sum(Decimal(logical_model.number_of(row, bits)) for row in some) / 2:f}"
+            for operator in "=", "<", "<=", ">", ">=":
+                left = [row for row in rows if meets(row, operator, value_of(middle, kind), kind)]
+                assert program.answers("query", "column.hv", "filter", operator + middle) == lines_of(left, kind), middle
 
 
 def check_random_file(chance: random.Random, program: Program) -> None:
@@ -497,6 +515,8 @@ def main() -> None:
         check_page(program)
         for number in range(chosen.files):
             check_random_file(random.Random(f"{chosen.seed} {number}"), program)
+        for bits in 16, 32, 64:
+            check_between_floats(program, bits)
         for number, kind in enumerate(TYPES):
             check_typed_column(random.Random(f"{chosen.seed} {number} {kind}"), program, kind)
         said = f"{chosen.files} random files"
