@@ -172,14 +172,13 @@ FloatComparison float_comparison(hv::Operator by, const std::string &text, int w
     if (!number) return {by, bits_toward_zero(*near, width)};
     const double finite = std::isinf(*near) ? std::copysign(std::numeric_limits<double>::max(), *near) : *near;
     const uint64_t bits = bits_toward_zero(finite, width);
-    const double found = float_of_bits(bits, width);
-    const int order = compared(*number, exact_digits(found));
+    const int order = compared(*number, exact_digits(float_of_bits(bits, width)));
     if (order == 0) return {by, bits};
     // between two floats: no row equals it, and a row is below it where it is at most the lower of both
     if (by == hv::Operator::equal || by == hv::Operator::not_equal)
         return {by, bits_toward_zero(std::nan(""), width)};
     const bool is_below = by == hv::Operator::less || by == hv::Operator::less_or_equal;
-    const int64_t key = found == 0 ? key_of_bits(sign_bit(width), width) : key_of_bits(bits, width);
+    const int64_t key = key_of_bits(bits, width); // of a zero with the sign of the number, where it is next to 0
     return {is_below ? hv::Operator::less_or_equal : hv::Operator::greater,
             bits_of_key(order > 0 ? key : key - 1, width)};
 }

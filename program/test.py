@@ -202,6 +202,19 @@ def check_typed_column(chance: random.Random, program: Program, asked: str) -> N
     check_kept(chance, program, rows, kind)
 
 
+FLOATS = [
+    "1e15", "1e16", "-1e16", "1e17", "9999999999999998", "12345678901234567", "0.0001", "0.00001", "0.00012345", "1e-5",
+    "1e22", "1e23", "5e-324", "2.2250738585072014e-308", "1.7976931348623157e308", "0.1000000000000000055", "123456.5",
+]
+
+
+def check_shown_floats(program: Program) -> None:
+    """Floats with and without an exponent, as Python writes them."""
+    (program.folder / "typed.csv").write_text("row,a\n" + "".join(f"0,{text}\n" for text in FLOATS))
+    program.answers("convert", "typed.csv", "--column=a", "--to=column.hv", "--type", "float64")
+    assert program.answers("show", "column.hv", "--rows", "99") == "".join(f"{float(text)!r}\n" for text in FLOATS)
+
+
 def check_between_floats(program: Program, bits: int) -> None:
     """Adjacent floats, compared with the number between two of them, which has no float of this width."""
     kind = f"float{bits}"
@@ -515,6 +528,7 @@ def main() -> None:
         check_page(program)
         for number in range(chosen.files):
             check_random_file(random.Random(f"{chosen.seed} {number}"), program)
+        check_shown_floats(program)
         for bits in 16, 32, 64:
             check_between_floats(program, bits)
         for number, kind in enumerate(TYPES):
