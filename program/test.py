@@ -202,6 +202,30 @@ def check_typed_column(chance: random.Random, program: Program, asked: str) -> N
     check_kept(chance, program, rows, kind)
 
 
+FIELDS = [
+    ["2000-02-29", "2000-03-01", "1999-12-31"], ["1900-02-29"], ["2400-02-29", "0001-01-01", "9999-12-31"], ["2023-02-29"],
+    ["2024-03-01T10:00-02:30", "2024-03-01T10:00+02:30"], ["2024-03-01T10:00+02:60"], ["2024-03-01T10:00+24:00"],
+    ["2024-03-01T10:00Z", "2024-03-01T10:00"], ["2024-03-01 10:00", "2024-03-01"], ["10:00:00.1234"], ["10:00:00.123456"],
+    ["10:00:00.1234567"], ["10:00", "1"], ["1500-01-01T00:00:00.1234567"], ["2262-04-11T23:47:16.854775807"],
+    ["2262-04-11T23:47:16.854775808"], ["-0.0", "0.5"], ["-0.0"], ["-0", "0.5"], ["-0.00", "1e5"], ["1e400"], ["1e-400"],
+    ["12345678901234567", "1e5"], ["1234567890.123456789", "nan"], ["9007199254740993", "1e5"], ["0e5"], ["nan"],
+    ["123456789012345", "1e5"], ["0.1234567890123456", "1e5"], ["1" + "0" * 38, "1"], ["1" + "0" * 38, "1e5"],
+]
+
+
+def check_guessed_types(program: Program) -> None:
+    """Fields that are just of a type, or just not."""
+    columns = {f"c{number}": (fields + ["", ""])[:3] for number, fields in enumerate(FIELDS)}
+    lines = [columns, *zip(*columns.values())]
+    (program.folder / "random.csv").write_text("".join(f"{','.join(line)}\n" for line in lines))
+    found, due = program.answers("report", "random.csv"), expected_report(columns)
+    assert found == due, f"{found} and not {due}"
+    for name, fields in columns.items():
+        program.answers("convert", "random.csv", "--column", name, "--to=column.hv")
+        kind = type_of(fields)
+        assert program.answers("show", "column.hv", "--rows=9") == lines_of(rows_of(fields, kind), kind), fields
+
+
 FLOATS = [
     "1e15", "1e16", "-1e16", "1e17", "9999999999999998", "12345678901234567", "0.0001", "0.00001", "0.00012345", "1e-5",
     "1e22", "1e23", "5e-324", "2.2250738585072014e-308", "1.7976931348623157e308", "0.1000000000000000055", "123456.5",
@@ -528,6 +552,7 @@ def main() -> None:
         check_page(program)
         for number in range(chosen.files):
             check_random_file(random.Random(f"{chosen.seed} {number}"), program)
+        check_guessed_types(program)
         check_shown_floats(program)
         for bits in 16, 32, 64:
             check_between_floats(program, bits)
