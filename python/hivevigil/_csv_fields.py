@@ -31,7 +31,7 @@ def _is_decimal(text: str) -> bool:
 def _is_float(text: str) -> bool:
     """Whether a text is the number of a float of 64 bits in its shortest digits, so that none is lost, NaN or an
     infinity. A float has each number of up to 15 digits so."""
-    if len(text) <= 16 and _DECIMAL.fullmatch(text):
+    if len(text) <= 15 and _DECIMAL.fullmatch(text):
         return True
     if not _FLOAT.fullmatch(text):
         return text in _NO_NUMBERS
@@ -129,8 +129,9 @@ def _where(is_so: bool, value: Any) -> Any:
 
 
 def _float(text: str) -> float:
-    """The nearest float; a number of more than 15 digits may not be the same."""
-    return float(_where(text in _NO_NUMBERS or _FLOAT.fullmatch(text) is not None, text))
+    """The nearest float, which may be another number where there are more than 15 digits; none is past the finite ones."""
+    value = float(_where(text in _NO_NUMBERS or _FLOAT.fullmatch(text) is not None, text))
+    return float(_where(text in _NO_NUMBERS or isfinite(value), value))
 
 
 def _units(nanoseconds: int, logical: LogicalType) -> int:

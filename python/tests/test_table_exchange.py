@@ -269,6 +269,13 @@ def test_floats_are_floats_again(folder, rows):
     assert bits(Table.from_csv(folder / "floats.csv")["a"].to_list()) == bits([1e300, *rows])
 
 
+def test_a_number_past_the_floats(tmp_path):
+    (tmp_path / "far.csv").write_text("a,b\n1e400,inf\n-1e400,1\n")
+    with pytest.raises(BadFile, match=re.escape("column 'a': row 0 is '1e400', which is not of float64?")):
+        Table.from_csv(tmp_path / "far.csv", types={"a": float})
+    assert Table.from_csv(tmp_path / "far.csv", types={"b": float})["b"].to_list() == [float("inf"), 1.0]
+
+
 def test_types_of_a_csv_file_by_name(tmp_path):
     file = tmp_path / "typed.csv"
     file.write_text(
@@ -296,6 +303,7 @@ def test_types_of_a_csv_file_by_name(tmp_path):
         ({"level": "float32", "day": "i32"}, BadFile, "column 'day': row 0 is '2024-01-01', which is not of i32?"),
         ({"at": "timestamp[us, UTC]"}, BadFile, "column 'at': row 0 is '2024-01-01 10:00', which is not of timestamp"),
         ({"here": "timestamp[s, UTC]"}, BadFile, "column 'here': row 0 is '2024-01-01T10:00:00.5+01:00', which is not of"),
+        ({"for": "float64", "data": "float64"}, BadFile, "column 'data': row 0 is '00FF', which is not of float64?"),
         ({"open": "float64"}, BadFile, "column 'open': row 0 is 'true', which is not of float64?"),
         ({"none": int}, ValueError, "a type for column 'none', and "),
         ({"id": "list"}, TypeError, "'list' is not a type of columns"), ([("id", int)], TypeError, "types are a mapping"),
