@@ -4,7 +4,9 @@ use crate::made::{bits_of, column_of, is_shown, numbers};
 use crate::tables::{Row, floats_of};
 use column_core::{VortexError, VortexResult};
 use refusing::{Calls, are_answered_in_turn};
-use runend_array::{ArrayRef, ExecutionCtx, RunEndArrayExt, RunEndArraySlotsExt, VortexSession};
+use runend_array::{
+    ArrayRef, ExecutionCtx, RunEndArray, RunEndArrayExt, RunEndArraySlotsExt, VortexSession,
+};
 use runend_floats::{FloatFormat, cast_floats};
 use std::alloc::{Allocator, Global};
 use std::test::Fail;
@@ -109,14 +111,12 @@ static WIDE_KEYS_32: [Row; 19] = [
     Some(0),
 ];
 
-// Are these the runs of the floats in the other format: ends and keys?
-fn is_cast<A: Allocator + Copy>(
-    column: &ArrayRef<A>,
-    to: FloatFormat,
+/// Returns whether a cast made these ends and values.
+pub(crate) fn is_made<A: Allocator + Copy>(
+    made: VortexResult<RunEndArray<A>>,
     due: (&[Row], &[Row]),
-    ctx: &mut ExecutionCtx<A>,
 ) -> VortexResult<bool> {
-    let runs = cast_floats(column, to, ctx)?;
+    let runs = made?;
     let are_due = is_shown(runs.ends(), due.0) && is_shown(runs.values(), due.1);
     drop(runs);
     Ok(are_due)
@@ -131,9 +131,9 @@ fn casts<A: Allocator + Copy>(
 ) -> VortexResult<bool> {
     let mut ctx = ExecutionCtx::new(VortexSession::empty(), alloc);
     let column = column_of(alloc, formats.0, rows)?;
-    let are_due = is_cast(&column, formats.1, due, &mut ctx);
+    let made = cast_floats(&column, formats.1, &mut ctx);
     drop(column);
-    are_due
+    is_made(made, due)
 }
 
 // Are the floats of this format cast to 64 bits?
@@ -175,9 +175,9 @@ fn casts_flat(alloc: Global) -> VortexResult<bool> {
     let column = ArrayRef::Primitive(keys);
     let ends = [Some(2), Some(3), Some(4)];
     let due = [Some(1065353216), None, Some(-1)];
-    let is_due = is_cast(&column, FloatFormat::F32, (&ends, &due), &mut ctx);
+    let made = cast_floats(&column, FloatFormat::F32, &mut ctx);
     drop(column);
-    is_due
+    is_made(made, (&ends, &due))
 }
 
 #[test]

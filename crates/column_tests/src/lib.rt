@@ -33,6 +33,8 @@ mod refusals;
 #[cfg(test)]
 mod refused;
 #[cfg(test)]
+mod run_casts;
+#[cfg(test)]
 mod scalars;
 #[cfg(test)]
 mod summed;

@@ -1,5 +1,5 @@
 -- Rows that are cast, as runs show them.
-use Rattle.std.proofs.Common.{◌≡◌, ◌∙◌, ℕ, zero, suc, ℤ, inl, inr, ◌⊎◌, List, [], ◌∷◌, Option, Some, None, true, length, map, get_or, refl, ap, sym}
+use Rattle.std.proofs.Common.{◌≡◌, ◌∙◌, ℕ, zero, suc, ℤ, inl, inr, List, [], ◌∷◌, Option, Some, None, true, length, map, get_or, refl, ap, sym}
 use Rattle.std.specs.Prelude.{Contains, IfErr, IsOkUnless, Result, Ok, Err, slice_index_or}
 use Rattle.std.specs.List.{AllZip, range_with_len}
 use Rattle.column_base.specs.declared.dtype.DType.{DType}
@@ -7,13 +7,14 @@ use Rattle.column_base.specs.declared.dtype.DType.TheVariants as column
 use Rattle.column_base.specs.declared.dtype.PType.TheVariants.{U8, U16, U32, U64, I8, I16, I32, I64}
 use Rattle.column_base.specs.declared.error.VortexError.{VortexError}
 use Rattle.column_base.specs.declared.error.VortexError.TheVariants.{OutOfMemory}
+use Rattle.column_core.specs.Refusal.{IsRefusedBy}
 use Rattle.column_core.specs.Value.{Value}
 use Rattle.runend_windows.specs.Cover.{Covers}
 use Rattle.runend_windows.specs.Window.{run_at, run_rows}
 use Rattle.runend_windows.proofs.RunRows.{Covers_iff_run_rows}
 use Rattle.column_floats.specs.Casts.{IsCastRefusal, IsCastRow}
-use Rattle.column_floats.specs.Formats.{format_of, is_floats, keys_of_format}
-use Rattle.runend_floats.specs.CastRuns.{number_type}
+use Rattle.column_floats.specs.Formats.{floats_fault, format_of, is_floats, keys_of_format}
+use Rattle.runend_floats.specs.CastRuns.{integers_fault, is_integers, number_type}
 
 zip_at : {X Y : Type 0} (R : X → Y → Type 0) (xs : List X) (ys : List Y) (d : X) (e : Y) → AllZip R xs ys → R d e → (k : ℕ) → R (get_or xs k d) (get_or ys k e)
 zip_at R [] [] d e each past k = past
@@ -65,3 +66,12 @@ floats_number_type (column.Decimal d n) e = absurd (cc)
 floats_number_type (column.Utf8 n) e = absurd (cc)
 floats_number_type (column.Binary n) e = absurd (cc)
 floats_number_type (column.List d n) e = absurd (cc)
+
+-- refused for memory only, where the type is the one that is needed
+pub refused_floats : {T : Type 0} (t : DType) → is_floats t ≡ true → (result : Result T VortexError) → IsOkUnless result OutOfMemory → IsRefusedBy (floats_fault t) result
+refused_floats t floats (Ok value) only = rw floats refl
+refused_floats t floats (Err error) only = inl only
+
+pub refused_integers : {T : Type 0} (t : DType) → is_integers t ≡ true → (result : Result T VortexError) → IsOkUnless result OutOfMemory → IsRefusedBy (integers_fault t) result
+refused_integers t integers (Ok value) only = rw integers refl
+refused_integers t integers (Err error) only = inl only

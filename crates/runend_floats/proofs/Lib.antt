@@ -2,3 +2,4 @@ pub mod CoveredRows
 pub mod TestedRows
 pub mod RunSums
 pub mod CastLists
+pub mod Rounded

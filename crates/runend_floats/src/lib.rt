@@ -9,7 +9,9 @@ mod ends;
 mod extremes;
 mod sums;
 
-pub use casts::cast_floats;
+pub use casts::{
+    cast_floats, floats_of_integers, integers_of_floats, round_floats, round_integers,
+};
 pub use column_floats::{FloatFormat, FloatPatterns, bits_type, float_format, key_type};
 pub use column_ops::CompareOperator;
 pub use comparisons::{compare_numbers, compare_total};

@@ -1,4 +1,4 @@
-use Rattle.std.proofs.Common.{◌≡◌, ◌∙◌, Some, ap, map, subst, sym}
+use Rattle.std.proofs.Common.{◌∙◌, Some, ap, map, subst, sym}
 use Rattle.std.specs.Prelude.{IfErr, IfOk}
 use Rattle.column_base.specs.declared.dtype.DType.{DType}
 use Rattle.column_base.specs.declared.dtype.DType.TheVariants as types

@@ -1,5 +1,5 @@
-use Rattle.std.proofs.Common.{◌≡◌, List, Option, Some, ℕ, map, subst, sym, length}
-use Rattle.std.specs.Prelude.{IfErr, IfOk}
+use Rattle.std.proofs.Common.{◌≡◌, List, Option, Some, ℕ, map, subst, sym}
+use Rattle.std.specs.Prelude.{IfOk}
 use Rattle.column_base.specs.declared.dtype.DType.{DType}
 use Rattle.column_base.specs.declared.dtype.DType.TheVariants as types
 use Rattle.column_base.specs.Types.{nullability_of}
@@ -14,7 +14,7 @@ use Rattle.runend_encode.specs.Encoding.{IsRowEncoding}
 use Rattle.runend_windows.specs.Ends.{ends_of}
 use Rattle.runend_windows.specs.Visible.{HasRow}
 use Rattle.runend_windows.specs.Window.{IsWindow}
-use Rattle.column_floats.specs.Casts.{Becomes, IsCastRefusal}
+use Rattle.column_floats.specs.Casts.{Becomes}
 use Rattle.runend_floats.specs.CastRuns.{AreCastParts, number_type}
 use Rattle.runend_floats.proofs.CastLists.{if_err, refusal_shown, shown_rows}
 use Rattle.runend_floats.proofs.CoveredRows.{each_has_row, same_keys, whole_runs}
