@@ -11,7 +11,9 @@ ghost use Rattle.c_kernels.specs.Floats.{CountsBy, IsSumShown, look_up_fault};
 use c_columns::sessions::plain_context;
 use column_core::{VortexError, VortexResult};
 use runend_array::ArrayRef;
-use runend_floats::{float_at, min_max_numbers, min_max_total, sum_floats};
+use runend_floats::{
+    FloatFormat, float_at, float_format, min_max_numbers, min_max_total, sum_floats,
+};
 use std::alloc::Global;
 
 /// Holds the bits of the least and of the greatest float that counts.
@@ -89,6 +91,9 @@ pub fn sum_of(alloc: Global, floats: &ArrayRef<Global>) -> VortexResult<RoundedS
     ensures refused { IsRefusedBy (doubles_fault (dtype_of floats.now)) result }
     ensures first { (error : VortexError) → doubles_fault (dtype_of floats.now) ≡ Some error → IsErrOf result error }
 {
+    if float_format(floats.dtype()) != Some(FloatFormat::F64) {
+        return Err(VortexError::TypeMismatch);
+    }
     let sum = sum_floats(floats, &mut plain_context(alloc))?;
     Ok(RoundedSum {
         count: sum.rows(),

@@ -142,10 +142,9 @@ fn refuses_bits(alloc: Global) -> VortexResult<bool> {
     Ok(are_due)
 }
 
-// Are keys refused for bits, a sum of floats of 32 bits, and constants of 33?
+// Are keys refused for bits, and constants of 33 bits?
 fn are_refused(keys: &ArrayRef<Global>, ctx: &mut ExecutionCtx<Global>) -> bool {
     is_mismatch(encode_floats(keys, FloatPatterns::Exact, ctx))
-        && is_mismatch(sum_floats(keys, ctx))
         && is_past(compare_numbers(keys, CompareOperator::Eq, 1 << 32, ctx))
         && is_past(compare_total(keys, CompareOperator::Eq, 1 << 32, ctx))
         && !is_past(compare_total(keys, CompareOperator::Lt, (1 << 32) - 1, ctx))

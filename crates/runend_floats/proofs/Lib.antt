@@ -3,3 +3,4 @@ pub mod TestedRows
 pub mod RunSums
 pub mod CastLists
 pub mod Rounded
+pub mod FormatRows
