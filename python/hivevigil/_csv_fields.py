@@ -39,17 +39,11 @@ def _is_float(text: str) -> bool:
     return isfinite(value) and Decimal(repr(value)) == Decimal(text)
 
 
-def _has_zone(text: str) -> Optional[bool]:
-    """Whether a timestamp has an offset; None for another text."""
-    found = _iso.instant(text)
-    return None if found is None else found.has_offset
-
-
 _TESTS: dict[str, Callable[[str], Any]] = {
     "truth": _TRUTHS.__contains__, "whole": _WHOLE.fullmatch, "decimal": _is_decimal, "float": _is_float,
     "date": lambda text: _iso.day(text) is not None, "time": _iso.time_of_day,
-    "timestamp": lambda text: _has_zone(text) is False, "instant": lambda text: _has_zone(text) is True,
 }
+_TIMESTAMPS = {"timestamp", "instant"}  # without an offset, and with one
 
 
 @dataclass
@@ -57,7 +51,7 @@ class Guess:
     """What all fields of a column are, so far: booleans, integers, decimals, floats, dates, times, timestamps without an
     offset or with one; else texts."""
 
-    could_be: set[str] = field(default_factory=lambda: set(_TESTS))
+    could_be: set[str] = field(default_factory=lambda: {*_TESTS, *_TIMESTAMPS})
     least: int = 0
     greatest: int = 0
     digits: int = 1  # before the point
@@ -67,7 +61,10 @@ class Guess:
     def add(self, texts: set[str]) -> None:
         texts = texts - {""}
         self.seen = self.seen or bool(texts)
-        self.could_be = {sort for sort in self.could_be if all(map(_TESTS[sort], texts))}
+        could_be_instants = self.could_be & _TIMESTAMPS
+        self.could_be = {sort for sort in self.could_be - _TIMESTAMPS if all(map(_TESTS[sort], texts))}
+        if could_be_instants:
+            self._add_instants(list(map(_iso.instant, texts)), could_be_instants)
         if "whole" in self.could_be:
             self.least = min(self.least, *map(int, texts), 0)
             self.greatest = max(self.greatest, *map(int, texts), 0)
@@ -75,14 +72,16 @@ class Guess:
             parts = [text.lstrip("-").partition(".") for text in texts]
             self.digits = max([self.digits, *(len(before) for before, _, _ in parts)])
             self.places = max([self.places, *(len(after) for _, _, after in parts)])
-        if self.could_be & {"time", "timestamp", "instant"}:
-            self._add_times(texts)
-
-    def _add_times(self, texts: set[str]) -> None:
         if "time" in self.could_be:
             self.places = max([self.places, *(places for _, places in filter(None, map(_iso.time_of_day, texts)))])
+
+    def _add_instants(self, instants: list[Optional[_iso.Instant]], could_be: set[str]) -> None:
+        """Timestamps, each without an offset or each with one; nothing changes where one of the texts is another."""
+        found = [each for each in instants if each is not None]
+        offsets = {each.has_offset for each in found}
+        if len(found) < len(instants) or len(offsets) > 1:
             return
-        found = [each for each in map(_iso.instant, texts) if each is not None]
+        self.could_be |= could_be - {"timestamp" if has_offset else "instant" for has_offset in offsets}
         self.places = max([self.places, *(each.places for each in found)])
         self.least = min([self.least, *(each.nanoseconds for each in found)])
         self.greatest = max([self.greatest, *(each.nanoseconds for each in found)])

@@ -25,8 +25,13 @@ class Instant:
 
 def day(text: str) -> Optional[int]:
     """The days from 1970-01-01 to a date."""
+    return _days(text) if _DATE.fullmatch(text) else None
+
+
+def _days(text: str) -> Optional[int]:
+    """The same of a text that is spelled as a date."""
     try:
-        return date.fromisoformat(text).toordinal() - _FIRST_DAY if _DATE.fullmatch(text) else None
+        return date.fromisoformat(text).toordinal() - _FIRST_DAY
     except ValueError:
         return None
 
@@ -34,13 +39,15 @@ def day(text: str) -> Optional[int]:
 def time_of_day(text: str) -> Optional[tuple[int, int]]:
     """The nanoseconds from midnight, and the digits after the second."""
     found = _TIME.fullmatch(text)
-    if not found:
+    return _time(*found.groups()) if found else None
+
+
+def _time(hour: str, minute: str, second: Optional[str], fraction: Optional[str]) -> Optional[tuple[int, int]]:
+    """The same of the parts of a time, each two digits but the last."""
+    if hour > "23" or minute > "59" or (second or "") > "59":
         return None
-    hour, minute, second = (int(part or 0) for part in found.groups()[:3])
-    fraction = found[4] or ""
-    if hour > 23 or minute > 59 or second > 59:
-        return None
-    return (hour * 3600 + minute * 60 + second) * _SECOND + int(fraction.ljust(9, "0")), len(fraction)
+    seconds = int(hour) * 3600 + int(minute) * 60 + int(second or 0)
+    return seconds * _SECOND + (int(fraction.ljust(9, "0")) if fraction else 0), len(fraction or "")
 
 
 def instant(text: str) -> Optional[Instant]:
@@ -48,11 +55,11 @@ def instant(text: str) -> Optional[Instant]:
     found = _INSTANT.fullmatch(text)
     if not found:
         return None
-    days, time, before = day(found[1]), time_of_day(found[2]), _minutes(*found.group(8, 9, 10))
+    _, _, hour, minute, second, fraction, zulu, *offset = found.groups()
+    days, time, before = _days(text[:10]), _time(hour, minute, second, fraction), _minutes(*offset)
     if days is None or time is None or before is None:
         return None
-    has_offset = found[7] is not None or found[8] is not None
-    return Instant(days * _DAY + time[0] - before * 60 * _SECOND, has_offset, time[1])
+    return Instant(days * _DAY + time[0] - before * 60 * _SECOND, bool(zulu or offset[0]), time[1])
 
 
 def _minutes(sign: Optional[str], hours: Optional[str], minutes: Optional[str]) -> Optional[int]:
