@@ -4,10 +4,13 @@ from __future__ import annotations
 
 from collections.abc import Iterable, Mapping
 from dataclasses import dataclass, replace
+from fractions import Fraction
 from typing import TYPE_CHECKING, Any, NamedTuple, Optional
 
 from . import _runs
-from .chunks import Partial
+from ._types import TYPES
+from ._values import decimal_of
+from .chunks import FloatSums, Partial, Sums
 from .column import Column
 from .errors import in_words
 from .table_groups import TableGroups, parts_of
@@ -17,11 +20,11 @@ if TYPE_CHECKING:
 
 
 class Values(NamedTuple):
-    """What is known of the values of a group in one column: how many are not null, and of these integers of any size,
-    None where there is none."""
+    """What is known of the values of a group in one column: how many are not null, their sum, and the others of these
+    as they are stored, None where there is none."""
 
     valid: int = 0
-    total: int = 0
+    total: Any = 0
     least: Any = None
     greatest: Any = None
     first: Any = None
@@ -29,29 +32,43 @@ class Values(NamedTuple):
 
     @classmethod
     def of(cls, column: Column) -> Values:
-        """Those of a column of integers."""
-        part = Partial.of(column)
+        """Those of a column of numbers."""
+        part = Partial.of(column.storage())
         if not part.count:
             return cls()
-        there = column.to_runs().drop_null()
-        total = 0 if part.sums is None else part.sums.total
-        return cls(part.count, total, part.least, part.greatest, there[0], there[-1])
+        there = column.storage().to_runs().drop_null()
+        return cls(part.count, _total_of(column), part.least, part.greatest, there[0], there[-1])
 
     def then(self, after: Values) -> Values:
         """Those of this part of the group and of the part after it."""
         if not self.valid or not after.valid:
             return after if after.valid else self
         return Values(
-            self.valid + after.valid, self.total + after.total, min(self.least, after.least),
+            self.valid + after.valid, self._total_with(after), min(self.least, after.least),
             max(self.greatest, after.greatest), self.first, after.last,
         )
 
+    def _total_with(self, after: Values) -> Any:
+        """The sum of both."""
+        return self.total.then(after.total) if isinstance(self.total, FloatSums) else self.total + after.total
+
     def answer(self, fold: str) -> Any:
         """What is asked of the values."""
-        named = {"sum": self.total, "min": self.least, "max": self.greatest, "first": self.first, "last": self.last}
+        total = self.total.rounded() if isinstance(self.total, FloatSums) else self.total
+        if fold == "mean":
+            return float(total / self.valid) if self.valid else None
+        named = {"sum": total, "min": self.least, "max": self.greatest, "first": self.first, "last": self.last}
         if fold == "count":
             return self.valid
         return named[fold] if self.valid else None
+
+
+def _total_of(column: Column) -> Any:
+    """The sum of the rows before it is rounded or held against a type: of decimals a fraction, 0 of what has none."""
+    if TYPES[column._kind.number] == "decimal":
+        return Fraction(column.sum())
+    sums = Partial.of(column).sums
+    return sums.total if isinstance(sums, Sums) else sums or 0
 
 
 @dataclass(frozen=True)
@@ -65,7 +82,7 @@ class Edge:
     @classmethod
     def of(cls, table: Table, name: str, columns: Iterable[str]) -> Edge:
         """The one group that a table has."""
-        values = {column: Values.of(table._column(column).storage()) for column in columns}
+        values = {column: Values.of(table._column(column)) for column in columns}
         return cls(table._column(name).slice(0, 1), table.rows, values)
 
     def is_same(self, other: Edge) -> bool:
@@ -136,11 +153,17 @@ class Groups:
 
     def _cell(self, name: str, answer: Any, key: Column) -> Column:
         """An answer as a row of the column that has it."""
+        column = self.none._column(name)
+        logical, scale = column.logical_type, column._kind.scale
+        if isinstance(answer, float):
+            return Column.of([answer], f"{logical}?")
+        if isinstance(answer, Fraction):
+            answer = decimal_of(int(answer * 10**scale), scale)
         try:
-            row = Column.of([answer], self.none._column(name).storage().type)
+            row = Column.of([answer], column.storage().type)
         except OverflowError:
-            raise OverflowError(f"{in_words(name)} of the group {in_words(key[0])} is {answer}, past 64 bits") from None
-        logical = self.none._column(name).logical_type
+            limit = "64 bits" if isinstance(answer, int) else "38 digits"
+            raise OverflowError(f"{in_words(name)} of the group {in_words(key[0])} is {answer}, past {limit}") from None
         return row if logical is None else row.cast(f"{logical}{'?' * row.nullable}")
 
 

@@ -37,21 +37,21 @@ def mean(column: Column) -> Optional[float]:
     try:
         total = Fraction(_questions.total(column))
     except OverflowError:  # past 64 bits, or 38 digits, on the way
-        total = Fraction(sum(Fraction(number) * rows for number, rows in _weighed(column)))
+        total = Fraction(sum(Fraction(number) * rows for number, rows in weighed(column)))
     return float(total / count)
 
 
 def variance(column: Column, ddof: Any) -> Optional[float]:
     """The sum of squared distances from the mean by the number of rows less `ddof`; None where that is not above 0."""
     refuse_other_than_numbers(column, "var")
-    less, weighed = size_of(ddof, "ddof"), _weighed(column)
-    count = sum(rows for _, rows in weighed)
+    less, runs = size_of(ddof, "ddof"), weighed(column)
+    count = sum(rows for _, rows in runs)
     if count <= less:
         return None
-    if not all(map(math.isfinite, {number for number, _ in weighed})):
+    if not all(map(math.isfinite, {number for number, _ in runs})):
         return math.nan
-    numbers, parts = _whole([number for number, _ in weighed])
-    weights = [rows for _, rows in weighed]
+    numbers, parts = whole([number for number, _ in runs])
+    weights = [rows for _, rows in runs]
     total = sum(map(int.__mul__, numbers, weights))
     squares = sum(number * number * rows for number, rows in zip(numbers, weights))
     try:
@@ -76,14 +76,14 @@ def refuse_other_than_numbers(column: Column, call: str) -> None:
         raise Unsupported().about(call, column)
 
 
-def _weighed(column: Column) -> list[tuple[Any, int]]:
+def weighed(column: Column) -> list[tuple[Any, int]]:
     """The number of each run that is not null, and how many rows it has."""
     shown = _runs.visible(column.to_runs())
     pairs = zip(shown.values.to_list(), _runs.lengths(shown.stops))
     return [(number, rows) for number, rows in pairs if number is not None]
 
 
-def _whole(numbers: Sequence[Any]) -> tuple[list[int], int]:
+def whole(numbers: Sequence[Any]) -> tuple[list[int], int]:
     """Integers, and the number by which they are divided to be these numbers."""
     ratios = [number.as_integer_ratio() for number in numbers]
     parts = max((below for _, below in ratios), default=1)  # of floats each is a power of 2

@@ -14,20 +14,25 @@ from __future__ import annotations
 
 import contextlib
 import functools
+import math
 import operator
 from collections.abc import Iterable
 from dataclasses import dataclass, replace
+from fractions import Fraction
 from itertools import accumulate
-from typing import Any, NamedTuple, Optional
+from typing import Any, NamedTuple, Optional, Union
 
-from . import _floats, _runs, _times
+from . import _floats, _runs, _statistics, _times
 from ._types import WHOLE_NUMBERS, range_of, text_of
 from ._values import Scalar
 from .column import Column
 from .errors import TypeMismatch, Unsupported, in_words
-from .logical import asked_type
+from .logical import LogicalType, asked_type
 
-__all__ = ["Partial", "Stretch", "Sums", "join", "joined"]
+__all__ = ["FloatSums", "Partial", "Stretch", "Sums", "join", "joined"]
+
+
+_WIDE = LogicalType("float", "64")
 
 
 class Stretch(NamedTuple):
@@ -54,21 +59,52 @@ class Sums(NamedTuple):
         )
 
 
+class FloatSums(NamedTuple):
+    """What a part of floats adds to a sum, before it is rounded: the exact sum of those that are finite, and by IEEE 754
+    that of all others."""
+
+    finite: Fraction = Fraction(0)
+    others: float = 0.0
+
+    @classmethod
+    def of(cls, column: Column) -> FloatSums:
+        """That of the rows of a column that are not null."""
+        runs = _statistics.weighed(column)
+        finite = [(number, rows) for number, rows in runs if math.isfinite(number)]
+        numbers, parts = _statistics.whole([number for number, _ in finite])
+        total = sum(map(operator.mul, numbers, (rows for _, rows in finite)))
+        return cls(Fraction(total, parts), sum((number for number, _ in runs if not math.isfinite(number)), 0.0))
+
+    def then(self, after: FloatSums) -> FloatSums:
+        """That of the rows of both."""
+        return FloatSums(self.finite + after.finite, self.others + after.others)
+
+    def rounded(self) -> float:
+        """The nearest float of 64 bits, an infinity past the finite ones."""
+        if self.others != 0:
+            return self.others
+        try:
+            return float(self.finite)
+        except OverflowError:
+            return math.inf if self.finite > 0 else -math.inf
+
+
 @dataclass(frozen=True)
 class Partial:
     """What is known of a part of a column.
 
     `type` is the column's, with its '?'. `runs` counts the stretches of equal rows, as few as there can be. `sums` is
-    None unless the rows are integers. `least` and `greatest` leave nulls out, and are None where there is nothing else;
-    null is below all else in `is_sorted` (no row above the next) and `is_strictly_sorted` (each row below the next).
-    `first` and `last` are the outermost runs, None of no rows.
+    None unless the rows are integers, durations or floats. `least` and `greatest` leave nulls out, and NaN, and are None
+    where there is nothing else; null is below all else in `is_sorted` (no row above the next) and `is_strictly_sorted`
+    (each row below the next). `first` and `last` are the outermost runs, None of no rows. Floats are equal, and in
+    order, as in runs: 0.0 is above -0.0, and a NaN equals itself.
     """
 
     type: str
     rows: int
     null_count: int
     runs: int
-    sums: Optional[Sums]
+    sums: Union[Sums, FloatSums, None]
     least: Scalar
     greatest: Scalar
     is_sorted: bool
@@ -81,7 +117,7 @@ class Partial:
         """What is known of no rows of a type; joined with a part it is that part."""
         kind, logical = asked_type(type)
         name = text_of(kind) if logical is None else f"{logical}{'?' * kind.nullable}"
-        sums = Sums() if _is_summed(name) else None
+        sums = FloatSums() if _floats.is_float(logical) else Sums() if _is_summed(name) else None
         return cls(name, 0, 0, 0, sums, None, None, True, True, None, None)
 
     @classmethod
@@ -92,8 +128,6 @@ class Partial:
         if column.type.startswith("list"):
             raise Unsupported().about("Partial.of", column)
         logical = column.logical_type
-        if _floats.is_float(logical):
-            raise TypeError(f"Partial.of does not serve {logical}: a sum of floats is rounded once, of the whole column")
         name = column.type if logical is None else f"{logical}{'?' * column.nullable}"
         if not column._length:
             return cls.empty(name)
@@ -101,7 +135,11 @@ class Partial:
         count = runs.run_count()
         first, last = _runs.run_at(runs, 0), _runs.run_at(runs, -1)
         least, greatest = runs.min_max()
-        sums = _sums_of(runs.storage()) if _is_summed(name) else None
+        sums: Union[Sums, FloatSums, None] = None
+        if _floats.is_float(logical):
+            sums = FloatSums.of(runs)
+        elif _is_summed(name):
+            sums = _sums_of(runs.storage())
         return cls(
             name, last.stop, runs.null_count, count, sums, least, greatest,
             runs.is_sorted(), runs.is_sorted(strict=True),
@@ -119,10 +157,13 @@ class Partial:
         return self.rows - self.null_count
 
     def sum(self) -> Any:
-        """The sum of the rows that are not null, a duration of durations. OverflowError where it leaves 64 bits on the
-        way from row to row, as that of the whole column is; which row it is, no part knows."""
+        """The sum of the rows that are not null, a duration of durations; of floats exact and rounded once. OverflowError
+        where it leaves 64 bits on the way from row to row, as that of the whole column is; which row it is, no part
+        knows."""
         if self.sums is None:
             raise Unsupported().saying(f"sum does not serve parts of type {self.type}")
+        if isinstance(self.sums, FloatSums):
+            return self.sums.rounded()
         logical = asked_type(self.type)[1]
         name = "u64" if self.type.startswith("u") else "i64"
         fits = range_of(name)
@@ -142,8 +183,8 @@ class Partial:
             return replace(self, type=name)
         return Partial(
             name, self.rows + after.rows, self.null_count + after.null_count,
-            self.runs + after.runs - (self.last.value == after.first.value),
-            None if self.sums is None or after.sums is None else self.sums.then(after.sums),
+            self.runs + after.runs - _is_same(self.last.value, after.first.value),
+            _joined_sums(self.sums, after.sums),
             _chosen(min, self.least, after.least), _chosen(max, self.greatest, after.greatest),
             self.is_sorted and after.is_sorted and not _is_below(after.first.value, self.last.value),
             self.is_strictly_sorted and after.is_strictly_sorted and _is_below(self.last.value, after.first.value),
@@ -203,13 +244,28 @@ def _chosen(choose: Any, left: Any, right: Any) -> Any:
     return choose(left, right)
 
 
+def _joined_sums(left: Any, right: Any) -> Any:
+    """The sums of both parts, which are of one type; None where it has none."""
+    return None if left is None or right is None else left.then(right)
+
+
+def _place(row: Any) -> Any:
+    """A row as it is compared with others: a float by its place in the total order."""
+    return _floats.key_of_bits("64", _floats.bits_of(_WIDE, row)) if isinstance(row, float) else row
+
+
+def _is_same(left: Any, right: Any) -> bool:
+    """Whether two rows are in one run, null with null."""
+    return bool(_place(left) == _place(right))
+
+
 def _is_below(left: Any, right: Any) -> bool:
     """Whether a row is below another, null below all else."""
-    return right is not None and (left is None or bool(left < right))
+    return right is not None and (left is None or bool(_place(left) < _place(right)))
 
 
 def _grown(outer: Stretch, inner: Stretch, runs: int) -> Stretch:
     """An outermost run, which goes on into the other part where it is all of its own and the values are equal."""
-    if runs == 1 and outer.value == inner.value:
+    if runs == 1 and _is_same(outer.value, inner.value):
         return Stretch(outer.value, outer.rows + inner.rows)
     return outer

@@ -1,11 +1,12 @@
 """The rows of a column, grouped by runs of equal neighbouring rows of another: `values.group_by(keys)`."""
 from __future__ import annotations
 
-from typing import TYPE_CHECKING
+from itertools import accumulate
+from typing import TYPE_CHECKING, Any, Callable
 
-from . import _float_columns, _floats
+from . import _float_columns, _floats, _statistics
 from ._library import Handle, ask, calls
-from ._types import TYPES
+from ._types import GREATEST_PRECISION, TYPES, WHOLE_NUMBERS
 from .errors import CastOutOfRange
 
 if TYPE_CHECKING:
@@ -15,11 +16,12 @@ FOLDS = ("sum", "rows", "count", "least", "greatest", "first", "last")  # as hiv
 
 
 class Groups:
-    """The groups of a column of integers by keys of any type but lists. As with itertools.groupby, each run of equal
+    """The groups of a column of numbers by keys of any type but lists. As with itertools.groupby, each run of equal
     neighbouring keys is a group, null equal to null: keys that are sorted come once each.
 
     Each method returns two flat columns: the key of each group, and its answer, which is null where no value of the
-    group is valid (a count is 0). `size()` counts rows; all others look only at the values that are not null.
+    group is valid (a count is 0). `size()` counts rows; all others look only at the values that are not null. Decimals
+    are counted, and have sums and means.
     """
 
     __slots__ = ("_keys", "_values")
@@ -30,11 +32,14 @@ class Groups:
         self._keys, self._values = keys, values
 
     def sum(self) -> tuple[Column, Column]:
-        """The sum of each group, 'i64?' or 'u64?', or the duration of durations. OverflowError, with the group counted
-        from 0 in its first field, where one does not fit 64 bits."""
+        """The sum of each group: 'i64?' or 'u64?' of integers, the duration of durations, of floats a 'float64' and of
+        decimals one of 38 digits, each as `Column.sum` has it. OverflowError, with the group counted from 0 in its
+        first field, where one does not fit 64 bits; a sum of decimals names it."""
         logical = self._values._logical
         if _floats.is_float(logical):
-            raise TypeError(f"sum: groups of {logical} have no sum: each is to be rounded once, which no call does so far")
+            return self._each(_float_sum, "float64?")
+        if self._holds("decimal"):
+            return self._each(_decimal_sum, f"decimal({GREATEST_PRECISION}, {self._values._kind.scale})?")
         if logical is not None and logical.sort != "duration":
             raise TypeError(f"sum: rows of type {logical} have no sum; values.storage() are their integers")
         try:
@@ -42,6 +47,21 @@ class Groups:
         except CastOutOfRange as large:
             name = "u64" if TYPES[self._values._kind.number][0] == "u" else "i64"
             raise large.saying(f"sum: group {large.fields[0]} does not fit {name}") from None
+
+    def mean(self) -> tuple[Column, Column]:
+        """The mean of each group of integers, floats or decimals, as `Column.mean` has it, 'float64'."""
+        if not self._holds("decimal"):
+            _statistics.refuse_other_than_numbers(self._values, "mean")
+        if self._values._logical is None and self._holds(*WHOLE_NUMBERS):
+            try:
+                keys, sums = self._folded("sum")
+            except CastOutOfRange:  # past 64 bits: exact all the same, group by group
+                return self._each(_statistics.mean, "float64?")
+            totals: list[Any] = sums.to_list()
+            counts: list[Any] = self.count()[1].to_list()
+            means = [None if total is None else total / rows for total, rows in zip(totals, counts)]
+            return keys, type(self._values).of(means, "float64?")
+        return self._each(_statistics.mean, "float64?")
 
     def size(self) -> tuple[Column, Column]:
         """The number of rows of each group, null or not, 'u64?'."""
@@ -74,6 +94,24 @@ class Groups:
         if _floats.is_float(self._values._logical) and _float_columns.has_nan(self._values):
             raise TypeError(f"{call}: a row is NaN, which has no place among the numbers of its group")
 
+    def _holds(self, *names: str) -> bool:
+        """Whether the values are stored as one of these types."""
+        return TYPES[self._values._there()._kind.number] in names
+
+    def _each(self, answer: Callable[[Column], Any], name: str) -> tuple[Column, Column]:
+        """The keys, and what is answered of the rows of each group, as a column of a type."""
+        kind = type(self._values)
+        keys, sizes = Groups(self._keys, kind.constant(0, len(self._values), "u8")).size()
+        rows: list[Any] = sizes.to_list()
+        stops = list(accumulate(rows))
+        answers = []
+        for group, (start, stop) in enumerate(zip([0, *stops], stops)):
+            try:
+                answers.append(answer(self._values.slice(start, stop)))
+            except OverflowError as large:
+                raise OverflowError(f"sum: group {group}: {large}") from None
+        return keys, kind.of(answers, name)
+
     def _folded(self, fold: str) -> tuple[Column, Column]:
         kind = type(self._values)
         keys, answers = kind._owning(Handle()), kind._owning(Handle())
@@ -81,3 +119,14 @@ class Groups:
         ask(calls.hv_fold_by, self._keys, values, number, keys._handle, answers._handle)
         keys._meaning(self._keys._logical)
         return keys, answers._meaning(None if fold in ("rows", "count") else self._values._logical)
+
+
+def _float_sum(part: Column) -> Any:
+    """The exact sum of floats, rounded once; None where all are null."""
+    total, count = _float_columns.total(part)
+    return total if count else None
+
+
+def _decimal_sum(part: Column) -> Any:
+    """The sum of decimals; None where all are null."""
+    return part.sum() if part.null_count < len(part) else None

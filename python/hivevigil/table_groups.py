@@ -12,7 +12,7 @@ from .errors import in_words
 if TYPE_CHECKING:
     from .table import Table
 
-_FOLDS = ("sum", "size", "count", "min", "max", "first", "last")
+_FOLDS = ("sum", "mean", "size", "count", "min", "max", "first", "last")
 _OF_THE_COLUMN = ("min", "max", "first", "last")  # folds whose answers are rows of the column
 
 
@@ -28,7 +28,7 @@ class TableGroups:
 
     def agg(self, answers: Any = None, **named: Any) -> Table:
         """A table of a row for each group: its keys, under the names of their columns, then the answers by name. Each
-        is a pair of a column of integers and one of sum, size, count, min, max, first, last, or only 'size':
+        is a pair of a column of numbers and one of sum, mean, size, count, min, max, first, last, or only 'size':
 
             table.group_by("station").agg(readings="size", highest=("level", "max"))
         """

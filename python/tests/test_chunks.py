@@ -1,9 +1,12 @@
 """Parts of a column, however it is cut: what is known of them, joined, is what is known of the whole column."""
 import functools
+import math
 import pickle
+import struct
 from concurrent.futures import ProcessPoolExecutor
 from decimal import Decimal
-from itertools import accumulate
+from fractions import Fraction
+from itertools import accumulate, groupby
 from multiprocessing import get_context
 
 import pytest
@@ -64,6 +67,68 @@ def test_parts_however_they_are_cut(data, sample):
     parts = [Partial.of(sample.column.slice(start, stop)) for start, stop in cuts(data, len(sample.rows))]
     check(joined(parts), sample.rows, sample.type)
     assert functools.reduce(join, parts) == joined(parts) == Partial.of(sample.column)
+
+
+FLOATS = st.floats() | st.sampled_from([0.0, -0.0, 0.1, 1e16, -1e16, math.inf, -math.inf, math.nan, 5e-324, 1.7e308])
+
+
+def place(row):
+    """Where a float is in the total order of IEEE 754, null below all else."""
+    if row is None:
+        return (0, 0)
+    bits = struct.unpack("<q", struct.pack("<d", row))[0]
+    return (1, bits if bits >= 0 else bits ^ (2**63 - 1))
+
+
+def exact_sum(rows):
+    """The sum of floats as of real numbers, rounded once."""
+    if not all(map(math.isfinite, rows)):
+        return sum(row for row in rows if not math.isfinite(row))
+    total = sum(map(Fraction, rows))
+    try:
+        return float(total)
+    except OverflowError:
+        return math.copysign(math.inf, total)
+
+
+def known_of_floats(rows):
+    """What a Partial of floats has to know."""
+    places = list(map(place, rows))
+    runs = [list(part) for _, part in groupby(rows, key=place)]
+    numbers = sorted((row for row in rows if row is not None and not math.isnan(row)), key=place)
+    ends = [runs[0], runs[-1]] if runs else []
+    first, last = [Stretch(run[0], len(run)) for run in ends] or (None, None)
+    present = [row for row in rows if row is not None]
+    return [
+        len(rows), rows.count(None), len(runs), exact_sum(present), numbers[0] if numbers else None,
+        numbers[-1] if numbers else None, all(left <= right for left, right in pairs(places)),
+        all(left < right for left, right in pairs(places)), first, last,
+    ]
+
+
+def facts(part):
+    return [
+        part.rows, part.null_count, part.runs, part.sum(), part.least, part.greatest, part.is_sorted,
+        part.is_strictly_sorted, part.first, part.last,
+    ]
+
+
+@given(st.data(), st.lists(st.tuples(st.none() | FLOATS, st.integers(1, 3)), max_size=8), st.booleans())
+def test_parts_of_floats(data, stretched, in_runs):
+    rows = [row for row, count in stretched for _ in range(count)]
+    column = Column.of(rows, "float64?")
+    column = column.to_runs() if in_runs else column
+    parts = [Partial.of(column.slice(start, stop)) for start, stop in cuts(data, len(rows))]
+    due = repr(known_of_floats(rows))
+    assert repr(facts(Partial.of(column))) == repr(facts(joined(parts))) == due
+    assert repr(facts(functools.reduce(join, parts))) == due
+    assert repr(pickle.loads(pickle.dumps(joined(parts)))) == repr(joined(parts))
+
+
+def test_a_sum_of_floats_does_not_depend_on_where_they_are_cut():
+    parts = [Partial.of(Column.of(rows)) for rows in ([1e16] + [1.0] * 10, [-1e16, 0.5], [None, 2.0**-80])]
+    assert joined(parts).sum() == 10.5
+    assert [joined(parts[:count]).sum() for count in (1, 2)] == [1e16 + 10, 10.5]
 
 
 @given(st.data(), samples())

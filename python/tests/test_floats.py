@@ -263,8 +263,8 @@ def test_groups():
     groups, least = values.group_by(keys).min()
     assert same(groups.to_list(), [1.5, NAN, 0.0, -0.0]) and least.to_list() == [2.0, 1.0, 5.0, 6.0]
     assert values.group_by(keys).count()[1].to_list() == [2, 2, 1, 1]
-    with pytest.raises(TypeError, match="groups of float64 have no sum"):
-        values.group_by(keys).sum()
+    assert values.group_by(keys).sum()[1].to_list() == [6.0, 4.0, 5.0, 6.0]
+    assert Column.of([1e16, 1.0, -1e16, None]).group_by([0, 0, 0, 1]).sum()[1].to_list() == [1.0, None]
     with pytest.raises(TypeError, match="a row is NaN"):
         keys.group_by(values).max()
 

@@ -1,10 +1,21 @@
 """Values grouped by runs of equal keys answer as itertools.groupby has the rows."""
+import math
+from decimal import Decimal, localcontext
+from fractions import Fraction
 from itertools import groupby
 
 import pytest
-from hivevigil import Column, errors
+from hivevigil import Column, Table, _chunk_groups, errors
 from hypothesis import given
+from hypothesis import strategies as st
 from rows import BITS, least_and_greatest, samples
+
+FLOATS = st.sampled_from([0.1, 1.0, 1e16, -1e16, 5e-324, 1.7976931348623157e308, math.inf, -math.inf, math.nan])
+KEYED = {
+    "float64": st.none() | FLOATS | st.floats(),
+    "decimal(38, 2)": st.none() | st.integers(-(10**37), 10**37).map(lambda digits: Decimal(f"{digits}E-2")),
+    "i64": st.none() | st.integers(-(2**63), 2**63 - 1),
+}
 
 OF_VALID = {
     "sum": sum, "min": min, "max": max, "first": lambda rows: rows[0], "last": lambda rows: rows[-1],
@@ -48,6 +59,81 @@ def test_folds(keys, values):
 def test_groups_of_a_list():
     keys, sums = Column.of([3, 4, None, None, -5]).group_by(["a", "a", None, None, "a"]).sum()
     assert (keys.to_list(), sums.to_list()) == (["a", None, "a"], [7, None, -5])
+
+
+def exact_sum(rows):
+    """The sum of floats as of real numbers, rounded once."""
+    others = [row for row in rows if not math.isfinite(row)]
+    if others:
+        return sum(others)
+    try:
+        return float(sum(map(Fraction, rows)))
+    except OverflowError:
+        return math.copysign(math.inf, sum(map(Fraction, rows)))
+
+
+def due_of(name, fold, rows):
+    """The sum or the mean of the rows of a group that are not null; None where there is none."""
+    valid = [row for row in rows if row is not None]
+    if not valid:
+        return None
+    if name == "float64":
+        return exact_sum(valid) if fold == "sum" else exact_sum(valid) / len(valid)
+    if fold == "mean":
+        return float(sum(map(Fraction, valid)) / len(valid))
+    with localcontext() as context:
+        context.prec = 60
+        return sum(valid)
+
+
+def alike(left, right):
+    """Whether both are the same numbers, NaN the same as NaN."""
+    return [repr(each) for each in left] == [repr(each) for each in right]
+
+
+@st.composite
+def keyed(draw):
+    """A type, keys in stretches, and a row of the type for each."""
+    name = draw(st.sampled_from(sorted(KEYED)))
+    keys = [key for key, rows in draw(st.lists(st.tuples(st.integers(0, 3), st.integers(1, 4)))) for _ in range(rows)]
+    return name, keys, [draw(KEYED[name]) for _ in keys]
+
+
+@given(keyed(), st.booleans())
+def test_sums_and_means(drawn, in_runs):
+    name, keys, rows = drawn
+    column = Column.of(rows, name + "?")
+    groups = (column.to_runs() if in_runs else column).group_by(Column.of(keys, "u8"))
+    due = groups_of(keys, rows)
+    found_keys, means = groups.mean()
+    assert found_keys.to_list() == [key for key, _ in due] and str(means.logical_type) == "float64"
+    assert alike(means.to_list(), [due_of(name, "mean", part) for _, part in due])
+    sums = [due_of(name, "sum", part) for _, part in due]
+    if name == "i64" and any(each is not None and not -(2**63) <= each < 2**63 for each in sums):
+        return
+    found = groups.sum()[1]
+    assert alike(found.to_list(), sums) and found.form == "flat"
+
+
+@given(keyed(), st.lists(st.integers(0, 40), max_size=3))
+def test_sums_and_means_of_groups_in_parts(drawn, cuts):
+    name, keys, rows = drawn
+    table = Table({"key": Column.of(keys, "u8"), "row": Column.of(rows, name + "?").to_runs()})
+    asked = {"mean": ("row", "mean"), **({} if name == "i64" else {"sum": ("row", "sum")})}
+    ends = sorted(min(cut, len(rows)) for cut in cuts)
+    parts = [table.slice(start, stop) for start, stop in zip([0, *ends], [*ends, len(rows)])]
+    found = _chunk_groups.joined(_chunk_groups.Groups.of(part, "key", asked) for part in parts).table()
+    due = groups_of(keys, rows)
+    for fold in asked:
+        assert alike(found[fold].to_list(), [due_of(name, fold, part) for _, part in due]), fold
+
+
+def test_a_sum_of_decimals_that_has_no_room_names_its_group():
+    most = Decimal(10**38 - 1)
+    groups = Column.of([most, most, most]).group_by([1, 2, 2])
+    with pytest.raises(OverflowError, match="^sum: group 1: sum: it leaves 38 digits at row 1"):
+        groups.sum()
+    assert groups.mean()[1].to_list() == [1e38, 1e38]
 
 
 def test_a_column_by_itself():
