@@ -1,14 +1,15 @@
 -- The least and the greatest item so far, and the next row.
-use Rattle.std.proofs.Common.{◌≡◌, ◌≢◌, ◌+◌, ◌≤◌, ℕ, List, [], ◌∷◌, ◌++◌, Option, Some, None, cond, refl, sym, ap, subst}
+use Rattle.std.proofs.Common.{◌≡◌, ◌≢◌, ◌+◌, ◌<◌, ◌≤◌, ℕ, List, [], ◌∷◌, ◌++◌, Bool, true, false, Option, Some, None, cond, get_or, length, refl, sym, ap, subst}
 use Rattle.std.specs.Prelude.{◌==◌, All, Contains, slice_get, slice_range}
 use Rattle.std.specs.Ordering.{is_lt, ord_max, ord_min, ordering_index}
 use Rattle.std.specs.declared.cmp.Ordering.{Ordering}
 use Rattle.std.specs.declared.cmp.Ordering.TheVariants.{Less, Equal, Greater}
 use Rattle.column_core.specs.Value.{FlatValue, Value}
-use Rattle.column_ops.specs.Items.{item_row}
+use Rattle.column_ops.specs.Items.{flagged_rows, item_row}
 use Rattle.column_ops.specs.Order.{flat_cmp, row_cmp}
 use Rattle.column_ops.specs.OrderFacts.{IsFurthest}
 use Rattle.column_ops.proofs.BestRows.{IsBest-past, IsBest-stays}
+use Rattle.column_ops.proofs.ItemRows.{null-here, valid-here}
 use Rattle.column_ops.proofs.OrderLaws.{flat_equal}
 use Rattle.column_ops.proofs.RowRanges.{slice_range-next}
 
@@ -76,3 +77,28 @@ max-null_cases value rows best item Greater e has greatest = absurd (greatest.no
 pub max-null : {S : Type 0} (value : S → FlatValue) (cmp : S → S → Ordering) → ((a b : S) → cmp a b ≡ flat_cmp (value a) (value b)) → (rows : List (Option Value)) (best item : S)
     → Contains rows (item_row value item) → IsFurthest Greater rows (item_row value best) → IsFurthest Greater (rows ++ None ∷ []) (item_row value (ord_max cmp best item))
 max-null value cmp ordered rows best item has greatest = max-null_cases value rows best item (cmp item best) (sym (ordered item best)) has greatest
+
+-- the row of an item, null where its flag is false
+abbrev pub row_if : {S : Type 0} → (S → FlatValue) → Bool → S → Option Value
+row_if value true item = item_row value item
+row_if value false item = None
+
+-- the lesser of the least item and the one that is looked at, which was there already where the row is null
+pub min-shown : {S : Type 0} (value : S → FlatValue) (cmp : S → S → Ordering) → ((a b : S) → cmp a b ≡ flat_cmp (value a) (value b)) → (rows : List (Option Value)) (best item first : S) (flag : Bool)
+    → Contains rows (item_row value first) → IsFurthest Less rows (item_row value best)
+    → IsFurthest Less (rows ++ row_if value flag item ∷ []) (item_row value (ord_min cmp best (cond flag item first)))
+min-shown value cmp ordered rows best item first true has least = min-next value cmp ordered rows best item least
+min-shown value cmp ordered rows best item first false has least = min-null value cmp ordered rows best first has least
+
+-- the greater of the greatest item and that one
+pub max-shown : {S : Type 0} (value : S → FlatValue) (cmp : S → S → Ordering) → ((a b : S) → cmp a b ≡ flat_cmp (value a) (value b)) → (rows : List (Option Value)) (best item first : S) (flag : Bool)
+    → Contains rows (item_row value first) → IsFurthest Greater rows (item_row value best)
+    → IsFurthest Greater (rows ++ row_if value flag item ∷ []) (item_row value (ord_max cmp best (cond flag item first)))
+max-shown value cmp ordered rows best item first true has greatest = max-next value cmp ordered rows best item greatest
+max-shown value cmp ordered rows best item first false has greatest = max-null value cmp ordered rows best first has greatest
+
+-- the row at the place of an item
+pub flagged-here : {S : Type 0} (value : S → FlatValue) (items : List S) (flags : List Bool) (place : ℕ) (item : S) (flag : Bool) → place < length items → item ≡ get_or items place item
+    → slice_get flags place ≡ Some flag → slice_get (flagged_rows value items flags) place ≡ Some (row_if value flag item)
+flagged-here value items flags place item true inside is flag = valid-here value items flags place item inside is flag
+flagged-here value items flags place item false inside is flag = null-here value items flags place inside flag

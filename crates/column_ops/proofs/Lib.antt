@@ -27,5 +27,6 @@ pub mod ConstantBits
 pub mod ItemRows
 pub mod WordFlags
 pub mod ItemEnds
+pub mod PairedEnds
 pub mod ItemOrder
 pub mod ItemColumns

@@ -12,6 +12,7 @@ ghost use Rattle.column_ops.specs.Steps.{AreEndsSoFar};
 use crate::items::FlatItem;
 use column_core::{BitBuffer, ScalarView, Validity};
 use std::alloc::Allocator;
+use std::hint::select_unpredictable;
 use std::ops::Range;
 
 /// Returns the least and the greatest of the items from `range.start` to `range.end - 1` that are no nulls, as rows, or
@@ -60,7 +61,9 @@ fn item_ends<T: FlatItem, A: Allocator>(
     }
 }
 
-// The least and the greatest of items of which none is null.
+// The least and the greatest of items of which none is null. They are in two parts, and an item of each is looked at at
+// once: the lesser of the two is compared with the least, and the greater with the greatest. The middle one of an odd
+// number of items is in both parts.
 fn ends_of_valid<T: FlatItem>(items: &[T], start: usize, stop: usize) -> Option<(T, T)>
     requires ordered { start ≤ stop }
     requires in_bounds { stop ≤ length items.now }
@@ -74,12 +77,13 @@ fn ends_of_valid<T: FlatItem>(items: &[T], start: usize, stop: usize) -> Option<
         return None;
     }
     let first = items[start];
-    let mut least = first;
-    let mut greatest = first;
-    for row in start + 1..stop {
-        let item = items[row];
-        least = least.min(item);
-        greatest = greatest.max(item);
+    let (mut least, mut greatest) = (first, first);
+    let half = (stop - start).div_ceil(2);
+    let second = stop - half;
+    for step in 0..half {
+        let (left, right) = (items[start + step], items[second + step]);
+        least = least.min(left.min(right));
+        greatest = greatest.max(left.max(right));
     }
     Some((least, greatest))
 }
@@ -167,8 +171,9 @@ fn ends_in_word<T: FlatItem, A: Allocator>(
     }
 }
 
-// The same of the 64 rows from `from` on. A byte for each flag says which are nulls, so no row waits for a flag, and
-// as many rows are compared at once as a vector has.
+// The same of the 64 rows from `from` on, in two parts as in `ends_of_valid`. A byte for each flag says which are
+// nulls, so no row waits for a flag, and as many rows are compared at once as a vector has. Each item is read whatever
+// its flag is: LLVM makes no vector of a loop in which a flag decides what is read.
 #[inline(always)]
 fn ends_in_whole_word<T: FlatItem, A: Allocator>(
     items: &[T],
@@ -188,13 +193,12 @@ fn ends_in_whole_word<T: FlatItem, A: Allocator>(
 {
     let marks = bytes_of_bits(flags.words()[from / 64]);
     let (mut least, mut greatest) = ends;
-    for lane in 0..64usize {
-        let row = from + lane;
-        let item = items[row];
-        let is_valid = marks[lane] == 1;
-        let shown = if is_valid { item } else { first };
-        least = least.min(shown);
-        greatest = greatest.max(shown);
+    for lane in 0..32usize {
+        let (row, later) = (from + lane, from + 32 + lane);
+        let left = select_unpredictable(marks[lane] == 1, items[row], first);
+        let right = select_unpredictable(marks[lane + 32] == 1, items[later], first);
+        least = least.min(left.min(right));
+        greatest = greatest.max(left.max(right));
     }
     (least, greatest)
 }
@@ -247,9 +251,8 @@ fn ends_in_part<T: FlatItem, A: Allocator>(
     let word = flags.words()[range.start / 64];
     let (mut least, mut greatest) = ends;
     for row in range.start..range.end {
-        let item = items[row];
         let is_valid = (word >> (row % 64)) & 1 == 1;
-        let shown = if is_valid { item } else { first };
+        let shown = select_unpredictable(is_valid, items[row], first);
         least = least.min(shown);
         greatest = greatest.max(shown);
     }
