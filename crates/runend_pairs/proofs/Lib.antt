@@ -16,3 +16,5 @@ pub mod Bounds
 pub mod Refusals
 pub mod Encoded
 pub mod TotalRefusals
+pub mod PartSums
+pub mod NullCounted

@@ -76,7 +76,7 @@ abs-times a b (suc m) h =
     let more = abs-add a (a *ℤ pos m) in
     rw (times-suc a m) (omega arith)
 
-abs-more : (total n : ℤ) (p q : ℕ) → unsigned_abs total ≤ 2 ^ 63 * p → unsigned_abs n ≤ 2 ^ 63 → unsigned_abs (total +ℤ n *ℤ pos q) ≤ 2 ^ 63 * (p + q)
+pub abs-more : (total n : ℤ) (p q : ℕ) → unsigned_abs total ≤ 2 ^ 63 * p → unsigned_abs n ≤ 2 ^ 63 → unsigned_abs (total +ℤ n *ℤ pos q) ≤ 2 ^ 63 * (p + q)
 abs-more total n p q before each =
     let more = abs-times n (2 ^ 63) q each in
     let most = abs-add total (n *ℤ pos q) in

@@ -9,3 +9,5 @@ pub mod GroupFaults
 pub mod Sums
 pub mod GroupAnswers
 pub mod Totals
+pub mod SumParts
+pub mod NullCounts

@@ -19,6 +19,7 @@ ghost use Rattle.runend_pairs.specs.Sums.{sum_of, summed_ptype};
 
 use crate::group_fault::{GroupError, fault_of_groups};
 use crate::group_fold::GroupFold;
+use crate::number_runs::number_runs;
 use crate::numbers::fold_numbers;
 use column_core::{FlatColumn, PrimitiveArray, VortexError};
 use runend_array::{ArrayRef, ExecutionCtx};
@@ -119,9 +120,6 @@ fn fold_in<A: Allocator + Copy>(
     ensures refused { IfErr result (IsFoldRefusal (IsGiven fold (dtype_of values.now)) (answer_of fold)
         (ends_of groups.now) (map number_in (rows values.now))) }
 {
-    let (ends, values) = row_runs(alloc, values)?;
-    match values {
-        FlatColumn::Primitive(numbers) => fold_numbers(alloc, groups, &ends, &numbers, fold),
-        _ => unreachable!(),
-    }
+    let (ends, numbers) = number_runs(alloc, values)?;
+    fold_numbers(alloc, groups, &ends, &numbers, fold)
 }

@@ -54,9 +54,9 @@ impl<T: SignedPType> Fold<T, i64> for SignedTotal {
     }
 }
 
-// The total with as many rows of a number as given, where that is a number of 128 bits.
+/// Returns the total with as many rows of a number as given, where that is a number of 128 bits.
 #[inline(always)]
-fn signed_more(total: i128, number: i64, rows: usize) -> i128
+pub(crate) fn signed_more(total: i128, number: i64, rows: usize) -> i128
     ensures { FitsSigned w128 (total +ℤ number *ℤ pos rows) → result ≡ total +ℤ number *ℤ pos rows }
 {
     match total.checked_add(signed_rows(number, rows)) {
@@ -117,9 +117,9 @@ impl<T: UnsignedPType> Fold<T, u64> for UnsignedTotal {
     }
 }
 
-// The total with as many rows of a number as given, where that is a number of 128 bits.
+/// Returns the total with as many rows of a number as given, where that is a number of 128 bits.
 #[inline(always)]
-fn unsigned_more(total: u128, number: u64, rows: usize) -> u128
+pub(crate) fn unsigned_more(total: u128, number: u64, rows: usize) -> u128
     ensures { total + number * rows < 2 ^ 128 → result ≡ total + number * rows }
 {
     match total.checked_add(unsigned_rows(number, rows)) {

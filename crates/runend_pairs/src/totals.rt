@@ -16,16 +16,16 @@ ghost use Rattle.runend_pairs.specs.Sums.{sum_of, sum_ptype, summed_ptype};
 ghost use Rattle.runend_pairs.specs.Totals.{AreRunEnds, AreRunningAnswers, IsRunningRefusal, IsTotalRefusal};
 
 use crate::folds::Fold;
+use crate::number_runs::number_runs;
 use crate::running::fold_running;
 use crate::sums::{SignedTotal, UnsignedTotal};
 use crate::total_fault::{TotalError, fault_of_numbers};
 use crate::values::ValueRuns;
 use column_core::{
-    FlatColumn, NativePType, PrimitiveArray, PrimitiveValues as Values, UnsignedPType, VortexError,
+    NativePType, PrimitiveArray, PrimitiveValues as Values, UnsignedPType, VortexError,
 };
 use column_sums::SignedPType;
 use runend_array::{ArrayRef, ExecutionCtx};
-use runend_builder::row_runs;
 use std::alloc::Allocator;
 
 /// Holds running totals at the ends of runs of equal neighbouring rows.
@@ -61,10 +61,7 @@ pub fn running_totals<A: Allocator + Copy>(
         return Err(TotalError::Refused(error));
     }
     let alloc = *ctx.allocator();
-    let (ends, values) = row_runs(alloc, array)?;
-    let FlatColumn::Primitive(numbers) = values else {
-        unreachable!()
-    };
+    let (ends, numbers) = number_runs(alloc, array)?;
     let totals = total_numbers(alloc, &ends, &numbers)?;
     Ok(RunningTotals { ends, totals })
 }

@@ -3,11 +3,9 @@ use Rattle.std.specs.Prelude.{IfErr, IfOk}
 use Rattle.column_base.specs.declared.dtype.DType.{DType}
 use Rattle.column_base.specs.declared.dtype.DType.TheVariants as column
 use Rattle.column_base.specs.declared.dtype.Nullability.TheVariants.{Nullable}
-use Rattle.column_core.specs.Leaf.{OfNumbers}
 use Rattle.column_core.specs.PrimitiveForm.{optional_numbers, primitive_dtype}
 use Rattle.column_sums.specs.SumAnswer.{number_in}
 use Rattle.runend_array.specs.Array.{dtype_of, rows}
-use Rattle.runend_encode.specs.Encoding.{IsRowEncoding}
 use Rattle.runend_windows.specs.Ends.{ends_of}
 use Rattle.runend_pairs.specs.GroupAnswers.{answer_of, answer_ptype, IsGiven}
 use Rattle.runend_pairs.specs.GroupFaults.{IsFoldRefusal}
@@ -18,23 +16,23 @@ use Rattle.runend_pairs.proofs.grouped.fold_in.Goals as goal
 pub returns-clause-answers : goal.returns-clause-answers
 returns-clause-answers g c =
     let values = c.args.values.now in
-    let numbers = c.in-Primitive.numbers in
-    let encoding : IsRowEncoding (rows values) (dtype_of values) c.in_ok-ends.ends (OfNumbers numbers) = rw c.in-Primitive.is at c.in_ok-ends.ensures.encoding in
+    let numbers = c.in_ok-ends.numbers in
+    let encoding = c.in_ok-ends.ensures.encoding in
     subst (λ (shown : List (Option ℤ)). IfOk c.fold_numbers.result (λ answers. AreGroupAnswers (answer_of c.args.fold) (ends_of c.args.groups.now) shown (optional_numbers answers)))
     (encoded_numbers (rows values) (dtype_of values) c.in_ok-ends.ends numbers encoding) c.fold_numbers.ensures.answers
 
 pub returns-clause-dtype : goal.returns-clause-dtype
 returns-clause-dtype g c =
     let values = c.args.values.now in
-    let numbers = c.in-Primitive.numbers in
-    let encoding : IsRowEncoding (rows values) (dtype_of values) c.in_ok-ends.ends (OfNumbers numbers) = rw c.in-Primitive.is at c.in_ok-ends.ensures.encoding in
+    let numbers = c.in_ok-ends.numbers in
+    let encoding = c.in_ok-ends.ensures.encoding in
     subst (λ (t : DType). IfOk c.fold_numbers.result (λ answers. primitive_dtype answers ≡ column.Primitive (answer_ptype c.args.fold t) Nullable)) encoding.typed c.fold_numbers.ensures.dtype
 
 pub returns-clause-refused : goal.returns-clause-refused
 returns-clause-refused g c =
     let values = c.args.values.now in
-    let numbers = c.in-Primitive.numbers in
-    let encoding : IsRowEncoding (rows values) (dtype_of values) c.in_ok-ends.ends (OfNumbers numbers) = rw c.in-Primitive.is at c.in_ok-ends.ensures.encoding in
+    let numbers = c.in_ok-ends.numbers in
+    let encoding = c.in_ok-ends.ensures.encoding in
     subst (λ (t : DType). IfErr c.fold_numbers.result (IsFoldRefusal (IsGiven c.args.fold t) (answer_of c.args.fold) (ends_of c.args.groups.now) (map number_in (rows values)))) encoding.typed
     (subst (λ (shown : List (Option ℤ)). IfErr c.fold_numbers.result (IsFoldRefusal (IsGiven c.args.fold (primitive_dtype numbers)) (answer_of c.args.fold) (ends_of c.args.groups.now) shown))
     (encoded_numbers (rows values) (dtype_of values) c.in_ok-ends.ends numbers encoding) c.fold_numbers.ensures.refused)
