@@ -330,6 +330,13 @@ HV_ANSWER hv_value_counts(const hv_column *column, hv_column *out_values, hv_col
  * bytes. */
 /* the sum of the rows that are not null; 13 unless they are integers */
 HV_ANSWER hv_sum(const hv_session *session, const hv_column *column, hv_total *total, hv_error *error);
+/* What the rows add to a sum, by which the sum of joined rows is known, also where it overflows on the way: their
+ * total, and the least and the greatest sum on the way from row to row, one of which is the 0 before the first row. The
+ * total of joined rows is total + total2, their least min(least, total + least2), their greatest max(greatest, total +
+ * greatest2); hv_sum has a sum exactly where least and greatest are in its range, and then it is the total. For unsigned
+ * types the bits of `high` are those of a uint64_t. At the cost of the runs, and of encoding a flat column; 13 unless the
+ * rows are integers, and never 21 for them. */
+HV_ANSWER hv_sum_parts(const hv_column *column, hv_pair *total, hv_pair *least, hv_pair *greatest, hv_error *error);
 /* whether all rows are equal, null equal to null; 13 for lists */
 HV_ANSWER hv_is_constant(const hv_session *session, const hv_column *column, uint8_t *truth, hv_error *error);
 /* whether no row is above the next (strict: whether each is below it), with null below all else; 13 for lists */
@@ -347,6 +354,8 @@ HV_ANSWER hv_min_max(const hv_session *session, const hv_column *column, hv_valu
  * of the text, text_len) where it has no room there. */
 HV_ANSWER hv_at(const hv_column *column, size_t row, hv_value *value, uint8_t *text, size_t text_len, hv_error *error);
 HV_CALL size_t hv_length(const hv_column *column);     /* rows; 0 without a column */
+/* how many rows are null, by runs and without memory; 0 without a column */
+HV_CALL size_t hv_null_count(const hv_column *column);
 HV_CALL hv_kind hv_kind_of(const hv_column *column);   /* the type; number 255 without a column */
 HV_CALL uint8_t hv_form(const hv_column *column);      /* HV_FORM_FLAT to HV_FORM_RUNS; HV_FORM_NONE without a column */
 HV_CALL size_t hv_offset(const hv_column *column);     /* for runs: how many rows lie before the window; else 0 */

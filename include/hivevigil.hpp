@@ -282,6 +282,8 @@ public:
     hv_kind kind() const { return hv_kind_of(&handle); }
     Form form() const { return static_cast<Form>(hv_form(&handle)); }
     size_t offset() const { return hv_offset(&handle); }
+    // How many rows are null.
+    size_t null_count() const { return hv_null_count(&handle); }
     // How many bytes the column takes for what it shows, in its form; hivevigil.h says of what they are.
     size_t bytes_used() const { return hv_bytes_used(&handle); }
     // Row `row`, refused as HV_OUT_OF_BOUNDS past the end; so is [].
@@ -356,6 +358,14 @@ public:
         detail::ask([&](auto *error) { return *error = fields, answer; },
                     [&](int32_t number) { return detail::words_of_decimals(kind(), number, fields); });
         return {{sum.low, sum.high, kind().scale}, is_empty != 0};
+    }
+    // What the rows add to a sum, by which the sum of joined rows is known, also where it overflows on the way.
+    SumParts sum_parts() const {
+        SumParts parts{};
+        detail::ask(
+            [&](auto *error) { return hv_sum_parts(&handle, &parts.total, &parts.least, &parts.greatest, error); },
+            detail::words_of_type(kind(), " has no sum"));
+        return parts;
     }
     bool is_constant(const hv_session &session = initial_session()) const {
         uint8_t truth = 0;

@@ -262,6 +262,10 @@ HV_ANSWER hv_sum(const hv_session *session, const hv_column *column, hv_total *t
     hv_error ignored;
     return (hv_sum)(hv_settings_of(session), hv_lent(column), total, HV_FIELDS);
 }
+HV_ANSWER hv_sum_parts(const hv_column *column, hv_pair *total, hv_pair *least, hv_pair *greatest, hv_error *error) {
+    hv_error ignored;
+    return (hv_sum_parts)(hv_lent(column), total, least, greatest, HV_FIELDS);
+}
 HV_ANSWER hv_is_constant(const hv_session *session, const hv_column *column, uint8_t *truth, hv_error *error) {
     hv_error ignored;
     return (hv_is_constant)(hv_settings_of(session), hv_lent(column), truth, HV_FIELDS);
@@ -293,6 +297,9 @@ HV_ANSWER hv_at(const hv_column *column, size_t row, hv_value *value, uint8_t *t
 }
 HV_CALL size_t hv_length(const hv_column *column) {
     return (hv_length)(hv_lent(column));
+}
+HV_CALL size_t hv_null_count(const hv_column *column) {
+    return (hv_null_count)(hv_lent(column));
 }
 HV_CALL hv_kind hv_kind_of(const hv_column *column) {
     return (hv_kind_of)(hv_lent(column));

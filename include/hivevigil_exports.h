@@ -102,6 +102,7 @@ HV_EXPORT int32_t hv_value_counts(hv_column *column, hv_column *out_values, hv_c
 
 /* Questions */
 HV_EXPORT int32_t hv_sum(const hv_settings *settings, hv_column *column, hv_total *total, hv_error *error);
+HV_EXPORT int32_t hv_sum_parts(hv_column *column, hv_pair *total, hv_pair *least, hv_pair *greatest, hv_error *error);
 HV_EXPORT int32_t hv_is_constant(const hv_settings *settings, hv_column *column, uint8_t *truth, hv_error *error);
 HV_EXPORT int32_t hv_is_sorted(const hv_settings *settings, hv_column *column, uint8_t strict, uint8_t *truth,
                                hv_error *error);
@@ -113,6 +114,7 @@ HV_EXPORT int32_t hv_min_max(const hv_settings *settings, hv_column *column, hv_
 HV_EXPORT int32_t hv_at(hv_column *column, size_t row, hv_value *value, uint8_t *text, size_t text_len,
                         hv_error *error);
 HV_EXPORT size_t hv_length(hv_column *column);
+HV_EXPORT size_t hv_null_count(hv_column *column);
 HV_EXPORT hv_kind hv_kind_of(hv_column *column);
 HV_EXPORT uint8_t hv_form(hv_column *column);
 HV_EXPORT size_t hv_offset(hv_column *column);
@@ -228,12 +230,14 @@ HV_EXPORT void hv_free(hv_column *column);
 #define hv_sort(...) hv_call_sort(__VA_ARGS__)
 #define hv_value_counts(...) hv_call_value_counts(__VA_ARGS__)
 #define hv_sum(...) hv_call_sum(__VA_ARGS__)
+#define hv_sum_parts(...) hv_call_sum_parts(__VA_ARGS__)
 #define hv_is_constant(...) hv_call_is_constant(__VA_ARGS__)
 #define hv_is_sorted(...) hv_call_is_sorted(__VA_ARGS__)
 #define hv_extreme(...) hv_call_extreme(__VA_ARGS__)
 #define hv_min_max(...) hv_call_min_max(__VA_ARGS__)
 #define hv_at(...) hv_call_at(__VA_ARGS__)
 #define hv_length(...) hv_call_length(__VA_ARGS__)
+#define hv_null_count(...) hv_call_null_count(__VA_ARGS__)
 #define hv_kind_of(...) hv_call_kind_of(__VA_ARGS__)
 #define hv_form(...) hv_call_form(__VA_ARGS__)
 #define hv_offset(...) hv_call_offset(__VA_ARGS__)

@@ -46,6 +46,12 @@ using Bytes = std::vector<uint8_t>;
 // A row: null, an integer, a boolean, a decimal, a text or bytes.
 using Value = std::variant<Null, uint64_t, int64_t, bool, Decimal, std::string, Bytes>;
 
+// What rows add to a sum: the total, and the least and the greatest sum on the way, one of which is the 0 before the
+// first row. Each is high * 2^64 + low; for rows without sign the bits of `high` are those of a uint64_t.
+struct SumParts {
+    hv_pair total, least, greatest;
+};
+
 // A sum, a uint64_t of rows without sign, else an int64_t. `empty`: no row is valid, and the sum is 0.
 struct Sum {
     std::variant<uint64_t, int64_t> total;

@@ -362,6 +362,10 @@ static int32_t equal_runs(void) {
 static uint64_t hashed;
 static int32_t hash_runs(void) { return hv_hash(&runs, &hashed, &error); }
 static int32_t hash_texts(void) { return hv_hash(&texts, &hashed, &error); }
+static int32_t parts_of_runs(void) {
+    hv_pair sums[3];
+    return hv_sum_parts(&part, sums, sums + 1, sums + 2, &error);
+}
 static int32_t less_by_runs(void) { return hv_combine(&flat, HV_LT, &runs, &out, &error); }
 
 /* Rows in another order, and values counted. */
@@ -405,7 +409,7 @@ static const step steps[] = {
     NAMED(filter_texts), NAMED(filter_by_runs), NAMED(take_by_runs), NAMED(take_from), NAMED(compare), NAMED(compare_scalar), NAMED(compare_text), NAMED(fill),
     NAMED(fill_text), NAMED(sum_by_runs), NAMED(sum_by_texts), NAMED(add_runs), NAMED(add_constants),
     NAMED(connect_runs), NAMED(less_by_runs), NAMED(pick_runs), NAMED(negate_runs), NAMED(null_texts),
-    NAMED(valid_runs), NAMED(choose_runs), NAMED(equal_runs), NAMED(hash_runs), NAMED(hash_texts), NAMED(make_floats),
+    NAMED(valid_runs), NAMED(choose_runs), NAMED(equal_runs), NAMED(hash_runs), NAMED(hash_texts), NAMED(parts_of_runs), NAMED(make_floats),
     NAMED(make_floats_of_runs), NAMED(decode_floats), NAMED(compare_floats), NAMED(order_floats), NAMED(least_float),
     NAMED(first_float), NAMED(sum_floats), NAMED(read_float), NAMED(reverse_runs), NAMED(reverse_texts),
     NAMED(sort_runs), NAMED(sort_texts), NAMED(sort_constant), NAMED(count_runs), NAMED(count_texts),

@@ -36,6 +36,8 @@ static void check_runs() {
     CHECK(runs.form() == hv::Form::runs && runs.size() == 10 && runs.kind().number == HV_I32);
     CHECK(runs.at(4) == number(2) && runs.at(3) == Value(Null{}));
     CHECK(std::get<int64_t>(runs.sum().total) == 13 && !runs.sum().empty);
+    const hv::SumParts parts = runs.sum_parts();
+    CHECK(parts.total.low == 13 && parts.least.low == 0 && parts.greatest.low == 13 && runs.null_count() == 4);
     CHECK(runs.least() == number(1) && runs.greatest() == number(3));
     CHECK(!runs.is_constant() && !runs.is_sorted());
     CHECK(rows_of(runs.slice(3, 7)) == (std::vector<Value>{Null{}, number(2), number(3), number(3)}));
@@ -81,6 +83,7 @@ static void check_lists() {
     const Column elements = Column::of<int32_t>({1, 2, 3});
     const Column lists = Column::lists(elements, {0, 1}, {2, 2}); // [1 2] [2 3]
     CHECK(lists.form() == hv::Form::lists && lists.size() == 2 && lists.bytes_used() == 3 * 4 + 2 * (8 + 8));
+    CHECK(lists.null_count() == 0);
     CHECK(rows_of(lists.list_elements()) == rows_of(elements));
     CHECK(lists.list_offsets().numbers<uint64_t>() == (std::vector<uint64_t>{0, 1}));
     CHECK(lists.list_sizes().numbers<uint64_t>() == (std::vector<uint64_t>{2, 2}));

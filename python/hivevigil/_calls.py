@@ -91,6 +91,7 @@ CALLS: dict[str, tuple[list[Any], Any]] = {
     "hv_sort": ([POINTER(Handle), POINTER(Handle), POINTER(Fields)], c_int32),
     "hv_value_counts": ([POINTER(Handle), POINTER(Handle), POINTER(Handle), POINTER(Fields)], c_int32),
     "hv_sum": ([POINTER(Session), POINTER(Handle), POINTER(Total), POINTER(Fields)], c_int32),
+    "hv_sum_parts": ([POINTER(Handle), POINTER(Pair), POINTER(Pair), POINTER(Pair), POINTER(Fields)], c_int32),
     "hv_is_constant": ([POINTER(Session), POINTER(Handle), POINTER(c_uint8), POINTER(Fields)], c_int32),
     "hv_is_sorted": ([POINTER(Session), POINTER(Handle), c_uint8, POINTER(c_uint8), POINTER(Fields)], c_int32),
     "hv_extreme": ([
@@ -102,6 +103,7 @@ CALLS: dict[str, tuple[list[Any], Any]] = {
     ], c_int32),
     "hv_at": ([POINTER(Handle), c_size_t, POINTER(Value), c_void_p, c_size_t, POINTER(Fields)], c_int32),
     "hv_length": ([POINTER(Handle)], c_size_t),
+    "hv_null_count": ([POINTER(Handle)], c_size_t),
     "hv_kind_of": ([POINTER(Handle)], Kind),
     "hv_form": ([POINTER(Handle)], c_uint8),
     "hv_offset": ([POINTER(Handle)], c_size_t),

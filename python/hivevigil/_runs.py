@@ -4,7 +4,7 @@ from __future__ import annotations
 import ctypes
 import sys
 from collections.abc import Iterator
-from itertools import chain, compress, repeat
+from itertools import chain, repeat
 from typing import TYPE_CHECKING, Any, NamedTuple, Optional
 
 from . import _lists, _reading
@@ -96,20 +96,6 @@ def stored_runs(column: Column, most: Optional[int] = None) -> Iterator[Run]:
         return iter([Run(0, column._length, column[0])] if column._length else [])
     shown = visible(column, most)
     return map(Run, chain((0,), shown.stops), shown.stops, _flat_rows(shown.values))
-
-
-def null_count(column: Column) -> int:
-    """How many rows are null."""
-    if not column.nullable:
-        return 0
-    if _lists.is_list(column):
-        return _lists.flags(column).count(0)
-    if column.form == "constant":
-        return column._length if column._length and column[0] is None else 0
-    if column.form == "runs":
-        shown = visible(column)
-        return sum(compress(lengths(shown.stops), _reading.null_flags(shown.values)))
-    return column._length - bin(int.from_bytes(column.validity(), "little")).count("1")
 
 
 def split(column: Column, parts: int, by: str) -> list[Column]:

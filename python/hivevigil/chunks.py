@@ -12,17 +12,16 @@ the whole column. `Partial.empty(type)` joined with a part is that part. A Parti
 """
 from __future__ import annotations
 
-import contextlib
 import functools
 import math
 import operator
 from collections.abc import Iterable
 from dataclasses import dataclass, replace
 from fractions import Fraction
-from itertools import accumulate
 from typing import Any, NamedTuple, Optional, Union
 
 from . import _floats, _runs, _statistics, _times
+from ._library import Pair, ask, calls
 from ._types import WHOLE_NUMBERS, range_of, text_of
 from ._values import Scalar
 from .column import Column
@@ -211,21 +210,11 @@ def _is_summed(name: str) -> bool:
 
 
 def _sums_of(runs: Column) -> Sums:
-    """The three numbers of runs of integers. Where all rows have one sign the sum says them; else, or where it leaves
-    64 bits, they are added run by run, since within a run sums only rise or only fall."""
-    found = runs.min_max()
-    least: Any = found[0]
-    greatest: Any = found[1]
-    if least is None:
-        return Sums()
-    if least >= 0 or greatest <= 0:
-        with contextlib.suppress(OverflowError):
-            total = runs.sum()
-            return Sums(total, min(0, total), max(0, total))
-    shown = _runs.visible(runs)
-    values: Any = shown.values.fill(0) if shown.values.nullable else shown.values
-    ways = list(accumulate(map(operator.mul, _runs.lengths(shown.stops), values), initial=0))
-    return Sums(ways[-1], min(ways), max(ways))
+    """The three numbers of runs of integers: each is high * 2^64 + low, of unsigned ones with the bits of high."""
+    pairs = Pair(), Pair(), Pair()
+    ask(calls.hv_sum_parts, runs, *pairs)
+    turns = 2**64 if runs.type.startswith("u") else 0
+    return Sums(*((pair.high % turns if turns else pair.high) * 2**64 + pair.low for pair in pairs))
 
 
 def _joined_type(left: str, right: str) -> str:

@@ -442,8 +442,8 @@ class Column(_comparing.Comparisons, _pairs.Pairs):
 
     @property
     def null_count(self) -> int:
-        """How many rows are null."""
-        return _runs.null_count(self)
+        """How many rows are null, counted by runs."""
+        return int(calls.hv_null_count(self._there()))
 
     def sum(self) -> Any:
         """The sum of the rows that are not null, 0 where there is none; a duration of durations, and of no other times.

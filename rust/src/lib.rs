@@ -49,7 +49,7 @@ pub use iterate::{Rows, Run, Runs};
 pub use kind::{Form, Kind};
 pub use native::Native;
 pub use parts::SplitBy;
-pub use value::{DecimalSum, Fold, Operator, Sum, Value};
+pub use value::{DecimalSum, Fold, Operator, Sum, SumParts, Value};
 
 /// Which kernels are registered, and the numbers by which they choose: form and cost, never an answer.
 #[repr(C)]

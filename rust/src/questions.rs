@@ -3,7 +3,7 @@ use crate::column::turn_of;
 use crate::raw::{self, Pair, RawTotal, RawValue};
 use crate::{
     ask, Column, Decimal, DecimalSum, Error, ErrorKind, Fields, Form, Kind, Native, Run, Session,
-    Sum, Value,
+    Sum, SumParts, Value,
 };
 
 /// Questions.
@@ -43,6 +43,17 @@ impl Column {
     /// ```
     pub fn bytes_used(&self) -> usize {
         unsafe { raw::hv_bytes_used(self.handle.get()) }
+    }
+
+    /// Counts the rows that are null, by runs and without memory.
+    ///
+    /// ```
+    /// let column = hivevigil::Column::try_from(&[Some(3i32), None, None][..])?;
+    /// assert_eq!((column.null_count(), column.encode()?.null_count()), (2, 2));
+    /// # Ok::<(), hivevigil::Error>(())
+    /// ```
+    pub fn null_count(&self) -> usize {
+        unsafe { raw::hv_null_count(self.handle.get()) }
     }
 
     /// Counts the rows of its runs that lie before the window of a run column.
@@ -106,6 +117,37 @@ impl Column {
         Ok(DecimalSum {
             total: Decimal::new(digits, self.kind().scale),
             empty: is_empty != 0,
+        })
+    }
+
+    /// Returns what the rows add to a sum, by which the sum of joined rows is known; refused as `Unsupported` unless
+    /// they are integers.
+    ///
+    /// ```
+    /// use hivevigil::{Column, SumParts};
+    /// let parts = Column::new(&[-3i8, 5, 100, -1])?.sum_parts()?;
+    /// let (total, least, greatest) = (101, -3, 102);
+    /// assert_eq!(parts, SumParts::Signed { total, least, greatest });
+    /// # Ok::<(), hivevigil::Error>(())
+    /// ```
+    pub fn sum_parts(&self) -> Result<SumParts, Error> {
+        let mut pairs = [Pair::default(); 3];
+        let [total, least, greatest] = &mut pairs;
+        ask(|fields| unsafe {
+            raw::hv_sum_parts(self.handle.get(), total, least, greatest, fields)
+        })
+        .map_err(|error| error.about(ErrorKind::Unsupported, self.kind(), "has no sum", None))?;
+        let [total, least, greatest] =
+            pairs.map(|pair| (i128::from(pair.high) << 64) | i128::from(pair.low));
+        Ok(match self.kind().is_signed() {
+            true => SumParts::Signed {
+                total,
+                least,
+                greatest,
+            },
+            false => SumParts::Unsigned {
+                total: total as u128,
+            },
         })
     }
 

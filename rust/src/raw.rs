@@ -326,6 +326,13 @@ extern "C" {
         total: *mut RawTotal,
         error: *mut Fields,
     ) -> i32;
+    pub fn hv_sum_parts(
+        column: *mut Handle,
+        total: *mut Pair,
+        least: *mut Pair,
+        greatest: *mut Pair,
+        error: *mut Fields,
+    ) -> i32;
     pub fn hv_is_constant(
         settings: *const Session,
         column: *mut Handle,
@@ -368,6 +375,7 @@ extern "C" {
         error: *mut Fields,
     ) -> i32;
     pub fn hv_length(column: *mut Handle) -> usize;
+    pub fn hv_null_count(column: *mut Handle) -> usize;
     pub fn hv_kind_of(column: *mut Handle) -> Kind;
     pub fn hv_form(column: *mut Handle) -> u8;
     pub fn hv_offset(column: *mut Handle) -> usize;

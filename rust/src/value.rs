@@ -55,6 +55,26 @@ pub struct DecimalSum {
     pub empty: bool,
 }
 
+/// Holds what rows add to a sum, by which the sum of joined rows is known, also where it overflows on the way.
+#[derive(Clone, Copy, Debug, PartialEq, Eq)]
+pub enum SumParts {
+    /// Holds, for signed rows, the total, and the least and the greatest sum on the way from row to row, one
+    /// of which is the 0 before the first row.
+    Signed {
+        /// Holds the sum of the rows that are not null, of any size.
+        total: i128,
+        /// Holds the least sum on the way.
+        least: i128,
+        /// Holds the greatest sum on the way.
+        greatest: i128,
+    },
+    /// Holds, for unsigned rows, the total, which is the greatest sum on the way; the least is 0.
+    Unsigned {
+        /// Holds the sum of the rows that are not null, of any size.
+        total: u128,
+    },
+}
+
 /// `row operator value`, by the numbers of `hivevigil.h`.
 #[derive(Clone, Copy, Debug, PartialEq, Eq)]
 #[repr(u8)]

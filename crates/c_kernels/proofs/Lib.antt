@@ -4,3 +4,4 @@ pub mod GroupEndings
 pub mod FloatEndings
 pub mod OrderEndings
 pub mod DecimalEndings
+pub mod PartEndings

@@ -7,3 +7,4 @@ pub mod Grouped
 pub mod Floats
 pub mod Ordered
 pub mod Decimals
+pub mod SumParts

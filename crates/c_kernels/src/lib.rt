@@ -1,6 +1,6 @@
 //! Two columns that C holds, worked row by row at the cost of the runs of both, or one grouped by the other; one
-//! reversed, sorted, and counted by value; columns of floats, stored by their keys in columns of integers; and the sum
-//! of decimals.
+//! reversed, sorted, and counted by value; what one adds to a sum; columns of floats, stored by their keys in columns
+//! of integers; and the sum of decimals.
 #![tactic(auto)]
 
 mod chosen;
@@ -19,6 +19,7 @@ mod named;
 mod operators;
 mod order_calls;
 mod pair_calls;
+mod part_calls;
 mod reordered;
 mod tested;
 
@@ -39,5 +40,6 @@ pub use named::fold_named;
 pub use operators::{PairOperator, pair_operator_by};
 pub use order_calls::{count_handle, reverse_handle, sort_handle};
 pub use pair_calls::combine_handles;
+pub use part_calls::{PartPairs, nulls_in_handle, part_pairs, sum_parts_in_handle};
 pub use reordered::{reversed, sorted};
 pub use tested::{RowTest, test_handle};

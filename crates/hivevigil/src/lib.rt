@@ -20,6 +20,7 @@ mod run_reads;
 mod runs;
 mod sizes;
 mod sorts;
+mod sums;
 mod texts;
 mod versions;
 mod windows;
