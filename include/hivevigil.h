@@ -401,6 +401,20 @@ HV_ANSWER hv_float_min_max(const hv_column *floats, uint8_t is_ieee, uint8_t *is
  * one or both infinities are rows, an infinity past the finite floats, -0.0 where there are rows and all are -0.0. Only
  * of floats of 64 bits: 12 unless the column is of i64, which takes no memory, 21 */
 HV_ANSWER hv_float_sum(const hv_column *floats, uint64_t *count, uint64_t *bits, hv_error *error);
+/* The same floats in another format, named by the type of its keys, HV_I16, HV_I32 or HV_I64, in as few runs as possible
+ * and at the cost of the runs, null where the row is. A NaN keeps its payload. With is_rounded 0 they are exactly the
+ * same: 12 as above, then 14 where the format does not have a float; else each is the nearest one, at a tie the even
+ * one: past the finite floats by half a step or more an infinity, and a NaN whose payload the format does not have the
+ * quiet one without. 23 for another type, 21 */
+HV_ANSWER hv_float_cast(const hv_column *floats, uint8_t to, uint8_t is_rounded, hv_column *out, hv_error *error);
+/* the floats that integers are, of such a format, or the nearest with is_rounded; 12 unless they are integers, then 14
+ * where the format does not have one and nothing is rounded; 23 for another type, 21 */
+HV_ANSWER hv_float_of_integers(const hv_column *integers, uint8_t to, uint8_t is_rounded, hv_column *out,
+                               hv_error *error);
+/* the integers that floats are, of a type from HV_U8 to HV_I64; 12 unless the column is one of floats, then 14 for a
+ * float that is not an integer of the type, as one with a fraction, an infinity and a NaN are not; 23 for another type,
+ * 21 */
+HV_ANSWER hv_float_to_integers(const hv_column *floats, uint8_t to, hv_column *out, hv_error *error);
 
 /* ---- Reading many rows ----
  * These calls read columns in any form. Reading a flat column takes no memory, and what is stored under null is read as

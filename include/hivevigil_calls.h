@@ -347,6 +347,19 @@ HV_ANSWER hv_float_sum(const hv_column *floats, uint64_t *count, uint64_t *bits,
     hv_error ignored;
     return (hv_float_sum)(hv_lent(floats), count, bits, HV_FIELDS);
 }
+HV_ANSWER hv_float_cast(const hv_column *floats, uint8_t to, uint8_t is_rounded, hv_column *out, hv_error *error) {
+    hv_error ignored;
+    return (hv_float_cast)(hv_lent(floats), to, is_rounded, out, HV_FIELDS);
+}
+HV_ANSWER hv_float_of_integers(const hv_column *integers, uint8_t to, uint8_t is_rounded, hv_column *out,
+                               hv_error *error) {
+    hv_error ignored;
+    return (hv_float_of_integers)(hv_lent(integers), to, is_rounded, out, HV_FIELDS);
+}
+HV_ANSWER hv_float_to_integers(const hv_column *floats, uint8_t to, hv_column *out, hv_error *error) {
+    hv_error ignored;
+    return (hv_float_to_integers)(hv_lent(floats), to, out, HV_FIELDS);
+}
 
 /* Reading many rows */
 HV_ANSWER hv_read_u8(const hv_column *column, size_t start, uint8_t *items, size_t len, hv_error *error) {

@@ -132,6 +132,10 @@ HV_EXPORT int32_t hv_float_at(hv_column *floats, size_t row, uint8_t *is_valid, 
 HV_EXPORT int32_t hv_float_min_max(hv_column *floats, uint8_t is_ieee, uint8_t *is_found, uint64_t *least,
                                    uint64_t *greatest, hv_error *error);
 HV_EXPORT int32_t hv_float_sum(hv_column *floats, uint64_t *count, uint64_t *bits, hv_error *error);
+HV_EXPORT int32_t hv_float_cast(hv_column *floats, uint8_t to, uint8_t is_rounded, hv_column *out, hv_error *error);
+HV_EXPORT int32_t hv_float_of_integers(hv_column *integers, uint8_t to, uint8_t is_rounded, hv_column *out,
+                                       hv_error *error);
+HV_EXPORT int32_t hv_float_to_integers(hv_column *floats, uint8_t to, hv_column *out, hv_error *error);
 
 /* Reading many rows */
 HV_EXPORT int32_t hv_read_u8(hv_column *column, size_t start, uint8_t *items, size_t len, hv_error *error);
@@ -249,6 +253,9 @@ HV_EXPORT void hv_free(hv_column *column);
 #define hv_float_at(...) hv_call_float_at(__VA_ARGS__)
 #define hv_float_min_max(...) hv_call_float_min_max(__VA_ARGS__)
 #define hv_float_sum(...) hv_call_float_sum(__VA_ARGS__)
+#define hv_float_cast(...) hv_call_float_cast(__VA_ARGS__)
+#define hv_float_of_integers(...) hv_call_float_of_integers(__VA_ARGS__)
+#define hv_float_to_integers(...) hv_call_float_to_integers(__VA_ARGS__)
 #define hv_read_u8(...) hv_call_read_u8(__VA_ARGS__)
 #define hv_read_u16(...) hv_call_read_u16(__VA_ARGS__)
 #define hv_read_u32(...) hv_call_read_u32(__VA_ARGS__)

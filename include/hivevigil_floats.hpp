@@ -88,12 +88,30 @@ public:
     // The exact sum of the rows that are not null, rounded once to a double: an infinity past the finite ones, NaN where
     // a row is or both infinities are.
     FloatSum sum() const {
-        if constexpr (sizeof(T) == 4) return widened().sum();
+        if constexpr (sizeof(T) == 4) return cast<double>().sum();
         FloatSum found{};
         uint64_t bits = 0;
         detail::ask([&](auto *error) { return hv_float_sum(&stored.handle, &found.rows, &bits, error); });
         std::memcpy(&found.total, &bits, sizeof bits);
         return found;
+    }
+
+    // ---- Cast, in as few runs as possible ----
+
+    // The same floats in another format; refused as HV_CAST_OUT_OF_RANGE where that does not have one, or the payload of
+    // a NaN.
+    template <class U> Floats<U> cast() const { return cast_by<U>(0); }
+    // The nearest floats in another format, at a tie the even ones: an infinity past the finite ones by half a step or
+    // more; the quiet NaN where the format does not have the payload of one.
+    template <class U> Floats<U> rounded() const { return cast_by<U>(1); }
+    // The floats that integers are, refused as HV_CAST_OUT_OF_RANGE where no float is one of them; or the nearest.
+    static Floats of_integers(const Column &integers) { return of_numbers(integers, 0); }
+    static Floats of_rounded_integers(const Column &integers) { return of_numbers(integers, 1); }
+    // The integers that the floats are; refused as HV_CAST_OUT_OF_RANGE where one is not an integer of the type.
+    Column to_integers(hv_kind kind) const {
+        return Column::made([&](auto *out, auto *error) {
+            return hv_float_to_integers(&stored.handle, kind.number, out, error);
+        });
     }
 
 private:
@@ -123,11 +141,16 @@ private:
     Column decoded() const {
         return Column::made([&](auto *out, auto *error) { return hv_float_decode(&stored.handle, out, error); });
     }
-    // The same numbers as doubles, which have them all.
-    Floats<double> widened() const {
-        std::vector<std::optional<double>> rows;
-        for (const auto &row : optionals()) rows.push_back(row ? std::optional<double>(*row) : std::nullopt);
-        return Floats<double>::of(rows);
+    template <class U> static constexpr uint8_t keys_of = sizeof(U) == 4 ? HV_I32 : HV_I64;
+    template <class U> Floats<U> cast_by(uint8_t is_rounded) const {
+        return Floats<U>(Column::made([&](auto *out, auto *error) {
+            return hv_float_cast(&stored.handle, keys_of<U>, is_rounded, out, error);
+        }));
+    }
+    static Floats of_numbers(const Column &integers, uint8_t is_rounded) {
+        return Floats(Column::made([&](auto *out, auto *error) {
+            return hv_float_of_integers(&integers.handle, keys_of<T>, is_rounded, out, error);
+        }));
     }
 };
 

@@ -11,11 +11,11 @@ static hv_error error;
 static hv_column flat = HV_EMPTY, runs = HV_EMPTY, part = HV_EMPTY, texts = HV_EMPTY, truths = HV_EMPTY,
                  decimals = HV_EMPTY;
 static hv_column ends = HV_EMPTY, values = HV_EMPTY, places = HV_EMPTY, constant = HV_EMPTY, large_texts = HV_EMPTY;
-static hv_column truth_runs = HV_EMPTY, place_runs = HV_EMPTY, text_runs = HV_EMPTY;
+static hv_column whole_floats = HV_EMPTY, truth_runs = HV_EMPTY, place_runs = HV_EMPTY, text_runs = HV_EMPTY;
 static hv_column lists = HV_EMPTY, list_runs = HV_EMPTY, decoded_lists = HV_EMPTY;
 static hv_column *const lent[] = {&flat, &runs,   &part,   &texts,    &truths,     &decimals,
                                   &ends, &values, &places, &constant, &large_texts, &truth_runs, &place_runs, &text_runs,
-                                  &lists, &list_runs, &decoded_lists};
+                                  &whole_floats, &lists, &list_runs, &decoded_lists};
 static char rows_before[COUNT(lent)][8192];
 /* constants of 2^60 rows, and a mask of as many in two runs; their rows are not shown */
 #define MANY (UINT64_C(1) << 60)
@@ -102,6 +102,7 @@ static void make_lent(void) {
     CHECK(!hv_decimals(pairs, 2, 10, 2, NO_NULLS, &decimals, &error));
     CHECK(!hv_ends(&part, &ends, &error) && !hv_values(&part, &values, &error));
     CHECK(!hv_u16(some_places, 5, NOT_NULLABLE, &places, &error));
+    CHECK(!hv_float_of_integers(&part, HV_I64, 0, &whole_floats, &error));
     make_run_columns();
     make_list_columns();
     make_many();
@@ -191,6 +192,11 @@ STEP(least_float, hv_float_min_max(&part, 1, &truth, words, words + 1, &error))
 STEP(first_float, hv_float_min_max(&flat, 0, &truth, words, words + 1, &error))
 STEP(sum_floats, hv_float_sum(&part, words, words + 1, &error))
 STEP(read_float, hv_float_at(&runs, 3, &truth, words, &error))
+STEP(cast_floats, hv_float_cast(&part, HV_I32, 1, &out, &error))
+STEP(cast_same_floats, hv_float_cast(&runs, HV_I64, 0, &out, &error))
+STEP(cast_integers, hv_float_of_integers(&runs, HV_I64, 0, &out, &error))
+STEP(round_integers, hv_float_of_integers(&flat, HV_I16, 1, &out, &error))
+STEP(cast_to_integers, hv_float_to_integers(&whole_floats, HV_U8, &out, &error))
 STEP(cast_constant, hv_cast(&session, &many, &i32_type, &out, &error))
 STEP(compare_constants, hv_compare(&session, &many, HV_LE, &as_many, &out, &error))
 STEP(compare_constant, hv_compare_scalar(&session, &many_texts, HV_GT, &letter, letters, 1, &out, &error))
@@ -411,7 +417,8 @@ static const step steps[] = {
     NAMED(connect_runs), NAMED(less_by_runs), NAMED(pick_runs), NAMED(negate_runs), NAMED(null_texts),
     NAMED(valid_runs), NAMED(choose_runs), NAMED(equal_runs), NAMED(hash_runs), NAMED(hash_texts), NAMED(parts_of_runs), NAMED(make_floats),
     NAMED(make_floats_of_runs), NAMED(decode_floats), NAMED(compare_floats), NAMED(order_floats), NAMED(least_float),
-    NAMED(first_float), NAMED(sum_floats), NAMED(read_float), NAMED(reverse_runs), NAMED(reverse_texts),
+    NAMED(first_float), NAMED(sum_floats), NAMED(read_float), NAMED(cast_floats), NAMED(cast_same_floats),
+    NAMED(cast_integers), NAMED(round_integers), NAMED(cast_to_integers), NAMED(reverse_runs), NAMED(reverse_texts),
     NAMED(sort_runs), NAMED(sort_texts), NAMED(sort_constant), NAMED(count_runs), NAMED(count_texts),
     NAMED(cast_constant), NAMED(compare_constants),
     NAMED(compare_constant), NAMED(fill_constant), NAMED(filter_constant), NAMED(sum), NAMED(sum_decimals),

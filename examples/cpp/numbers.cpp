@@ -2,6 +2,7 @@
 // say. Answers were worked out by hand; those of comparisons also row by row.
 #include "hivevigil.hpp"
 #include <array>
+#include <cmath>
 #include <cstdlib>
 #include <iostream>
 
@@ -379,6 +380,29 @@ static void check_float_sums() {
     }
 }
 
+// Casts, against the machine's own.
+static void check_float_casts() {
+    const std::vector<std::optional<double>> rows = {0.0, -0.0, 0.1, std::nullopt, 1.5, 16777217.0, 1e300, -1e300, 5e-324};
+    const auto floats = hv::Floats<double>::of(rows);
+    const auto singles = floats.rounded<float>().optionals();
+    for (size_t row = 0; row < rows.size(); row++) {
+        CHECK(singles[row].has_value() == rows[row].has_value());
+        if (!rows[row]) continue;
+        CHECK(*singles[row] == static_cast<float>(*rows[row]) && std::signbit(*singles[row]) == std::signbit(*rows[row]));
+    }
+    check_refused(HV_CAST_OUT_OF_RANGE, "a row does not fit the type", [&] { (void)floats.cast<float>(); });
+    const auto halves = hv::Floats<float>::of({1.5f, 1.5f, -0.0f}).cast<double>();
+    CHECK(halves.at(1) == 1.5 && std::signbit(*halves.at(2)) && halves.keys().values().size() == 2);
+    const Column integers = Column::of(std::vector<int64_t>{3, 3, -(int64_t{1} << 53), (int64_t{1} << 53) + 1});
+    CHECK(hv::Floats<double>::of_rounded_integers(integers).at(3) == 9007199254740992.0);
+    check_refused(HV_CAST_OUT_OF_RANGE, "a row does not fit the type",
+                  [&] { (void)hv::Floats<double>::of_integers(integers); });
+    const auto exact = hv::Floats<double>::of_integers(integers.slice(0, 3));
+    CHECK(exact.at(2) == -9007199254740992.0);
+    CHECK(exact.to_integers(hv::kinds::i64).numbers<int64_t>() == (std::vector<int64_t>{3, 3, -(int64_t{1} << 53)}));
+    check_refused(HV_CAST_OUT_OF_RANGE, "a row does not fit the type", [&] { (void)exact.to_integers(hv::kinds::u8); });
+}
+
 // ---- Sums of decimals ----
 
 // Integers of 128 bits added row by row, as long as they have 38 digits; the row that leaves them, or no row.
@@ -460,6 +484,7 @@ int main() {
     check_floats<float>();
     check_floats<double>();
     check_float_sums();
+    check_float_casts();
     check_same();
     check_types();
     check_decimals();

@@ -24,12 +24,17 @@ def cast(column: Column, kind: Kind, call: Optional[str] = None) -> Column:
         raise refused.saying(f"{name}: {_misfit(column, kind)}") from None
 
 
-def recounted(column: Column, kind: Kind, logical: Optional[LogicalType], call: str) -> Column:
+def recounted(
+    column: Column, kind: Kind, logical: Optional[LogicalType], call: str, rounded: bool = False
+) -> Column:
     """The rows as values of a logical type, or as the integers of one. Integers mean what the type says; times are
-    counted anew, exactly, once for each run, and are refused at the first row that has no such count."""
+    counted anew, exactly, once for each run, and are refused at the first row that has no such count. Only floats are
+    rounded."""
     before = column._logical
     if _floats.is_float(before) or _floats.is_float(logical):
-        return _float_columns.converted(column, kind, logical, call)
+        return _float_columns.converted(column, kind, logical, call, rounded)
+    if rounded:
+        raise TypeError(f"{call}: only floats are rounded")
     if before is None or logical is None or (before.sort, before.unit) == (logical.sort, logical.unit):
         if before is not None and logical is not None:
             _checked_kinds(before, logical, call)

@@ -5,10 +5,10 @@ import array
 import ctypes
 from typing import TYPE_CHECKING, Any, Callable, Optional
 
-from . import _floats, _reading, _runs
+from . import _floats, _reading
 from ._library import Kind, ask, calls, session
 from ._making import numbers_of, validity_of
-from ._types import TYPES, WHOLE_NUMBERS, range_of, text_of
+from ._types import TYPES, WHOLE_NUMBERS, range_of
 from ._values import NOT_FLOAT, is_missing, operator_of
 from .errors import CastOutOfRange, TypeMismatch, in_words
 from .logical import LogicalType, storage_of
@@ -219,9 +219,11 @@ def _flipped(mask: Column) -> Column:
 # ---- Conversions ----
 
 
-def converted(column: Column, kind: Kind, logical: Optional[LogicalType], call: str) -> Column:
-    """The same numbers as floats of a width, or as integers: exactly, once for each run, or refused at the first row that
-    the type does not have."""
+def converted(
+    column: Column, kind: Kind, logical: Optional[LogicalType], call: str, rounded: bool = False
+) -> Column:
+    """The same numbers as floats of a width, or as integers: exactly, or refused at the first row that the type does not
+    have; or the nearest floats. Each run is cast once."""
     if column._logical == logical:
         return _recast(column.storage(), kind, logical, call)
     name = str(logical) if logical is not None else TYPES[kind.number]
@@ -231,15 +233,39 @@ def converted(column: Column, kind: Kind, logical: Optional[LogicalType], call: 
         raise TypeMismatch().saying(
             f"{call}: {before} is not cast to {name}; floats are cast to floats and integers, and integers to floats"
         )
-    starts, values, remade = _each(column)
-    found: list[Any] = []
-    for start, value in zip(starts, values):
-        number = None if value is None else convert(value)
-        if number is None and value is not None:
-            raise CastOutOfRange().saying(f"{call}: row {start} is {in_words(value)}, which is not a value of {name}")
-        found.append(number)
-    made = remade(column.of(found, name))
-    return _recast(made.storage(), kind, logical, call)
+    if rounded and logical is None:
+        raise TypeError(f"{call}: only floats are rounded, and {name} has none; a float that is an integer is cast as it is")
+    try:
+        made = _in_form(column, lambda rows: _cast(rows, kind, logical, rounded))
+    except CastOutOfRange:
+        _refuse_misfit(column, convert, f"{call}: row", name)
+        made = _in_form(column, lambda rows: _cast(rows, kind, logical, True))  # only NaNs, without what they carry
+    return _recast(made, kind, logical, call)
+
+
+def _cast(column: Column, kind: Kind, logical: Optional[LogicalType], rounded: bool) -> Column:
+    """The keys of floats, or integers, in runs."""
+    if logical is None:
+        return column._made(calls.hv_float_to_integers, column, kind.number)
+    call = calls.hv_float_cast if _floats.is_float(column._logical) else calls.hv_float_of_integers
+    return column._made(call, column, kind.number, rounded)
+
+
+def _in_form(column: Column, make: Callable[[Column], Column]) -> Column:
+    """What is made of a column, as integers in the form of the column."""
+    rows = column._length
+    if column.form == "constant" and rows:
+        one = make(column.slice(0, 1)).storage()
+        return column.constant(one[0], rows, one.type)
+    made = make(column).storage()
+    return made if column.form == "runs" else made.decode()
+
+
+def _refuse_misfit(column: Column, convert: Callable[[Any], Any], said: str, name: str) -> None:
+    """Refuses the first row that is not a value of a type, if there is one."""
+    for start, _, value in column.runs():
+        if value is not None and convert(value) is None:
+            raise CastOutOfRange().saying(f"{said} {start} is {in_words(value)}, which is not a value of {name}") from None
 
 
 def _recast(storage: Column, kind: Kind, logical: Optional[LogicalType], call: str) -> Column:
@@ -266,25 +292,6 @@ def _conversion(column: Column, kind: Kind, logical: Optional[LogicalType]) -> O
         return number if number is not None and number in fits else None
 
     return whole
-
-
-def _each(column: Column) -> tuple[list[int], list[Any], Callable[[Column], Column]]:
-    """Where each run starts, and its value, and what makes a column of this form of other values; of a flat column each
-    row."""
-    rows = column._length
-    if column.form == "runs":
-        shown = _runs.visible(column)
-        ends = column.of(shown.stops, "u64")
-        return [0, *shown.stops], shown.values.to_list(), lambda values: values.from_runs(ends, values)
-    if column.form == "constant" and rows:
-        first = column.slice(0, 1).to_list()
-        return [0], first, lambda values: values.constant(values[0], rows, _type_of(values))
-    values = column.to_list()
-    return list(range(len(values))), values, lambda values: values
-
-
-def _type_of(column: Column) -> str:
-    return text_of(column._kind) if column._logical is None else f"{column._logical}{'?' * column.nullable}"
 
 
 def checked_number(logical: Any, value: Any) -> Any:

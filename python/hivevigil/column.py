@@ -275,15 +275,15 @@ class Column(_comparing.Comparisons, _pairs.Pairs):
         """The rows from `start` to `stop` - 1, all of which have to exist; `column[start:stop]` cuts as Python does."""
         return self._kept(calls.hv_slice, session, self, size_of(start, "the start"), size_of(stop, "the stop"))
 
-    def cast(self, type: Any, nullable: Optional[bool] = None) -> Column:
+    def cast(self, type: Any, nullable: Optional[bool] = None, *, rounded: bool = False) -> Column:
         """Each row as the same value of a type: refused at the first row that does not fit, or that is null where the
         type has no null. 'i8' has none, 'i8?' has, and so has each type with `nullable`. A cast of integers to
         'timestamp[us]' says what they count; one of timestamps counts the same times, exactly, in another unit. Floats
-        are cast to floats and integers, and integers to floats, exactly."""
+        are cast to floats and integers, and integers to floats, exactly; `rounded` takes the nearest float."""
         kind, logical = asked_type(type)
         kind.nullable = kind.nullable if nullable is None else nullable
-        if logical is not None or self._logical is not None:
-            return _casting.recounted(self, kind, logical, f"cast to {logical or text_of(kind)}")
+        if logical is not None or self._logical is not None or rounded:
+            return _casting.recounted(self, kind, logical, f"cast to {logical or text_of(kind)}", bool(rounded))
         return _casting.cast(self, kind)
 
     def take(self, indices: Any) -> Column:

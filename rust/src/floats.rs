@@ -1,6 +1,6 @@
 //! Columns of floats, stored by their keys.
 use crate::column::turn_of;
-use crate::{ask, raw, Column, Error, ErrorKind, Kind, Operator};
+use crate::{ask, raw, Column, Error, ErrorKind, Kind, Native, Operator};
 use std::marker::PhantomData;
 
 /// Has the values of floats of 32 or 64 bits.
@@ -22,8 +22,6 @@ mod sealed {
         fn column(rows: &[Self], valid: Option<&[bool]>) -> Result<Column, Error>;
         /// Returns the bits that a column has.
         fn read(bits: &Column) -> Result<Vec<Option<u64>>, Error>;
-        /// Returns the same number with 64 bits.
-        fn wide(self) -> f64;
     }
 }
 
@@ -46,9 +44,6 @@ macro_rules! float {
             fn read(bits: &Column) -> Result<Vec<Option<u64>>, Error> {
                 let rows = bits.options::<$bits>()?;
                 Ok(rows.into_iter().map(|row| row.map(u64::from)).collect())
-            }
-            fn wide(self) -> f64 {
-                f64::from(self)
             }
         }
     )* };
@@ -191,7 +186,7 @@ impl<T: Float> Floats<T> {
     /// is or both infinities are. Returns the sum and how many rows were added.
     pub fn sum(&self) -> Result<(f64, u64), Error> {
         if T::KEYS != f64::KEYS {
-            return self.widened()?.sum();
+            return self.cast::<f64>()?.sum();
         }
         let (mut count, mut bits) = (0, 0);
         ask(|fields| unsafe {
@@ -200,10 +195,66 @@ impl<T: Float> Floats<T> {
         Ok((f64::from_bits(bits), count))
     }
 
-    fn widened(&self) -> Result<Floats<f64>, Error> {
-        let rows = self.options()?;
-        let wide: Vec<Option<f64>> = rows.into_iter().map(|row| row.map(T::wide)).collect();
-        Floats::of_options(&wide)
+    /// Returns the same floats in another format, in as few runs as possible; refused as `CastOutOfRange` where that does
+    /// not have one, or the payload of a NaN.
+    ///
+    /// ```
+    /// use hivevigil::Floats;
+    /// let singles = Floats::of(&[1.5f64, 1.5, f64::NAN])?.cast::<f32>()?;
+    /// assert_eq!(singles.at(1)?, Some(1.5f32));
+    /// assert!(Floats::of(&[0.1f64])?.cast::<f32>().is_err());
+    /// assert_eq!(Floats::of(&[0.1f64])?.rounded::<f32>()?.at(0)?, Some(0.1f32));
+    /// # Ok::<(), hivevigil::Error>(())
+    /// ```
+    pub fn cast<U: Float>(&self) -> Result<Floats<U>, Error> {
+        self.cast_by(0)
+    }
+
+    /// Returns the nearest floats in another format, at a tie the even ones: an infinity past the finite ones by half a
+    /// step or more; the quiet NaN where the format does not have the payload of one.
+    pub fn rounded<U: Float>(&self) -> Result<Floats<U>, Error> {
+        self.cast_by(1)
+    }
+
+    fn cast_by<U: Float>(&self, is_rounded: u8) -> Result<Floats<U>, Error> {
+        let to = U::KEYS.number;
+        Floats::of_keys(self.keys.part(|keys, out, fields| unsafe {
+            raw::hv_float_cast(keys, to, is_rounded, out, fields)
+        })?)
+    }
+
+    /// Makes the floats that the integers of a column are, in as few runs as possible; refused as `TypeMismatch` unless
+    /// they are integers, and as `CastOutOfRange` where no float is one of them.
+    ///
+    /// ```
+    /// use hivevigil::{Column, Floats};
+    /// let counts = Column::new(&[3u8, 3, 0])?;
+    /// let floats = Floats::<f32>::of_integers(&counts)?;
+    /// assert_eq!(floats.at(0)?, Some(3.0));
+    /// assert_eq!(floats.to_integers::<u8>()?.decode()?.numbers::<u8>()?, [3, 3, 0]);
+    /// # Ok::<(), hivevigil::Error>(())
+    /// ```
+    pub fn of_integers(integers: &Column) -> Result<Floats<T>, Error> {
+        Floats::of_numbers(integers, 0)
+    }
+
+    /// Makes the floats that are nearest to the integers of a column, at a tie the even ones.
+    pub fn of_rounded_integers(integers: &Column) -> Result<Floats<T>, Error> {
+        Floats::of_numbers(integers, 1)
+    }
+
+    fn of_numbers(integers: &Column, is_rounded: u8) -> Result<Floats<T>, Error> {
+        Floats::of_keys(integers.part(|integers, out, fields| unsafe {
+            raw::hv_float_of_integers(integers, T::KEYS.number, is_rounded, out, fields)
+        })?)
+    }
+
+    /// Returns the integers that the floats are, in as few runs as possible; refused as `CastOutOfRange` where a float is
+    /// not an integer of the type.
+    pub fn to_integers<N: Native>(&self) -> Result<Column, Error> {
+        self.keys.part(|keys, out, fields| unsafe {
+            raw::hv_float_to_integers(keys, N::KIND.number, out, fields)
+        })
     }
 
     fn of_bits(bits: &Column) -> Result<Floats<T>, Error> {

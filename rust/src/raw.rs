@@ -422,6 +422,26 @@ extern "C" {
         bits: *mut u64,
         error: *mut Fields,
     ) -> i32;
+    pub fn hv_float_cast(
+        floats: *mut Handle,
+        to: u8,
+        is_rounded: u8,
+        out: *mut Handle,
+        error: *mut Fields,
+    ) -> i32;
+    pub fn hv_float_of_integers(
+        integers: *mut Handle,
+        to: u8,
+        is_rounded: u8,
+        out: *mut Handle,
+        error: *mut Fields,
+    ) -> i32;
+    pub fn hv_float_to_integers(
+        floats: *mut Handle,
+        to: u8,
+        out: *mut Handle,
+        error: *mut Fields,
+    ) -> i32;
     pub fn hv_read_u8(
         column: *mut Handle,
         start: usize,

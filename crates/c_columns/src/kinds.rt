@@ -97,6 +97,23 @@ pub fn varbin_kind(binary: u8) -> VarBinKind
     }
 }
 
+/// Returns the type of integers of this number; none from 8 on.
+pub fn ptype_by(number: u8) -> Option<PType>
+    ensures { result ≡ ptype_by_number number }
+{
+    match number {
+        0 => Some(PType::U8),
+        1 => Some(PType::U16),
+        2 => Some(PType::U32),
+        3 => Some(PType::U64),
+        4 => Some(PType::I8),
+        5 => Some(PType::I16),
+        6 => Some(PType::I32),
+        7 => Some(PType::I64),
+        _ => None,
+    }
+}
+
 /// Returns whether the flag is not 0.
 pub fn is_set(flag: u8) -> bool
     ensures { result ≡ flag_of flag }
@@ -128,22 +145,6 @@ fn number_of(ptype: PType) -> u8
         PType::I16 => 5,
         PType::I32 => 6,
         PType::I64 => 7,
-    }
-}
-
-fn ptype_by(number: u8) -> Option<PType>
-    ensures { result ≡ ptype_by_number number }
-{
-    match number {
-        0 => Some(PType::U8),
-        1 => Some(PType::U16),
-        2 => Some(PType::U32),
-        3 => Some(PType::U64),
-        4 => Some(PType::I8),
-        5 => Some(PType::I16),
-        6 => Some(PType::I32),
-        7 => Some(PType::I64),
-        _ => None,
     }
 }
 

@@ -35,7 +35,7 @@ Fault = DType → Option VortexError
 
 -- ---- The fault of a type comes first ----
 
-first_of : {B : Type 0} (holds : Bool) (outcome : Result B VortexError) (error : VortexError) → (holds ≡ false → IsErrOf outcome TypeMismatch) → (if holds then None else Some TypeMismatch) ≡ Some error → IsErrOf outcome error
+pub first_of : {B : Type 0} (holds : Bool) (outcome : Result B VortexError) (error : VortexError) → (holds ≡ false → IsErrOf outcome TypeMismatch) → (if holds then None else Some TypeMismatch) ≡ Some error → IsErrOf outcome error
 first_of true outcome error mismatch is = absurd (cc)
 first_of false outcome error mismatch is = mismatch refl ∙ ap Err (cc)
 
@@ -51,7 +51,7 @@ no_doubles t outcome error = first_of (is_doubles t) outcome error
 -- ---- Endings ----
 
 -- what is refused without a fault is refused for memory
-short_only : (error : VortexError) → IsErrorFor None error → error ≡ OutOfMemory
+pub short_only : (error : VortexError) → IsErrorFor None error → error ≡ OutOfMemory
 short_only error (inl short) = short
 short_only error (inr found) = absurd (cc)
 

@@ -5,3 +5,4 @@ pub mod FloatEndings
 pub mod OrderEndings
 pub mod DecimalEndings
 pub mod PartEndings
+pub mod CastEndings

@@ -8,3 +8,4 @@ pub mod Floats
 pub mod Ordered
 pub mod Decimals
 pub mod SumParts
+pub mod FloatCasts

@@ -1,15 +1,16 @@
 //! Columns that are made of columns of floats or of their bits, on the heap.
-ghost use Rattle.std.specs.Prelude.{◌≡◌, IfOk, IsErrOf, Some};
+ghost use Rattle.std.specs.Prelude.{◌≡◌, IfOk, IsErrOf, IsOkUnless, Some};
 ghost use Rattle.column_core.specs.Refusal.{IsRefusedBy};
 ghost use Rattle.column_floats.specs.Formats.{bits_fault, constant_fault, floats_fault};
-ghost use Rattle.runend_array.specs.Array.{dtype_of};
+ghost use Rattle.runend_array.specs.Array.{column_of, dtype_of};
+ghost use Rattle.runend_array.specs.Column.{column_of_runs};
 ghost use Rattle.c_kernels.specs.Floats.{AreBitsOf, AreComparedBy, AreFloatsOf, patterns_by};
 
 use c_columns::flat::{Boxed, boxed};
 use c_columns::sessions::plain_context;
 use column_core::{VortexError, VortexResult};
 use column_ops::CompareOperator;
-use runend_array::ArrayRef;
+use runend_array::{ArrayRef, RunEndArray};
 use runend_floats::{FloatPatterns, compare_numbers, compare_total, decode_floats, encode_floats};
 use std::alloc::Global;
 
@@ -24,7 +25,7 @@ pub fn encoded(alloc: Global, bits: &ArrayRef<Global>, is_canonical: bool) -> Vo
 {
     let patterns = patterns_of(is_canonical);
     let runs = encode_floats(bits, patterns, &mut plain_context(alloc))?;
-    boxed(alloc, ArrayRef::of_runs(alloc, runs)?)
+    boxed_runs(alloc, runs)
 }
 
 /// Returns the bits of the floats, flat, null where the row is. Refused as `TypeMismatch` exactly unless the type is
@@ -60,6 +61,14 @@ pub fn compared(
     } else {
         boxed(alloc, compare_total(floats, operator, bits, &mut ctx)?)
     }
+}
+
+/// Puts a run column on the heap. Refused only as `OutOfMemory`.
+pub(crate) fn boxed_runs(alloc: Global, runs: RunEndArray<Global>) -> VortexResult<Boxed>
+    ensures only { IsOkUnless result VortexError.OutOfMemory }
+    ensures form { IfOk result (λ made. column_of made.value ≡ column_of_runs runs) }
+{
+    boxed(alloc, ArrayRef::of_runs(alloc, runs)?)
 }
 
 // Which patterns are stored.

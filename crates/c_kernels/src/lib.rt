@@ -3,6 +3,7 @@
 //! of integers; and the sum of decimals.
 #![tactic(auto)]
 
+mod cast_calls;
 mod chosen;
 mod combined;
 mod counted;
@@ -10,6 +11,7 @@ mod decimal_calls;
 mod equal;
 mod float_answers;
 mod float_calls;
+mod float_casts;
 mod float_columns;
 mod float_questions;
 mod group_calls;
@@ -23,6 +25,7 @@ mod part_calls;
 mod reordered;
 mod tested;
 
+pub use cast_calls::{cast_floats_handle, cast_integers_handle, cast_keys_handle};
 pub use chosen::choose_handles;
 pub use combined::combine;
 pub use counted::{BoxedCounts, count_values};
@@ -31,6 +34,7 @@ pub use equal::{are_equal, equal_handles};
 pub use float_calls::{
     compare_handle, decode_handle, encode_handle, float_in_handle, min_max_in_handle, sum_in_handle,
 };
+pub use float_casts::{floats_cast, format_numbered, integers_cast, keys_cast};
 pub use float_columns::{compared, decoded, encoded};
 pub use float_questions::{FloatExtremes, RoundedSum, extremes, float_of_row, sum_of};
 pub use group_calls::fold_handles;

@@ -3,6 +3,7 @@
 //! `include/hivevigil.h` says what each call answers, who owns what, and what a caller owes.
 #![tactic(auto)]
 
+mod casts;
 mod commands;
 mod constants;
 mod decimals;
