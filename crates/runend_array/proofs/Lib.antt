@@ -15,3 +15,4 @@ pub mod WrittenLeaves
 pub mod NullLists
 pub mod Encodings
 pub mod Parts
+pub mod OuterRuns

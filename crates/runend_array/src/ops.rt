@@ -48,6 +48,36 @@ pub fn find_slice_end_index<A: Allocator + Copy>(ends: &ArrayRef<A>, index: usiz
     }
 }
 
+/// Returns the run of a row as `find_physical_index` does, without a search where it is the first run.
+pub(crate) fn run_from_first<A: Allocator + Copy>(ends: &ArrayRef<A>, index: usize) -> usize
+    requires plain { IsPlainEnds (column_of ends.now) }
+    requires increasing { IsStrictlyIncreasing (end_numbers (column_of ends.now)) }
+    requires some { 0 < length (end_numbers (column_of ends.now)) }
+    ensures { result ≡ min (count_by (λ e. nat_le e index) (end_numbers (column_of ends.now)))
+        (length (end_numbers (column_of ends.now)) - 1) }
+{
+    if index < end_of_run(ends, 0) {
+        return 0;
+    }
+    find_physical_index(ends, index)
+}
+
+/// Returns where a slice that ends before row `index` stops as `find_slice_end_index` does, without a search where no
+/// run ends past the row.
+pub(crate) fn slice_end_from_last<A: Allocator + Copy>(ends: &ArrayRef<A>, index: usize) -> usize
+    requires plain { IsPlainEnds (column_of ends.now) }
+    requires increasing { IsStrictlyIncreasing (end_numbers (column_of ends.now)) }
+    requires some { 0 < length (end_numbers (column_of ends.now)) }
+    ensures { result ≡ min (count_by (λ e. nat_lt e index) (end_numbers (column_of ends.now)) + 1)
+        (length (end_numbers (column_of ends.now))) }
+{
+    let runs = run_count(ends);
+    if end_of_run(ends, runs - 1) <= index {
+        return runs;
+    }
+    find_slice_end_index(ends, index)
+}
+
 /// Returns the run of a row, over a column of strictly increasing ends: the first run that ends past it, or the number
 /// of runs where none does.
 pub(crate) fn run_of<A: Allocator + Copy>(ends: &ArrayRef<A>, row: usize) -> usize

@@ -128,8 +128,8 @@ impl<A: Allocator + Copy> RunEndArray<A> {
         ensures window { IsWindow (slice_range self.now.ends result.start result.end) (self.now.offset + start)
             (stop - start) }
     {
-        let first = ops::find_physical_index(&self.ends, self.offset + start);
-        let stop = ops::find_slice_end_index(&self.ends, self.offset + stop);
+        let first = ops::run_from_first(&self.ends, self.offset + start);
+        let stop = ops::slice_end_from_last(&self.ends, self.offset + stop);
         first..stop
     }
 

@@ -15,8 +15,8 @@ first_of ends offset count start first window h place =
     let counted = run_at-count_by ends (offset + start) window.increasing in
     omega arith
 
-pub find_physical_index-first-requires-clause-some : goal.find_physical_index-first-requires-clause-some
-find_physical_index-first-requires-clause-some g c =
+pub run_from_first-first-requires-clause-some : goal.run_from_first-first-requires-clause-some
+run_from_first-first-requires-clause-some g c =
     let within = rw (← c.self.view_is) at c.requires.within in
     some_runs _ c.self.inside.offset c.self.inside.length c.self.invariant.runs.window (omega (arith, c.requires.some, within))
 
@@ -25,14 +25,14 @@ returns-clause-first g c =
     let runs = runs_of (column_of c.self.inside.ends) (column_of c.self.inside.values) c.self.inside.offset c.self.inside.length in
     let within = rw (← c.self.view_is) at c.requires.within in
     rw (← c.self.view_is)
-    (first_of runs.ends runs.offset runs.count c.args.start c.find_physical_index-first.result c.self.invariant.runs.window (omega (arith, c.requires.some, within)) c.find_physical_index-first.ensures)
+    (first_of runs.ends runs.offset runs.count c.args.start c.run_from_first-first.result c.self.invariant.runs.window (omega (arith, c.requires.some, within)) c.run_from_first-first.ensures)
 
 pub returns-clause-last : goal.returns-clause-last
 returns-clause-last g c =
     let runs = runs_of (column_of c.self.inside.ends) (column_of c.self.inside.values) c.self.inside.offset c.self.inside.length in
     let within = rw (← c.self.view_is) at c.requires.within in
     rw (← c.self.view_is)
-    (c.find_slice_end_index-stop.ensures ∙ slice_end runs.ends runs.offset runs.count c.args.start c.args.stop c.self.invariant.runs.window c.requires.some within)
+    (c.slice_end_from_last-stop.ensures ∙ slice_end runs.ends runs.offset runs.count c.args.start c.args.stop c.self.invariant.runs.window c.requires.some within)
 
 pub returns-clause-ordered : goal.returns-clause-ordered
 returns-clause-ordered g c =
@@ -40,8 +40,8 @@ returns-clause-ordered g c =
     let within = rw (← c.self.view_is) at c.requires.within in
     let window = c.self.invariant.runs.window in
     let order = first_le_last runs.ends runs.offset runs.count c.args.start c.args.stop window c.requires.some within in
-    let first = first_of runs.ends runs.offset runs.count c.args.start c.find_physical_index-first.result window (omega (arith, c.requires.some, within)) c.find_physical_index-first.ensures in
-    let last = c.find_slice_end_index-stop.ensures ∙ slice_end runs.ends runs.offset runs.count c.args.start c.args.stop window c.requires.some within in
+    let first = first_of runs.ends runs.offset runs.count c.args.start c.run_from_first-first.result window (omega (arith, c.requires.some, within)) c.run_from_first-first.ensures in
+    let last = c.slice_end_from_last-stop.ensures ∙ slice_end runs.ends runs.offset runs.count c.args.start c.args.stop window c.requires.some within in
     omega (arith, order, first, last)
 
 pub returns-clause-window : goal.returns-clause-window
@@ -49,6 +49,6 @@ returns-clause-window g c =
     let runs = runs_of (column_of c.self.inside.ends) (column_of c.self.inside.values) c.self.inside.offset c.self.inside.length in
     let within = rw (← c.self.view_is) at c.requires.within in
     let window = c.self.invariant.runs.window in
-    let first = first_of runs.ends runs.offset runs.count c.args.start c.find_physical_index-first.result window (omega (arith, c.requires.some, within)) c.find_physical_index-first.ensures in
-    let last = c.find_slice_end_index-stop.ensures ∙ slice_end runs.ends runs.offset runs.count c.args.start c.args.stop window c.requires.some within in
+    let first = first_of runs.ends runs.offset runs.count c.args.start c.run_from_first-first.result window (omega (arith, c.requires.some, within)) c.run_from_first-first.ensures in
+    let last = c.slice_end_from_last-stop.ensures ∙ slice_end runs.ends runs.offset runs.count c.args.start c.args.stop window c.requires.some within in
     rw (← c.self.view_is) (rw (first, last) (IsWindow-narrowed runs.ends runs.offset runs.count c.args.start c.args.stop window c.requires.some within))
