@@ -11,14 +11,11 @@ pub mod Selected
 pub mod Reached
 pub mod FirstBits
 pub mod KeptSoFar
+pub mod KeptPlaces
 pub mod Grown
 pub mod Filtered
 pub mod TakenRuns
 pub mod KeptColumn
-pub mod LeastColumn
-pub mod LeastParts
-pub mod LeastSoFar
-pub mod MarkedRuns
 pub mod AllNull
 pub mod SelectLaws
 pub mod Forms

@@ -1,5 +1,6 @@
 -- The runs of the rows that a mask selects.
 use Rattle.std.specs.Prelude.{◌≡◌, ◌↔◌, ℕ, ◌+◌, ◌-◌, ◌<◌, true, Some, List, Bool, length, map, take, count_by, slice_get}
+use Rattle.column_base.specs.Bits.{set_indices_of}
 use Rattle.column_ops.specs.Filter.{filter_rows}
 use Rattle.runend_windows.specs.Window.{run_at}
 
@@ -18,3 +19,9 @@ pub record AreKept (ends : List ℕ) (offset : ℕ) (bits kept : List Bool) (kep
   pub paired : length kept ≡ length ends
   pub each : (run : ℕ) → run < length ends → (slice_get kept run ≡ Some true) ↔ HasSelectedRow ends offset bits run
   pub counted : kept_ends ≡ filter_rows kept (map (selected_before bits offset) ends)
+
+-- the places of the kept runs, in ascending order, and their ends
+pub record AreKeptAt (ends : List ℕ) (offset : ℕ) (bits : List Bool) (places kept_ends : List ℕ) : Type 0 where
+  pub kept : List Bool
+  pub are : AreKept ends offset bits kept kept_ends
+  pub placed : places ≡ set_indices_of kept

@@ -5,8 +5,6 @@ pub mod StrategyLaws
 pub mod Ranks
 pub mod WordRanks
 pub mod KeptRuns
-pub mod LeastSelected
-pub mod Shown
 pub mod RunsOf
 pub mod FilterForm
 pub mod TakeForm

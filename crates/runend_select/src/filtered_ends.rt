@@ -1,5 +1,5 @@
-//! The runs of the rows that a mask selects, and where they end among these rows.
-ghost use Rattle.std.specs.Prelude.{◌≡◌, ◌+◌, ◌<◌, ◌≤◌, ◌∷◌, ◌++◌, [], true, false, vec_capacity, vec_len, pos, All, IfOk, IsOkUnless, length as item_count, map, unsigned_abs};
+//! The runs of the rows that a mask selects: which they are, and where they end among these rows.
+ghost use Rattle.std.specs.Prelude.{◌≡◌, ◌↔◌, ℕ, ◌+◌, ◌<◌, ◌≤◌, ◌∷◌, ◌++◌, [], true, false, vec_capacity, vec_len, pos, All, Contains, IfOk, IsOkUnless, Some, length as item_count, map, slice_get, unsigned_abs};
 ghost use Rattle.std.specs.List.Sorted.{IsStrictlyIncreasing};
 ghost use Rattle.column_base.specs.Mask.{mask_bits, IsNormalMask};
 ghost use Rattle.column_base.specs.Numbers.{numbers, ptype_of};
@@ -7,15 +7,14 @@ ghost use Rattle.column_base.specs.Types.{HasNumber, IsUnsigned};
 ghost use Rattle.column_base.specs.ValidityForm.{NeverNull};
 ghost use Rattle.runend_windows.specs.Ends.{ends_of};
 ghost use Rattle.runend_windows.specs.Window.{last_end, typed_ends};
-ghost use Rattle.runend_select.specs.KeptRuns.{AreKept};
+ghost use Rattle.runend_select.specs.KeptRuns.{AreKept, AreKeptAt};
 
-use crate::rank::{ones_before, rank_within_word};
+use crate::rank::{rank_of, word_ranks};
 use column_base::match_each_unsigned;
 use column_core::{
-    BitBuffer, BitBufferMut, Mask, NativePType, PrimitiveArray, PrimitiveValues, UnsignedPType,
-    Validity, VortexError, VortexResult,
+    BitBuffer, Mask, NativePType, PrimitiveArray, PrimitiveValues, UnsignedPType, Validity,
+    VortexError, VortexResult,
 };
-use column_ops::BitWriter;
 use runend_array::ExecutionCtx;
 use runend_windows::reach_of;
 use std::alloc::Allocator;
@@ -46,27 +45,59 @@ pub fn filter_run_end_primitive<E: UnsignedPType, A: Allocator + Copy>(
     let stored = E::wrap(Vec::from_slice(alloc, ends)?);
     let parts = filter_ends(alloc, &stored, offset as usize, length as usize, mask);
     drop(stored);
-    parts
+    let (kept_ends, places) = parts?;
+    let kept = mask_of_places(alloc, places.as_slice(), ends.len());
+    drop(places);
+    match kept {
+        Ok(kept) => Ok((kept_ends, kept)),
+        Err(error) => {
+            drop(kept_ends);
+            Err(error)
+        }
+    }
 }
 
-/// Returns the kept runs and their ends, as `filter_run_end_primitive` makes them, for the ends of a buffer.
+// The mask of all runs that is true at these places.
+fn mask_of_places<A: Allocator + Copy>(
+    alloc: A,
+    places: &[u64],
+    runs: usize,
+) -> VortexResult<Mask<A>>
+    requires ascending { IsStrictlyIncreasing places.now }
+    requires within { All (λ place. place < runs) places.now }
+    ensures only { IsOkUnless result VortexError.OutOfMemory }
+    ensures selected { IfOk result (λ mask. (run : ℕ) → run < runs → ((slice_get (mask_bits mask) run ≡ Some true) ↔
+        Contains places.now run)) }
+    ensures len { IfOk result (λ mask. item_count (mask_bits mask) ≡ runs) }
+    ensures normal { IfOk result (λ mask. IsNormalMask mask) }
+{
+    let mut indices = Vec::with_capacity(alloc, places.len())?;
+    for place in places {
+        indices.push_reserved(*place as usize);
+    }
+    let mask = Mask::from_indices(alloc, runs, indices.as_slice());
+    drop(indices);
+    mask
+}
+
+/// Returns the ends of the kept runs among the selected rows, as `filter_run_end_primitive` makes them, and the places
+/// of these runs among the given ones, in ascending order. Refused only as `OutOfMemory`.
 pub(crate) fn filter_ends<A: Allocator + Copy>(
     alloc: A,
     ends: &PrimitiveValues<A>,
     offset: usize,
     count: usize,
     mask: &BitBuffer<A>,
-) -> VortexResult<(PrimitiveArray<A>, Mask<A>)>
+) -> VortexResult<(PrimitiveArray<A>, Vec<u64, A>)>
     requires unsigned { IsUnsigned (ptype_of ends.now) }
     requires increasing { IsStrictlyIncreasing (map unsigned_abs (numbers ends.now)) }
     requires last { 0 < count → offset + count ≤ last_end (map unsigned_abs (numbers ends.now)) }
     requires masked { item_count mask.now ≡ count }
     ensures only { IsOkUnless result VortexError.OutOfMemory }
-    ensures kept { IfOk result (λ parts. AreKept (map unsigned_abs (numbers ends.now)) offset mask.now
-        (mask_bits parts.1) (ends_of parts.0)) }
+    ensures kept { IfOk result (λ parts. AreKeptAt (map unsigned_abs (numbers ends.now)) offset mask.now parts.1.items
+        (ends_of parts.0)) }
     ensures typed { IfOk result (λ parts. parts.0.ptype ≡ ptype_of ends.now) }
     ensures required { IfOk result (λ parts. parts.0.validity ≡ NeverNull) }
-    ensures normal { IfOk result (λ parts. IsNormalMask parts.1) }
 {
     match_each_unsigned!(ends, items => {
         let stored = items.as_slice();
@@ -74,83 +105,79 @@ pub(crate) fn filter_ends<A: Allocator + Copy>(
     })
 }
 
+// The same for ends as they are stored.
 fn filter_stored<E: UnsignedPType, A: Allocator + Copy>(
     alloc: A,
     ends: &[E],
     offset: usize,
     count: usize,
     mask: &BitBuffer<A>,
-) -> VortexResult<(PrimitiveArray<A>, Mask<A>)>
+) -> VortexResult<(PrimitiveArray<A>, Vec<u64, A>)>
     requires fits { All (λ end. HasNumber E.PTYPE (E.number end)) ends.now }
     requires increasing { IsStrictlyIncreasing (typed_ends E.number ends.now) }
     requires last { 0 < count → offset + count ≤ last_end (typed_ends E.number ends.now) }
     requires masked { item_count mask.now ≡ count }
     ensures only { IsOkUnless result VortexError.OutOfMemory }
-    ensures kept { IfOk result (λ parts. AreKept (typed_ends E.number ends.now) offset mask.now
-        (mask_bits parts.1) (ends_of parts.0)) }
+    ensures kept { IfOk result (λ parts. AreKeptAt (typed_ends E.number ends.now) offset mask.now parts.1.items
+        (ends_of parts.0)) }
     ensures typed { IfOk result (λ parts. parts.0.ptype ≡ E.PTYPE) }
     ensures required { IfOk result (λ parts. parts.0.validity ≡ NeverNull) }
-    ensures normal { IfOk result (λ parts. IsNormalMask parts.1) }
 {
-    let (counts, kept) = filtered_ends(alloc, ends, offset, count, mask)?;
+    let (counts, places) = kept_places(alloc, ends, offset, count, mask)?;
     let kept_ends = PrimitiveArray::new_unchecked(E::wrap(counts), Validity::NonNullable);
-    Ok((kept_ends, Mask::from_buffer(kept.freeze())))
+    Ok((kept_ends, places))
 }
 
-// The ends of the runs with a selected row, and whether each run has one.
-fn filtered_ends<E: UnsignedPType, A: Allocator + Copy>(
+// The ends of the kept runs, and their places.
+fn kept_places<E: UnsignedPType, A: Allocator + Copy>(
     alloc: A,
     ends: &[E],
     offset: usize,
     count: usize,
     mask: &BitBuffer<A>,
-) -> VortexResult<(Vec<E, A>, BitBufferMut<A>)>
+) -> VortexResult<(Vec<E, A>, Vec<u64, A>)>
     requires fits { All (λ end. HasNumber E.PTYPE (E.number end)) ends.now }
     requires increasing { IsStrictlyIncreasing (typed_ends E.number ends.now) }
     requires last { 0 < count → offset + count ≤ last_end (typed_ends E.number ends.now) }
     requires masked { item_count mask.now ≡ count }
     ensures only { IsOkUnless result VortexError.OutOfMemory }
-    ensures kept { IfOk result (λ parts. AreKept (typed_ends E.number ends.now) offset mask.now parts.1
+    ensures kept { IfOk result (λ parts. AreKeptAt (typed_ends E.number ends.now) offset mask.now parts.1.items
         (typed_ends E.number parts.0.items)) }
 {
+    let ranks = word_ranks(alloc, mask)?;
     let mut kept_ends = Vec::with_capacity(alloc, ends.len())?;
-    let mut kept = BitWriter::with_capacity(alloc, ends.len())?;
-    let mut index = 0;
-    let mut before = 0;
+    let mut places = Vec::with_capacity(alloc, ends.len())?;
     let mut selected = 0;
     for run in 0..ends.len() {
         let reach = reach_of(ends, run, offset, count);
-        before = ones_before(mask, index, before, reach);
-        index = reach / 64;
-        let passed = rank_within_word(mask, before, reach);
+        let passed = rank_of(mask, ranks.as_slice(), reach);
         let more = passed - selected;
         push_where(&mut kept_ends, end_of(passed), more > 0);
-        kept.append(more > 0)?;
+        push_where(&mut places, run as u64, more > 0);
         selected = passed;
     }
-    let kept = kept.finish(ends.len())?;
-    Ok((kept_ends, kept))
+    drop(ranks);
+    Ok((kept_ends, places))
 }
 
-/// Appends an item of a run where that run is kept. It is written in any case, and cut off again where it is not: no
-/// branch depends on the mask, which nobody foresees.
+// Appends an item of a run where that run is kept. It is written in any case, and cut off again where it is not: no
+// branch depends on the mask, which nobody foresees.
 #[inline(always)]
-pub(crate) fn push_where<E: Copy + Drop, A: Allocator>(ends: &mut Vec<E, A>, end: E, is_kept: bool)
-    requires { vec_len ends.old < vec_capacity ends.old }
-    ensures kept { is_kept ≡ true → ends.new.items ≡ ends.old.items ++ end ∷ [] }
-    ensures dropped { is_kept ≡ false → ends.new.items ≡ ends.old.items }
-    ensures few { vec_len ends.new ≤ vec_len ends.old + 1 }
-    ensures fewer { is_kept ≡ false → vec_len ends.new ≤ vec_len ends.old }
-    ensures capacity { vec_capacity ends.old ≤ vec_capacity ends.new }
+fn push_where<T: Copy + Drop, A: Allocator>(items: &mut Vec<T, A>, item: T, is_kept: bool)
+    requires { vec_len items.old < vec_capacity items.old }
+    ensures kept { is_kept ≡ true → items.new.items ≡ items.old.items ++ item ∷ [] }
+    ensures dropped { is_kept ≡ false → items.new.items ≡ items.old.items }
+    ensures few { vec_len items.new ≤ vec_len items.old + 1 }
+    ensures capacity { vec_capacity items.old ≤ vec_capacity items.new }
 {
-    let count = ends.len() + usize::from(is_kept);
-    ends.push_reserved(end);
-    ends.truncate(count);
+    let count = items.len() + usize::from(is_kept);
+    items.push_reserved(item);
+    items.truncate(count);
 }
 
-/// Makes an end of a number of rows.
+// A number of rows, as an end.
 #[inline(always)]
-pub(crate) fn end_of<E: NativePType>(rows: usize) -> E
+fn end_of<E: NativePType>(rows: usize) -> E
     requires { HasNumber E.PTYPE (pos rows) }
     ensures { E.number result ≡ pos rows }
 {

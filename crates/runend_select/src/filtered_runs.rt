@@ -1,11 +1,12 @@
 //! The runs that a mask selects rows of, as run columns: of integers in minimal form.
-ghost use Rattle.std.specs.Prelude.{◌≡◌, true, IfOk, IsOkUnless, count_by, length};
-ghost use Rattle.column_base.specs.Mask.{mask_bits};
+ghost use Rattle.std.specs.Prelude.{◌≡◌, true, IfOk, IsOkUnless, count_by, length, replicate};
 ghost use Rattle.column_core.specs.Computed.{IsComputed};
 ghost use Rattle.column_core.specs.Kinds.{is_numbers};
 ghost use Rattle.column_core.specs.Leaf.{OfNumbers, single_rows};
+ghost use Rattle.column_core.specs.Optionals.{optionals};
 ghost use Rattle.column_core.specs.PrimitiveForm.{primitive_dtype};
 ghost use Rattle.column_ops.specs.Filter.{filter_rows};
+ghost use Rattle.column_ops.specs.Take.{ArePositions, position_numbers, take_rows};
 ghost use Rattle.runend_array.specs.Array.{column_of, dtype_of, rows};
 ghost use Rattle.runend_array.specs.Column.{AreParts, AreRuns, IsFlat, OfLeaf, column_dtype, column_of_runs, column_rows, runs_of};
 ghost use Rattle.runend_windows.specs.Ends.{IsEndsType, ends_of};
@@ -17,10 +18,11 @@ ghost use Rattle.runend_column.specs.MinimalForm.{AreMinimalRuns, IsMinimalForm}
 ghost use Rattle.runend_column.specs.VisibleForm.{visible_values as values_of_visible};
 
 use crate::filtered_ends::filter_ends;
-use crate::least_selected::least_selected;
-use column_core::{BitBuffer, Mask, PrimitiveArray, VortexError, VortexResult, is_number_type};
+use column_core::{
+    BitBuffer, Mask, PrimitiveArray, Validity, VortexError, VortexResult, is_number_type,
+};
 use runend_array::{ArrayRef, RunEnd, RunEndArray, RunEndArrayExt, RunEndArraySlotsExt, array_of};
-use runend_column::{minimal_runs, select_values, selected_by, visible_values, with_minimal_runs};
+use runend_column::{minimal_runs, selected_by, take_values, visible_values, with_minimal_runs};
 use std::alloc::Allocator;
 
 /// Returns the runs with a selected row: of integers in minimal form, of other types as they are. Refused only as
@@ -59,19 +61,20 @@ pub(crate) fn minimal_column<A: Allocator + Copy>(
     with_minimal_runs(alloc, array, numbers)
 }
 
-// The values at which the mask is true, as a column.
-fn kept_values<A: Allocator + Copy>(
+// The values at these places, as a column.
+fn values_at<A: Allocator + Copy>(
     alloc: A,
     values: &ArrayRef<A>,
-    mask: &Mask<A>,
+    places: &[u64],
 ) -> VortexResult<ArrayRef<A>>
-    requires masked { length (mask_bits mask.now) ≡ length (rows values.now) }
+    requires within { ArePositions (optionals places.now (replicate (length places.now) true))
+        (length (rows values.now)) }
     ensures only { IsOkUnless result VortexError.OutOfMemory }
-    ensures made { IfOk result (λ kept. IsComputedAs (filter_rows (mask_bits mask.now) (rows values.now))
-        (dtype_of values.now) (column_of kept)) }
+    ensures made { IfOk result (λ taken. IsComputedAs (take_rows (rows values.now) (position_numbers
+        (optionals places.now (replicate (length places.now) true)))) (dtype_of values.now) (column_of taken)) }
 {
-    let kept = select_values(alloc, values, mask)?;
-    kept.into_array(alloc)
+    let taken = take_values(alloc, values, places, &Validity::NonNullable)?;
+    taken.into_array(alloc)
 }
 
 // The runs with a selected row: their ends among the selected rows, and their values.
@@ -95,9 +98,9 @@ fn kept_parts<A: Allocator + Copy>(
         ArrayRef::Primitive(plain) => plain.values(),
         _ => unreachable!(),
     };
-    let (kept_ends, kept) = filter_ends(alloc, ends, array.offset(), array.len(), bits)?;
-    let values = kept_values(alloc, array.values(), &kept);
-    drop(kept);
+    let (kept_ends, places) = filter_ends(alloc, ends, array.offset(), array.len(), bits)?;
+    let values = values_at(alloc, array.values(), places.as_slice());
+    drop(places);
     match values {
         Ok(values) => Ok((kept_ends, values)),
         Err(error) => {
@@ -137,60 +140,8 @@ fn numbers_in<A: Allocator + Copy>(values: ArrayRef<A>) -> PrimitiveArray<A>
     }
 }
 
-// The runs with a selected row, of integers and in minimal form.
+// The runs with a selected row, of integers and in minimal form: runs that a dropped one divided may be equal now.
 fn least_kept<A: Allocator + Copy>(
-    alloc: A,
-    array: &RunEndArray<A>,
-    bits: &BitBuffer<A>,
-) -> VortexResult<RunEndArray<A>>
-    requires masked { length bits.now ≡ array.now.count }
-    requires numbers { is_numbers (column_dtype array.now.values) ≡ true }
-    ensures only { IsOkUnless result VortexError.OutOfMemory }
-    ensures rows { IfOk result (λ kept. column_rows (column_of_runs kept) ≡
-        filter_rows bits.now (column_rows (column_of_runs array.now))) }
-    ensures dtype { IfOk result (λ kept. column_dtype kept.values ≡ column_dtype array.now.values) }
-    ensures form { IfOk result (λ kept. AreMinimalRuns array.now.ends_type kept) }
-{
-    match array.values() {
-        ArrayRef::Primitive(values) => kept_in_one_pass(alloc, array, values, bits),
-        _ => kept_and_joined(alloc, array, bits),
-    }
-}
-
-// The same, of runs whose values are stored one by one.
-fn kept_in_one_pass<A: Allocator + Copy>(
-    alloc: A,
-    array: &RunEndArray<A>,
-    values: &PrimitiveArray<A>,
-    bits: &BitBuffer<A>,
-) -> VortexResult<RunEndArray<A>>
-    requires masked { length bits.now ≡ array.now.count }
-    requires stored { array.now.values ≡ OfLeaf (OfNumbers values.now) }
-    ensures only { IsOkUnless result VortexError.OutOfMemory }
-    ensures rows { IfOk result (λ kept. column_rows (column_of_runs kept) ≡
-        filter_rows bits.now (column_rows (column_of_runs array.now))) }
-    ensures dtype { IfOk result (λ kept. column_dtype kept.values ≡ column_dtype array.now.values) }
-    ensures form { IfOk result (λ kept. AreMinimalRuns array.now.ends_type kept) }
-{
-    let ends = match array.ends() {
-        ArrayRef::Primitive(plain) => plain,
-        _ => unreachable!(),
-    };
-    let (least_ends, least_values) = least_selected(
-        alloc,
-        ends,
-        values,
-        array.offset(),
-        array.len(),
-        bits,
-    )?;
-    let kept_ends = ArrayRef::Primitive(least_ends);
-    let kept_values = ArrayRef::Primitive(least_values);
-    Ok(RunEnd::new_unchecked(kept_ends, kept_values, 0, bits.true_count()))
-}
-
-// The same in two steps, of values in any form: runs that a dropped one divided may be equal neighbours now.
-fn kept_and_joined<A: Allocator + Copy>(
     alloc: A,
     array: &RunEndArray<A>,
     bits: &BitBuffer<A>,

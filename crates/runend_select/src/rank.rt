@@ -1,59 +1,9 @@
-//! How many of the first bits are true, counted on from place to later place, so that whole words are
-//! counted once.
+//! How many of the first bits are true, by counts that are made before for each word.
 ghost use Rattle.std.specs.Prelude.{◌≡◌, ◌-◌, ◌*◌, ◌/◌, ◌^◌, ◌<◌, ◌≤◌, IfOk, IsOkUnless, count_by, length, take};
 ghost use Rattle.runend_select.specs.WordRanks.{AreWordRanks};
 
 use column_core::{BitBuffer, VortexError, VortexResult};
 use std::alloc::Allocator;
-
-/// Returns how many of the bits before the word of `place` are true, where `before` of those before word `index` are.
-#[inline]
-pub(crate) fn ones_before<A: Allocator>(
-    bits: &BitBuffer<A>,
-    index: usize,
-    before: usize,
-    place: usize,
-) -> usize
-    requires onward { index ≤ place / 64 }
-    requires within { place ≤ length bits.now }
-    requires counted { before ≡ count_by (λ bit. bit) (take (index * 64) bits.now) }
-    ensures { result ≡ count_by (λ bit. bit) (take (place / 64 * 64) bits.now) }
-{
-    let words = bits.words();
-    let mut count = before;
-    for word in index..place / 64 {
-        count += words[word].count_ones() as usize;
-    }
-    count
-}
-
-// The lowest `count` bits.
-#[inline]
-fn low_mask(count: usize) -> u64
-    requires { count < 64 }
-    ensures { result ≡ 2 ^ count - 1 }
-{
-    (1 << count) - 1
-}
-
-/// Returns how many of the bits before `place` are true, where `before` of those before its word are.
-#[inline]
-pub(crate) fn rank_within_word<A: Allocator>(
-    bits: &BitBuffer<A>,
-    before: usize,
-    place: usize,
-) -> usize
-    requires within { place ≤ length bits.now }
-    requires counted { before ≡ count_by (λ bit. bit) (take (place / 64 * 64) bits.now) }
-    ensures { result ≡ count_by (λ bit. bit) (take place bits.now) }
-{
-    let words = bits.words();
-    let index = place / 64;
-    if index == words.len() {
-        return before;
-    }
-    before + (words[index] & low_mask(place % 64)).count_ones() as usize
-}
 
 /// Counts how many of the bits before each word of 64 are true, for the word of any place up to their end. Refused only
 /// as `OutOfMemory`.
@@ -84,4 +34,28 @@ pub(crate) fn rank_of<A: Allocator>(bits: &BitBuffer<A>, ranks: &[usize], place:
     ensures { result ≡ count_by (λ bit. bit) (take place bits.now) }
 {
     rank_within_word(bits, ranks[place / 64], place)
+}
+
+// Returns how many of the bits before `place` are true, where `before` of those before its word are.
+#[inline]
+fn rank_within_word<A: Allocator>(bits: &BitBuffer<A>, before: usize, place: usize) -> usize
+    requires within { place ≤ length bits.now }
+    requires counted { before ≡ count_by (λ bit. bit) (take (place / 64 * 64) bits.now) }
+    ensures { result ≡ count_by (λ bit. bit) (take place bits.now) }
+{
+    let words = bits.words();
+    let index = place / 64;
+    if index == words.len() {
+        return before;
+    }
+    before + (words[index] & low_mask(place % 64)).count_ones() as usize
+}
+
+// The lowest `count` bits.
+#[inline]
+fn low_mask(count: usize) -> u64
+    requires { count < 64 }
+    ensures { result ≡ 2 ^ count - 1 }
+{
+    (1 << count) - 1
 }

@@ -2,11 +2,10 @@ use Rattle.std.proofs.Common.{◌≡◌, ◌∙◌, ◌+◌, ◌<◌, ◌≤◌,
 use Rattle.std.specs.Prelude.{IfOk, unsigned_abs}
 use Rattle.std.specs.List.Sorted.{IsStrictlyIncreasing}
 use Rattle.column_base.specs.declared.dtype.PType.{PType}
-use Rattle.column_base.specs.Mask.{mask_bits}
 use Rattle.column_base.specs.Numbers.{numbers, ptype_of}
 use Rattle.runend_windows.specs.Ends.{ends_of}
 use Rattle.runend_windows.specs.Window.{last_end}
-use Rattle.runend_select.specs.KeptRuns.{AreKept}
+use Rattle.runend_select.specs.KeptRuns.{AreKeptAt}
 use Rattle.runend_encode.proofs.Fitting.{all_stored-8, all_stored-16, all_stored-32, all_stored-64}
 use Rattle.runend_select.proofs.filtered_ends.filter_ends.Goals as goal
 
@@ -35,7 +34,7 @@ filter_stored-requires-clause-last g c =
 pub returns-in-U8-match_each_unsigned-clause-kept : goal.returns-in-U8-match_each_unsigned-clause-kept
 returns-in-U8-match_each_unsigned-clause-kept g c =
     let same = ap (map pos) c.as_slice-stored.ensures.value ∙ sym (ap numbers c.in-U8-match_each_unsigned.is) in
-    subst (λ (ends : List ℤ). IfOk c.filter_stored.result (λ parts. AreKept (map unsigned_abs ends) c.args.offset c.args.mask.now (mask_bits parts.1) (ends_of parts.0))) same c.filter_stored.ensures.kept
+    subst (λ (ends : List ℤ). IfOk c.filter_stored.result (λ parts. AreKeptAt (map unsigned_abs ends) c.args.offset c.args.mask.now parts.1.items (ends_of parts.0))) same c.filter_stored.ensures.kept
 
 pub returns-in-U8-match_each_unsigned-clause-typed : goal.returns-in-U8-match_each_unsigned-clause-typed
 returns-in-U8-match_each_unsigned-clause-typed g c =
@@ -54,7 +53,7 @@ filter_stored-requires-2-clause-last g c =
 pub returns-in-U16-match_each_unsigned-clause-kept : goal.returns-in-U16-match_each_unsigned-clause-kept
 returns-in-U16-match_each_unsigned-clause-kept g c =
     let same = ap (map pos) c.as_slice-stored-2.ensures.value ∙ sym (ap numbers c.in-U16-match_each_unsigned.is) in
-    subst (λ (ends : List ℤ). IfOk c.filter_stored-2.result (λ parts. AreKept (map unsigned_abs ends) c.args.offset c.args.mask.now (mask_bits parts.1) (ends_of parts.0))) same c.filter_stored-2.ensures.kept
+    subst (λ (ends : List ℤ). IfOk c.filter_stored-2.result (λ parts. AreKeptAt (map unsigned_abs ends) c.args.offset c.args.mask.now parts.1.items (ends_of parts.0))) same c.filter_stored-2.ensures.kept
 
 pub returns-in-U16-match_each_unsigned-clause-typed : goal.returns-in-U16-match_each_unsigned-clause-typed
 returns-in-U16-match_each_unsigned-clause-typed g c =
@@ -73,7 +72,7 @@ filter_stored-requires-3-clause-last g c =
 pub returns-in-U32-match_each_unsigned-clause-kept : goal.returns-in-U32-match_each_unsigned-clause-kept
 returns-in-U32-match_each_unsigned-clause-kept g c =
     let same = ap (map pos) c.as_slice-stored-3.ensures.value ∙ sym (ap numbers c.in-U32-match_each_unsigned.is) in
-    subst (λ (ends : List ℤ). IfOk c.filter_stored-3.result (λ parts. AreKept (map unsigned_abs ends) c.args.offset c.args.mask.now (mask_bits parts.1) (ends_of parts.0))) same c.filter_stored-3.ensures.kept
+    subst (λ (ends : List ℤ). IfOk c.filter_stored-3.result (λ parts. AreKeptAt (map unsigned_abs ends) c.args.offset c.args.mask.now parts.1.items (ends_of parts.0))) same c.filter_stored-3.ensures.kept
 
 pub returns-in-U32-match_each_unsigned-clause-typed : goal.returns-in-U32-match_each_unsigned-clause-typed
 returns-in-U32-match_each_unsigned-clause-typed g c =
@@ -92,7 +91,7 @@ filter_stored-requires-4-clause-last g c =
 pub returns-in-U64-match_each_unsigned-clause-kept : goal.returns-in-U64-match_each_unsigned-clause-kept
 returns-in-U64-match_each_unsigned-clause-kept g c =
     let same = ap (map pos) c.as_slice-stored-4.ensures.value ∙ sym (ap numbers c.in-U64-match_each_unsigned.is) in
-    subst (λ (ends : List ℤ). IfOk c.filter_stored-4.result (λ parts. AreKept (map unsigned_abs ends) c.args.offset c.args.mask.now (mask_bits parts.1) (ends_of parts.0))) same c.filter_stored-4.ensures.kept
+    subst (λ (ends : List ℤ). IfOk c.filter_stored-4.result (λ parts. AreKeptAt (map unsigned_abs ends) c.args.offset c.args.mask.now parts.1.items (ends_of parts.0))) same c.filter_stored-4.ensures.kept
 
 pub returns-in-U64-match_each_unsigned-clause-typed : goal.returns-in-U64-match_each_unsigned-clause-typed
 returns-in-U64-match_each_unsigned-clause-typed g c =
@@ -107,9 +106,6 @@ returns-in-U8-match_each_unsigned-clause-only g c = c.filter_stored.ensures.only
 pub returns-in-U8-match_each_unsigned-clause-required : goal.returns-in-U8-match_each_unsigned-clause-required
 returns-in-U8-match_each_unsigned-clause-required g c = c.filter_stored.ensures.required
 
-pub returns-in-U8-match_each_unsigned-clause-normal : goal.returns-in-U8-match_each_unsigned-clause-normal
-returns-in-U8-match_each_unsigned-clause-normal g c = c.filter_stored.ensures.normal
-
 pub filter_stored-requires-2-clause-masked : goal.filter_stored-requires-2-clause-masked
 filter_stored-requires-2-clause-masked g c = c.requires.masked
 
@@ -118,9 +114,6 @@ returns-in-U16-match_each_unsigned-clause-only g c = c.filter_stored-2.ensures.o
 
 pub returns-in-U16-match_each_unsigned-clause-required : goal.returns-in-U16-match_each_unsigned-clause-required
 returns-in-U16-match_each_unsigned-clause-required g c = c.filter_stored-2.ensures.required
-
-pub returns-in-U16-match_each_unsigned-clause-normal : goal.returns-in-U16-match_each_unsigned-clause-normal
-returns-in-U16-match_each_unsigned-clause-normal g c = c.filter_stored-2.ensures.normal
 
 pub filter_stored-requires-3-clause-masked : goal.filter_stored-requires-3-clause-masked
 filter_stored-requires-3-clause-masked g c = c.requires.masked
@@ -131,9 +124,6 @@ returns-in-U32-match_each_unsigned-clause-only g c = c.filter_stored-3.ensures.o
 pub returns-in-U32-match_each_unsigned-clause-required : goal.returns-in-U32-match_each_unsigned-clause-required
 returns-in-U32-match_each_unsigned-clause-required g c = c.filter_stored-3.ensures.required
 
-pub returns-in-U32-match_each_unsigned-clause-normal : goal.returns-in-U32-match_each_unsigned-clause-normal
-returns-in-U32-match_each_unsigned-clause-normal g c = c.filter_stored-3.ensures.normal
-
 pub filter_stored-requires-4-clause-masked : goal.filter_stored-requires-4-clause-masked
 filter_stored-requires-4-clause-masked g c = c.requires.masked
 
@@ -142,6 +132,3 @@ returns-in-U64-match_each_unsigned-clause-only g c = c.filter_stored-4.ensures.o
 
 pub returns-in-U64-match_each_unsigned-clause-required : goal.returns-in-U64-match_each_unsigned-clause-required
 returns-in-U64-match_each_unsigned-clause-required g c = c.filter_stored-4.ensures.required
-
-pub returns-in-U64-match_each_unsigned-clause-normal : goal.returns-in-U64-match_each_unsigned-clause-normal
-returns-in-U64-match_each_unsigned-clause-normal g c = c.filter_stored-4.ensures.normal

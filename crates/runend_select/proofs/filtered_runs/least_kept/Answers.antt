@@ -16,7 +16,7 @@ use Rattle.runend_column.specs.MinimalForm.{AreMinimalRuns}
 use Rattle.runend_column.proofs.ComputedRows.{ok_then}
 use Rattle.runend_select.proofs.MinimalForms.{flat_of_computed}
 use Rattle.runend_column.proofs.PassedOn.{no_value, only_error}
-use Rattle.runend_select.proofs.filtered_runs.kept_and_joined.Goals as goal
+use Rattle.runend_select.proofs.filtered_runs.least_kept.Goals as goal
 
 pub numbers_in-numbers-requires : goal.numbers_in-numbers-requires
 numbers_in-numbers-requires g c =
