@@ -7,9 +7,9 @@ from __future__ import annotations
 import ctypes
 from typing import TYPE_CHECKING, Any
 
-from . import _lists
+from . import _lists, _runs
 from ._indexing import mask_of
-from ._library import Kind, ask, calls
+from ._library import Handle, Kind, ask, calls
 from ._making import listed
 from ._types import WHOLE_NUMBERS, text_of
 from ._values import is_missing, whole
@@ -89,13 +89,26 @@ def is_among(column: Column, values: Any) -> Column:
 
 
 def counted(column: Column) -> tuple[Column, Column]:
-    """Each value that a row has, null too, in the order of their first rows, and how many rows have it."""
-    counts: dict[Any, int] = {}
+    """Each value that a row has, null too, in the order of their first rows, and how many rows have it. The call answers
+    in the order of values; which comes first is then read from the runs, no further than until each value has come."""
     stored = column if column._logical is None else column.storage()
-    for start, stop, value in stored.runs():
-        counts[value] = counts.get(value, 0) + stop - start
-    values = column.of(list(counts), column.type)._meaning(column._logical)
-    return values, column.of(list(counts.values()), "u64")
+    values, numbers = column._owning(Handle()), column._owning(Handle())
+    ask(calls.hv_value_counts, stored, values._handle, numbers._handle)
+    counts = dict(zip(values.to_list(), numbers.to_list()))
+    found = _first_ones(stored, len(counts)) if len(counts) > 1 else list(counts)
+    return column.of(found, column.type)._meaning(column._logical), column.of([counts[value] for value in found], "u64")
+
+
+def _first_ones(column: Column, count: int) -> list[Any]:
+    """The values that rows have, this many, in the order of their first rows: those of runs, a block at a time."""
+    runs = column if column.form == "runs" else column.to_runs()
+    shown = _runs.span(runs)
+    found: dict[Any, None] = {}
+    for value in runs.values().slice(shown.start, shown.stop):
+        found[value] = None
+        if len(found) == count:
+            break
+    return list(found)
 
 
 def shifted(column: Column, rows: Any) -> Column:

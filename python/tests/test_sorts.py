@@ -50,6 +50,23 @@ def test_counts_in_order():
     assert (values.to_list(), counts.to_list()) == ([None, 4, 9], [1, 1, 2])
 
 
+def test_counts_in_the_order_of_first_rows():
+    rows = [5, 5, None, *([1, 2] * 3000), 0]
+    due = [5, None, 1, 2, 0]
+    for column in (Column.of(rows), Column.of(rows).encode(), Column.of([9, *rows, 9]).encode()[1:-1]):
+        values, counts = column.value_counts()
+        assert values.to_list() == due == column.unique().to_list() and counts.to_list() == [2, 1, 3000, 3000, 1]
+        assert (values.type, counts.type) == ("i64?", "u64")
+    assert [part.to_list() for part in Column.of([], "utf8").value_counts()] == [[], []]
+
+
+def test_counts_of_numbers_far_apart():
+    rows = [row for row in (-(2**63), 2**63 - 1, 0, None, 7) for _ in range(3)] * 20
+    for column in (Column.of(rows), Column.of(rows).encode()):
+        assert column.sort().to_list() == in_order(rows)
+        assert [part.to_list() for part in column.value_counts()] == [[-(2**63), 2**63 - 1, 0, None, 7], [60] * 5]
+
+
 def test_floats_and_dates_keep_their_type():
     floats = Column.of([1.5, None, math.inf, 0.0, -0.0, -2.5, -math.inf])
     assert floats.sort().to_list() == [None, -math.inf, -2.5, -0.0, 0.0, 1.5, math.inf]
