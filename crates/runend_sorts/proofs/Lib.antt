@@ -1,7 +1,11 @@
+pub mod Ranges
 pub mod Stretches
 pub mod Orders
 pub mod Permutations
 pub mod Rising
+pub mod KeyLaws
+pub mod Tables
+pub mod KeyOrders
 pub mod Tallies
 pub mod Appended
 pub mod NewOrders

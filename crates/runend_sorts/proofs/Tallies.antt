@@ -1,6 +1,6 @@
 -- Rows in order, counted by value.
-use Rattle.std.proofs.Common.{◌≡◌, ◌∙◌, ℕ, ℤ, zero, suc, pos, ◌+◌, ◌*◌, ◌<◌, ◌≤◌, List, [], ◌∷◌, ◌++◌, Bool, true, false, cond, Option, None, Some, add-one, add-zero, append-nil, ap, arith, get_or, inl, inr, length, map, refl, replicate, slice_index, subst, sym, zero-add}
-use Rattle.std.specs.Prelude.{All, Contains, IsTrue, count_by, option_map, slice_get, slice_index_or}
+use Rattle.std.proofs.Common.{◌≡◌, ◌∙◌, ℕ, zero, suc, pos, ◌+◌, ◌*◌, ◌<◌, ◌≤◌, List, [], ◌∷◌, ◌++◌, Bool, true, false, cond, Option, None, Some, add-one, add-zero, append-nil, ap, arith, get_or, inl, inr, length, map, refl, replicate, slice_index, subst, sym, zero-add}
+use Rattle.std.specs.Prelude.{All, Contains, count_by, option_map, slice_index_or}
 use Rattle.std.specs.List.{flat_map, range_with_len}
 use Rattle.std.specs.List.Sorted.{IsPermutation}
 use Rattle.std.specs.Ordering.{is_eq, is_lt, ordering_reverse}
@@ -31,7 +31,7 @@ use Rattle.runend_array.specs.Column.{Column, OfLeaf}
 use Rattle.runend_sorts.specs.Counts.{AreCounts, count_of, count_row}
 use Rattle.runend_sorts.specs.Runs.{AreRunsOf, rows_in_order, run_of}
 use Rattle.runend_sorts.proofs.Rising.{all_pieces}
-use Rattle.runend_sorts.proofs.Stretches.{range_more}
+use Rattle.runend_sorts.proofs.Ranges.{range_more}
 
 less_of : (o : Ordering) → is_lt o ≡ true → o ≡ Less
 less_of Less h = refl

@@ -2,10 +2,13 @@
 #![tactic(auto)]
 
 mod counted;
+mod keyed;
+mod keys;
 mod lengths;
 mod reversed;
 mod row_runs;
 mod sorted;
+mod table;
 
 pub use counted::{ValueCounts, value_counts};
 pub use reversed::reverse;

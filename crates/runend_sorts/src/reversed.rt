@@ -49,7 +49,7 @@ fn reversed_runs<A: Allocator + Copy>(
 {
     let alloc = *ctx.allocator();
     let runs = RowRuns::of(alloc, array)?;
-    let mut order = runs.places(alloc)?;
+    let mut order = runs.stretches(alloc)?;
     order.reverse();
     runs.in_order(&order, ctx)
 }

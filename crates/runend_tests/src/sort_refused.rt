@@ -35,6 +35,9 @@ const ROWS: [Row; 24] = [
     Some(2),
 ];
 
+// Rows further apart than there are: their keys are sorted, and no table is made.
+const FAR: [Row; 4] = [Some(9_000), None, Some(-9_000), Some(7)];
+
 // Are the first and the last row these?
 fn spans<A: Allocator + Copy>(array: &ArrayRef<A>, first: Row, last: Row) -> bool {
     shown(array, 0) == Some(first) && shown(array, array.len().saturating_sub(1)) == Some(last)
@@ -62,6 +65,17 @@ impl Calls for Sorts {
     }
 }
 
+struct FarSorts {}
+
+impl Calls for FarSorts {
+    fn are_answered<A: Allocator + Copy>(alloc: A) -> VortexResult<bool> {
+        let mut ctx = ExecutionCtx::new(VortexSession::empty(), alloc);
+        let array = column_of(&mut ctx, Kind::Numbers, &FAR, Form::Flat)?;
+        let sorted = sort(&array, &mut ctx)?;
+        Ok(spans(&array, Some(9_000), Some(7)) && spans(&sorted, None, Some(9_000)))
+    }
+}
+
 struct Counts {}
 
 impl Calls for Counts {
@@ -82,6 +96,12 @@ fn reversals_are_refused_for_memory(rt: HostRuntime) -> Result<(), Fail> {
 #[test]
 fn sorts_are_refused_for_memory(rt: HostRuntime) -> Result<(), Fail> {
     assert!(rt; are_answered_in_turn::<Sorts>(rt.alloc()));
+    Ok(())
+}
+
+#[test]
+fn sorts_by_keys_are_refused_for_memory(rt: HostRuntime) -> Result<(), Fail> {
+    assert!(rt; are_answered_in_turn::<FarSorts>(rt.alloc()));
     Ok(())
 }
 
