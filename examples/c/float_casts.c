@@ -2,7 +2,7 @@
  * bits, against the nearest of all of them; exactly and rounded, with each refusal. */
 #include "check.h"
 
-enum { MOST = 40, TRIALS = 300, FORMATS = 3 };
+enum { MOST = 40, TRIALS = 60, FORMATS = 3 };
 
 static hv_error error;
 static hv_column out = HV_EMPTY;
