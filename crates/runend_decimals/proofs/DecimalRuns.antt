@@ -18,7 +18,7 @@ use Rattle.runend_decimals.specs.declared.fault.DecimalError.{DecimalError}
 use Rattle.runend_decimals.specs.declared.fault.DecimalError.TheVariants.{Overflow, Refused}
 
 -- the decimals of a flat column
-decimals-of_rows : (numbers : List (Option ℤ)) → map decimal_in (map (option_map (λ (v : FlatValue). Single v)) (map (option_map (λ (n : ℤ). DecimalNumber n)) numbers)) ≡ numbers
+pub decimals-of_rows : (numbers : List (Option ℤ)) → map decimal_in (map (option_map (λ (v : FlatValue). Single v)) (map (option_map (λ (n : ℤ). DecimalNumber n)) numbers)) ≡ numbers
 decimals-of_rows [] = refl
 decimals-of_rows (None ∷ numbers) = ap (λ rest. None ∷ rest) (decimals-of_rows numbers)
 decimals-of_rows (Some n ∷ numbers) = ap (λ rest. Some n ∷ rest) (decimals-of_rows numbers)

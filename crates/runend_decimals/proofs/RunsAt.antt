@@ -1,5 +1,5 @@
 -- The rows of one run of a column, as a walk along all runs meets them.
-use Rattle.std.proofs.Common.{◌≡◌, ◌∙◌, ℕ, suc, ◌+◌, ◌-◌, ◌<◌, ◌≤◌, ℤ, Option, Some, List, length, slice_index, refl, sym, subst, arith, ◌^◌}
+use Rattle.std.proofs.Common.{◌≡◌, ℕ, suc, ◌+◌, ◌-◌, ◌<◌, ◌≤◌, ℤ, Option, Some, List, length, slice_index, refl, arith, ◌^◌}
 use Rattle.std.specs.Prelude.{slice_get}
 use Rattle.runend_floats.specs.Runs.{first_row}
 use Rattle.runend_floats.proofs.CoveredRows.{run_is_filled, within_last}

@@ -1,7 +1,6 @@
 -- The sum of rows of decimals, and how far it stays within 38 digits.
-use Rattle.std.specs.Prelude.{◌≡◌, ◌⊎◌, ℕ, ◌+◌, ◌<◌, ◌≤◌, ℤ, pos, ◌+ℤ◌, ◌*ℤ◌, false, Option, Some, None, List, [], ◌∷◌, length, take}
+use Rattle.std.specs.Prelude.{◌≡◌, ℕ, ◌+◌, ◌<◌, ◌≤◌, ℤ, pos, ◌+ℤ◌, ◌*ℤ◌, false, Option, Some, None, List, [], ◌∷◌, length, take}
 use Rattle.column_base.specs.declared.error.VortexError.{VortexError}
-use Rattle.column_base.specs.declared.error.VortexError.TheVariants.{OutOfMemory}
 use Rattle.column_core.specs.Refusal.{IsErrorFor}
 use Rattle.column_sums.specs.RowSum.{are_null}
 use Rattle.runend_decimals.specs.Digits.{HasDigits}

@@ -3,6 +3,7 @@ ghost use Rattle.std.specs.Prelude.{◌≡◌, ◌<◌, ◌^◌, length, map, sl
 ghost use Rattle.column_base.specs.Numbers.{numbers, ptype_of};
 ghost use Rattle.column_base.specs.Types.{IsUnsigned};
 ghost use Rattle.column_core.specs.PrimitiveForm.{primitive_dtype};
+ghost use Rattle.runend_floats.specs.Runs.{first_row as first_row_of};
 ghost use Rattle.runend_windows.specs.Ends.{IsEndsType, ends_of};
 
 use column_base::match_each_unsigned;
@@ -19,7 +20,16 @@ pub(crate) fn end_of<A: Allocator>(ends: &PrimitiveArray<A>, run: usize) -> usiz
     end_among(ends.values(), run)
 }
 
-// The same, of the numbers that the ends are.
+/// Returns the first row of a run.
+pub(crate) fn first_row<A: Allocator>(ends: &PrimitiveArray<A>, run: usize) -> usize
+    requires plain { IsEndsType (primitive_dtype ends.now) }
+    requires there { run < length (ends_of ends.now) }
+    ensures { result ≡ first_row_of (ends_of ends.now) run }
+{
+    if run == 0 { 0 } else { end_of(ends, run - 1) }
+}
+
+// Returns the same of the numbers that the ends are.
 #[tactic(auto, using(runend_windows::proofs::Ends::ends_stored))]
 fn end_among<A: Allocator>(ends: &PrimitiveValues<A>, run: usize) -> usize
     requires unsigned { IsUnsigned (ptype_of ends.now) }

@@ -3,9 +3,14 @@
 
 mod ends;
 mod fault;
+mod powers;
+mod rescaled;
 mod runs;
+mod scales;
+mod scaling;
 mod sums;
 mod totals;
 
-pub use fault::DecimalError;
+pub use fault::{DecimalError, RescaleError};
+pub use scales::rescale;
 pub use sums::{DecimalSum, sum_decimals};

@@ -1,4 +1,4 @@
-use Rattle.std.proofs.Common.{◌≡◌, ◌∙◌, List, Option, ℤ, map, subst, sym}
+use Rattle.std.proofs.Common.{◌≡◌, List, Option, ℤ, map, subst}
 use Rattle.std.specs.Prelude.{IfOk}
 use Rattle.column_core.specs.Leaf.{OfDecimals}
 use Rattle.runend_array.specs.Array.{dtype_of, rows}
