@@ -142,17 +142,18 @@ def _units(nanoseconds: int, logical: LogicalType) -> int:
 def _timestamp(text: str, logical: LogicalType) -> int:
     """The count of a timestamp, which has an offset exactly where the type has a zone."""
     found = _iso.instant(text)
-    return _units(found.nanoseconds, logical) if found and found.has_offset == bool(logical.zone) else _where(False, 0)
+    is_fit = found is not None and found.has_offset == bool(logical.zone)
+    return _units(_where(is_fit, found).nanoseconds, logical)
 
 
 def _date(text: str, logical: LogicalType) -> int:
     days = _iso.day(text)
-    return _units(days * NANOSECONDS["D"], logical) if days is not None else _where(False, 0)
+    return _units(_where(days is not None, days) * NANOSECONDS["D"], logical)
 
 
 def _time(text: str, logical: LogicalType) -> int:
     found = _iso.time_of_day(text)
-    return _units(found[0], logical) if found else _where(False, 0)
+    return _units(_where(found is not None, found)[0], logical)
 
 
 def _duration(text: str, logical: LogicalType) -> int:
@@ -189,8 +190,8 @@ class FieldType:
         if logical is not None and logical.sort == "float":
             return cls(f"{logical}?", storage, False, _float)
         if logical is not None:
-            count = _COUNTERS[logical.sort]
-            return cls(f"{logical}?", storage, True, lambda text: count(text, logical))
+            count, meant = _COUNTERS[logical.sort], logical
+            return cls(f"{logical}?", storage, True, lambda text: count(text, meant))
         name = storage.partition("(")[0]
         whole = lambda text: int(_where(_WHOLE.fullmatch(text) is not None, text))  # noqa: E731
         if name not in _READERS and name[:1] not in "iu":
