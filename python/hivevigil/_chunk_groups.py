@@ -10,7 +10,7 @@ from typing import TYPE_CHECKING, Any, NamedTuple, Optional
 from . import _runs
 from ._types import TYPES
 from ._values import decimal_of
-from .chunks import FloatSums, Partial, Sums
+from .chunks import FloatSums, Partial
 from .column import Column
 from .errors import in_words
 from .table_groups import TableGroups, parts_of
@@ -67,8 +67,8 @@ def _total_of(column: Column) -> Any:
     """The sum of the rows before it is rounded or held against a type: of decimals a fraction, 0 of what has none."""
     if TYPES[column._kind.number] == "decimal":
         return Fraction(column.sum())
-    sums = Partial.of(column).sums
-    return sums.total if isinstance(sums, Sums) else sums or 0
+    part = Partial.of(column)
+    return part.float_sums or 0 if part.sums is None else part.sums.total
 
 
 @dataclass(frozen=True)

@@ -18,7 +18,7 @@ import operator
 from collections.abc import Iterable
 from dataclasses import dataclass, replace
 from fractions import Fraction
-from typing import Any, NamedTuple, Optional, Union
+from typing import Any, NamedTuple, Optional
 
 from . import _floats, _runs, _statistics, _times
 from ._library import Pair, ask, calls
@@ -93,31 +93,33 @@ class Partial:
     """What is known of a part of a column.
 
     `type` is the column's, with its '?'. `runs` counts the stretches of equal rows, as few as there can be. `sums` is
-    None unless the rows are integers, durations or floats. `least` and `greatest` leave nulls out, and NaN, and are None
-    where there is nothing else; null is below all else in `is_sorted` (no row above the next) and `is_strictly_sorted`
-    (each row below the next). `first` and `last` are the outermost runs, None of no rows. Floats are equal, and in
-    order, as in runs: 0.0 is above -0.0, and a NaN equals itself.
+    None unless the rows are integers or durations, `float_sums` unless they are floats. `least` and `greatest` leave
+    nulls out, and NaN, and are None where there is nothing else; null is below all else in `is_sorted` (no row above the
+    next) and `is_strictly_sorted` (each row below the next). `first` and `last` are the outermost runs, None of no rows.
+    Floats are equal, and in order, as in runs: 0.0 is above -0.0, and a NaN equals itself.
     """
 
     type: str
     rows: int
     null_count: int
     runs: int
-    sums: Union[Sums, FloatSums, None]
+    sums: Optional[Sums]
     least: Scalar
     greatest: Scalar
     is_sorted: bool
     is_strictly_sorted: bool
     first: Optional[Stretch]
     last: Optional[Stretch]
+    float_sums: Optional[FloatSums] = None
 
     @classmethod
     def empty(cls, type: Any) -> Partial:
         """What is known of no rows of a type; joined with a part it is that part."""
         kind, logical = asked_type(type)
         name = text_of(kind) if logical is None else f"{logical}{'?' * kind.nullable}"
-        sums = FloatSums() if _floats.is_float(logical) else Sums() if _is_summed(name) else None
-        return cls(name, 0, 0, 0, sums, None, None, True, True, None, None)
+        sums = Sums() if _is_summed(name) else None
+        floats = FloatSums() if _floats.is_float(logical) else None
+        return cls(name, 0, 0, 0, sums, None, None, True, True, None, None, floats)
 
     @classmethod
     def of(cls, column: Column) -> Partial:
@@ -134,15 +136,12 @@ class Partial:
         count = runs.run_count()
         first, last = _runs.run_at(runs, 0), _runs.run_at(runs, -1)
         least, greatest = runs.min_max()
-        sums: Union[Sums, FloatSums, None] = None
-        if _floats.is_float(logical):
-            sums = FloatSums.of(runs)
-        elif _is_summed(name):
-            sums = _sums_of(runs.storage())
+        sums = _sums_of(runs.storage()) if _is_summed(name) else None
         return cls(
             name, last.stop, runs.null_count, count, sums, least, greatest,
             runs.is_sorted(), runs.is_sorted(strict=True),
             Stretch(first.value, first.stop), Stretch(last.value, last.stop - last.start),
+            FloatSums.of(runs) if _floats.is_float(logical) else None,
         )
 
     @property
@@ -159,10 +158,10 @@ class Partial:
         """The sum of the rows that are not null, a duration of durations; of floats exact and rounded once. OverflowError
         where it leaves 64 bits on the way from row to row, as that of the whole column is; which row it is, no part
         knows."""
+        if self.float_sums is not None:
+            return self.float_sums.rounded()
         if self.sums is None:
             raise Unsupported().saying(f"sum does not serve parts of type {self.type}")
-        if isinstance(self.sums, FloatSums):
-            return self.sums.rounded()
         logical = asked_type(self.type)[1]
         name = "u64" if self.type.startswith("u") else "i64"
         fits = range_of(name)
@@ -188,6 +187,7 @@ class Partial:
             self.is_sorted and after.is_sorted and not _is_below(after.first.value, self.last.value),
             self.is_strictly_sorted and after.is_strictly_sorted and _is_below(self.last.value, after.first.value),
             _grown(self.first, after.first, self.runs), _grown(after.last, self.last, after.runs),
+            _joined_sums(self.float_sums, after.float_sums),
         )
 
 
