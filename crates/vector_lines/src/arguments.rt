@@ -5,7 +5,8 @@ use crate::commands::read_command;
 use crate::flats::{bits_of_word, flat_column, flat_of, scalar_of};
 use crate::line_error::{LineError, LineResult};
 use crate::lists::row_validity;
-use crate::request::{self, Lists, NEXT, Record, Runs, Views};
+use crate::request::{self, Derived, Lists, NEXT, Record, Runs, Views};
+use crate::row_work::RowWork;
 use crate::types::read_type;
 use crate::values::{Value, bytes_of, bytes_of_words, paired, read_value};
 use bytes::Bytes;
@@ -31,6 +32,9 @@ pub fn prepare<A: Allocator + Copy>(
         request::Call::Validity => on_copy(name, Task::Validity, columns, ctx),
         request::Call::Meta => on_copy(name, Task::Meta, columns, ctx),
         request::Call::Bytes => on_copy(name, Task::Bytes, columns, ctx),
+        request::Call::Equals(other) => prepared_equality(name, other, columns, ctx),
+        request::Call::Hash => on_copy(name, Task::Hash, columns, ctx),
+        request::Call::Derived(derived) => Ok(Call::Derive(prepared_work(derived, columns, ctx)?)),
         request::Call::Read(words) => Ok(Call::Read(bytes_of_words(*ctx.allocator(), words)?)),
         _ => Ok(Call::Make(prepared_maker(call, columns, ctx)?)),
     }
@@ -108,6 +112,43 @@ fn on_copy<A: Allocator + Copy>(
         Err(error) => {
             drop(task);
             Err(error)
+        }
+    }
+}
+
+// Whether copies of the columns of two names have the same rows.
+fn prepared_equality<A: Allocator + Copy>(
+    name: &str,
+    other: &str,
+    columns: &Columns<A>,
+    ctx: &mut ExecutionCtx<A>,
+) -> LineResult<Call<A>> {
+    let (column, other) = clones_named(name, other, columns, ctx)?;
+    Ok(Call::On(column, Task::Equals(other)))
+}
+
+// The work on copies of the columns of its names.
+fn prepared_work<A: Allocator + Copy>(
+    derived: Derived<'_>,
+    columns: &Columns<A>,
+    ctx: &mut ExecutionCtx<A>,
+) -> LineResult<RowWork<A>> {
+    match derived {
+        Derived::One(operator, name) => {
+            Ok(RowWork::One(operator, clone_named(name, columns, ctx)?))
+        }
+        Derived::Pair(left, operator, right) => {
+            let (left, right) = clones_named(left, right, columns, ctx)?;
+            Ok(RowWork::Pair(left, operator, right))
+        }
+        Derived::Choice(mask, left, right) => {
+            let mask = clone_named(mask, columns, ctx)?;
+            let (mask, (left, right)) = paired(mask, clones_named(left, right, columns, ctx))?;
+            Ok(RowWork::Choice(mask, left, right))
+        }
+        Derived::Fold(part, values, keys) => {
+            let (values, keys) = clones_named(values, keys, columns, ctx)?;
+            Ok(RowWork::Fold(part, values, keys))
         }
     }
 }

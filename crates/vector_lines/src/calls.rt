@@ -1,10 +1,12 @@
 //! Calls, and what comes of them.
 use crate::lists::boxed_lists;
-use crate::printer::{
-    push_byte_words, push_metadata, push_refusal, push_row, push_sum, push_truth, push_validity,
-    push_word,
+use crate::printer::{push_refusal, push_row, push_sum, push_truth, push_word};
+use crate::questions::{
+    bytes_reply, equality_of, hash_of, meta_of, probe_of, read_of, row_reply, text_reply,
+    validity_of,
 };
 use crate::request::NEXT;
+use crate::row_work::{RowWork, WorkError};
 use bytes::Bytes;
 use column_base::VortexResult;
 use column_bytes::{read_column, write_column};
@@ -14,8 +16,7 @@ use std::alloc::Allocator;
 use std::rc::Rc;
 use vortex_runend::{
     ArrayRef, DType, ExecutionCtx, FlatColumn, ListViewArray, RowValidity, RunEnd, RunEndArray,
-    RunEndMetadata, RunEndProbe, Scalar, ScalarView, Validity, VarBinKind, VarBinViewArray, View,
-    VortexError, deserialize, serialize, validity,
+    Scalar, Validity, VarBinKind, VarBinViewArray, View, VortexError, deserialize,
 };
 
 /// A call with what it is given.
@@ -23,6 +24,8 @@ use vortex_runend::{
 pub enum Call<A: Allocator> {
     /// A column is made.
     Make(Maker<A>),
+    /// Makes a column from the rows of others.
+    Derive(RowWork<A>),
     /// Something is done to a column.
     On(ArrayRef<A>, Task<A>),
     /// A record of these bytes is read.
@@ -69,6 +72,9 @@ pub enum Task<A: Allocator> {
     Validity,
     Meta,
     Bytes,
+    /// Asks whether this column has the same rows.
+    Equals(ArrayRef<A>),
+    Hash,
 }
 
 /// What a call, or a line, is answered.
@@ -78,6 +84,8 @@ pub enum Reply<A: Allocator> {
     Done,
     /// It is refused.
     Refused(VortexError),
+    /// It is refused: the answer of this row, run or group, from 0, is not a number of its type.
+    Overflow(usize),
     /// There was no room for the answers of commands, and no command was begun, or none for the text of a look.
     NoRoom,
     /// It says this.
@@ -120,6 +128,7 @@ impl<A: Allocator + Copy> Call<A> {
                     column: None,
                 }),
             },
+            Call::Derive(work) => Ok(result_of_work(work.make(ctx))),
             Call::On(mut column, task) => {
                 match task.run(&mut column, ctx, ample) {
                     Ok(reply) => Ok(CallResult {
@@ -137,6 +146,24 @@ impl<A: Allocator + Copy> Call<A> {
                 column: None,
             }),
         }
+    }
+}
+
+// What comes of a column that is made from the rows of others.
+fn result_of_work<A: Allocator>(made: Result<ArrayRef<A>, WorkError>) -> CallResult<A> {
+    match made {
+        Ok(column) => CallResult {
+            reply: Reply::Done,
+            column: Some(column),
+        },
+        Err(WorkError::Refused(error)) => CallResult {
+            reply: Reply::Refused(error),
+            column: None,
+        },
+        Err(WorkError::Overflow(place)) => CallResult {
+            reply: Reply::Overflow(place),
+            column: None,
+        },
     }
 }
 
@@ -248,6 +275,8 @@ impl<A: Allocator + Copy> Task<A> {
             Task::Validity => validity_of(column, ctx, ample),
             Task::Meta => meta_of(column, ctx, ample),
             Task::Bytes => bytes_reply(write_column(*ctx.allocator(), column), ample),
+            Task::Equals(other) => equality_of(column, other, ctx, ample),
+            Task::Hash => hash_of(column, ctx, ample),
         }
     }
 }
@@ -367,17 +396,6 @@ fn reply_to<A: Allocator + Copy>(answer: &Answer<A>, ample: A) -> VortexResult<R
     }
 }
 
-// The text as a reply, unless it could not be written.
-fn text_reply<A: Allocator>(text: String<A>, pushed: VortexResult<()>) -> VortexResult<Reply<A>> {
-    match pushed {
-        Ok(()) => Ok(Reply::Says(text)),
-        Err(error) => {
-            drop(text);
-            Err(error)
-        }
-    }
-}
-
 // The words of an answer.
 fn push_answer<A: Allocator + Copy>(text: &mut String<A>, answer: &Answer<A>) -> VortexResult<()> {
     match answer {
@@ -391,90 +409,5 @@ fn push_answer<A: Allocator + Copy>(text: &mut String<A>, answer: &Answer<A>) ->
         }
         Answer::MinMax(None) => push_word(text, "none"),
         Answer::Bool(truth) => push_truth(text, *truth),
-    }
-}
-
-fn probe_of<A: Allocator + Copy>(
-    column: &ArrayRef<A>,
-    index: usize,
-    ample: A,
-) -> VortexResult<Reply<A>> {
-    let ArrayRef::RunEnd(runs) = column else {
-        return Ok(Reply::Bad);
-    };
-    let probe = RunEndProbe::new(runs);
-    row_reply(probe.execute_scalar(index), ample)
-}
-
-// What is said of a row.
-fn row_reply<A: Allocator + Copy>(
-    row: VortexResult<ScalarView<'_, A>>,
-    ample: A,
-) -> VortexResult<Reply<A>> {
-    match row {
-        Ok(row) => {
-            let mut text = String::new(ample);
-            let pushed = push_row(&mut text, row);
-            text_reply(text, pushed)
-        }
-        Err(error) => Ok(Reply::Refused(error)),
-    }
-}
-
-fn validity_of<A: Allocator + Copy>(
-    column: &ArrayRef<A>,
-    ctx: &mut ExecutionCtx<A>,
-    ample: A,
-) -> VortexResult<Reply<A>> {
-    let ArrayRef::RunEnd(runs) = column else {
-        return Ok(Reply::Bad);
-    };
-    match validity(runs, ctx) {
-        Ok(rows) => {
-            let mut text = String::new(ample);
-            let pushed = push_validity(&mut text, &rows);
-            drop(rows);
-            text_reply(text, pushed)
-        }
-        Err(error) => Ok(Reply::Refused(error)),
-    }
-}
-
-fn meta_of<A: Allocator + Copy>(
-    column: &ArrayRef<A>,
-    ctx: &mut ExecutionCtx<A>,
-    ample: A,
-) -> VortexResult<Reply<A>> {
-    let ArrayRef::RunEnd(runs) = column else {
-        return Ok(Reply::Bad);
-    };
-    bytes_reply(serialize(runs, ctx), ample)
-}
-
-// What is said of the bytes of a record or of a message.
-fn bytes_reply<A: Allocator + Copy>(
-    bytes: VortexResult<Vec<u8, A>>,
-    ample: A,
-) -> VortexResult<Reply<A>> {
-    match bytes {
-        Ok(bytes) => {
-            let mut text = String::new(ample);
-            let pushed = push_byte_words(&mut text, &bytes);
-            drop(bytes);
-            text_reply(text, pushed)
-        }
-        Err(error) => Ok(Reply::Refused(error)),
-    }
-}
-
-// What the record of these bytes says.
-fn read_of<A: Allocator + Copy>(bytes: &[u8], ample: A) -> VortexResult<Reply<A>> {
-    match RunEndMetadata::decode(bytes) {
-        Ok(metadata) => {
-            let mut text = String::new(ample);
-            let pushed = push_metadata(&mut text, &metadata);
-            text_reply(text, pushed)
-        }
-        Err(error) => Ok(Reply::Refused(error)),
     }
 }

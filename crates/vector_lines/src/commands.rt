@@ -91,7 +91,8 @@ fn compared_with<'a>(
     Some(VectorCommand::CompareScalar(operator, dtype, read_value(value)?))
 }
 
-fn read_operator(word: &str) -> Option<CompareOperator> {
+// The operator of a comparison.
+pub(crate) fn read_operator(word: &str) -> Option<CompareOperator> {
     match word {
         "eq" => Some(CompareOperator::Eq),
         "ne" => Some(CompareOperator::NotEq),

@@ -2,6 +2,7 @@
 use crate::names::{is_name, only_name, read_name};
 use crate::reader::called;
 use crate::request::{Call, Lists, Plain, Record, Request, Runs, Views};
+use crate::row_words::read_derived;
 use crate::types::read_type;
 use crate::values::read_value;
 use column_words::parse_count;
@@ -15,7 +16,18 @@ pub(crate) fn read_maker<'a>(name: &'a str, words: &'a [&'a str]) -> Option<Requ
     let (maker, rest) = words.split_first()?;
     match read_plain(maker, rest) {
         Some(plain) => Some(Request::Make(name, plain)),
-        None => called(name, read_made(maker, rest)),
+        None => called(name, read_maker_call(words)),
+    }
+}
+
+// The call that makes a column: from the rows of others, or by the maker of the first word.
+fn read_maker_call<'a>(words: &'a [&'a str]) -> Option<Call<'a>> {
+    match read_derived(words) {
+        Some(derived) => Some(Call::Derived(derived)),
+        None => {
+            let (maker, rest) = words.split_first()?;
+            read_made(maker, rest)
+        }
     }
 }
 

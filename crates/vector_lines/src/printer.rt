@@ -38,7 +38,11 @@ fn push_space<A: Allocator + Copy>(text: &mut String<A>) -> VortexResult<()>
     Ok(())
 }
 
-fn push_number<A: Allocator + Copy>(text: &mut String<A>, number: i128) -> VortexResult<()>
+// The digits of a number.
+pub(crate) fn push_number<A: Allocator + Copy>(
+    text: &mut String<A>,
+    number: i128,
+) -> VortexResult<()>
     ensures only { IsOkUnless result VortexError.OutOfMemory }
 {
     push_space(text)?;

@@ -1,7 +1,7 @@
 //! What the words of a line ask.
 use crate::commands::{read_bare, read_worded};
 use crate::makers::read_maker;
-use crate::names::{is_name, only_count};
+use crate::names::{is_name, only_count, only_name};
 use crate::request::{Call, Look, Request};
 use crate::session_words::{read_kernels, read_thresholds};
 use column_words::parse_count;
@@ -101,6 +101,7 @@ fn read_call<'a>(verb: &str, words: &'a [&'a str]) -> Option<Call<'a>> {
         "run" => Some(Call::Run(words)),
         "row" => Some(Call::Row(only_count(words)?)),
         "probe" => Some(Call::Probe(only_count(words)?)),
+        "equals" => Some(Call::Equals(only_name(words)?)),
         _ => Some(Call::Command(read_worded(verb, first, rest)?)),
     }
 }
@@ -111,6 +112,7 @@ fn read_alone<'a>(verb: &str) -> Option<Call<'a>> {
         "validity" => Some(Call::Validity),
         "meta" => Some(Call::Meta),
         "bytes" => Some(Call::Bytes),
+        "hash" => Some(Call::Hash),
         _ => Some(Call::Command(read_bare(verb)?)),
     }
 }

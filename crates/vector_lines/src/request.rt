@@ -2,6 +2,7 @@
 use crate::values::Value;
 use column_ops::CompareOperator;
 use runend_array::{DType, Thresholds, VarBinKind};
+use runend_pairs::{BooleanOperator, GroupFold, NumericOperator};
 
 /// The word between a command of a list and the next, and between the parts that a builder is given.
 pub const NEXT: &str = ";";
@@ -55,6 +56,7 @@ pub enum Call<'a> {
     Deserialize(Record<'a>),
     /// The column of which these are the bytes of the message.
     FromBytes(&'a [&'a str]),
+    Derived(Derived<'a>),
     Command(VectorCommand<'a>),
     /// The words of commands, to be run as one list, parted by `NEXT`.
     Run(&'a [&'a str]),
@@ -65,6 +67,10 @@ pub enum Call<'a> {
     Meta,
     /// The message of a column.
     Bytes,
+    /// Asks whether the column of this name has the same rows.
+    Equals(&'a str),
+    /// Asks for the hash of the rows.
+    Hash,
     /// What a record says. It is asked of no column, so its request is named `read`, as no column is.
     Read(&'a [&'a str]),
 }
@@ -76,9 +82,10 @@ impl<'a> Call<'a> {
             Call::Copy(_) | Call::Encode(_) | Call::EncodeRows(_) => true,
             Call::Built(_, _) | Call::Runs(_) | Call::Whole(_) => true,
             Call::Lists(_) | Call::Views(_) => true,
-            Call::Deserialize(_) | Call::FromBytes(_) => true,
+            Call::Deserialize(_) | Call::FromBytes(_) | Call::Derived(_) => true,
             Call::Command(_) | Call::Run(_) | Call::Row(_) | Call::Probe(_) => false,
             Call::Validity | Call::Meta | Call::Bytes | Call::Read(_) => false,
+            Call::Equals(_) | Call::Hash => false,
         }
     }
 }
@@ -123,6 +130,56 @@ pub struct Record<'a> {
     pub bytes: &'a [&'a str],
     pub ends: &'a str,
     pub values: &'a str,
+}
+
+/// Columns made from the rows of columns, by their names.
+#[derive(Clone, Copy)]
+pub enum Derived<'a> {
+    One(RowOperator, &'a str),
+    Pair(&'a str, PairOperator, &'a str),
+    /// Names a mask, and the columns whose rows are taken where it is true and where it is false.
+    Choice(&'a str, &'a str, &'a str),
+    /// Names values, and the keys that they are grouped by.
+    Fold(GroupPart, &'a str, &'a str),
+}
+
+/// Says what is made from the rows of one column.
+#[derive(Clone, Copy)]
+pub enum RowOperator {
+    Sort,
+    Reverse,
+    /// Keeps the distinct rows in order.
+    Distinct,
+    /// Counts the rows that are equal to each of these.
+    Counts,
+    Not,
+    IsNull,
+    IsValid,
+    /// Adds up the rows before the end of each run.
+    Totals,
+    /// Says where each of these runs ends.
+    TotalEnds,
+}
+
+/// Says what is made of the two rows at each place.
+#[derive(Clone, Copy)]
+pub enum PairOperator {
+    Numeric(NumericOperator),
+    Boolean(BooleanOperator),
+    Compare(CompareOperator),
+    Coalesce,
+    Lesser,
+    Greater,
+}
+
+/// Says what of groups of rows with equal neighbouring keys is kept.
+#[derive(Clone, Copy)]
+pub enum GroupPart {
+    /// Keeps the answer of each group.
+    Answers(GroupFold),
+    Keys,
+    /// Keeps the row before which each group ends.
+    Ends,
 }
 
 /// Commands on a column.

@@ -194,6 +194,7 @@ pub fn reply_text<A: Allocator + Copy>(alloc: A, reply: Reply<A>) -> VortexResul
     match reply {
         Reply::Done => Ok(String::from_str(alloc, "ok")?),
         Reply::Refused(error) => refusal_text(alloc, error),
+        Reply::Overflow(place) => Ok(format!(in alloc; "refused 14 {place}")?),
         Reply::NoRoom => refusal_text(alloc, VortexError::OutOfMemory),
         Reply::Says(text) => Ok(text),
         Reply::ListReply(listed) => Ok(listed.text),
