@@ -5,5 +5,6 @@ pub mod CountedReads
 pub mod Sessions
 pub mod Replies
 pub mod Outcomes
+pub mod NewOrders
 pub mod RowsBehind
 pub mod AnswerLines

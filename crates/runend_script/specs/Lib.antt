@@ -8,5 +8,6 @@ pub mod Session
 pub mod Replies
 pub mod Messages
 pub mod Lengthened
+pub mod Reordered
 pub mod Outcomes
 pub mod AnswerLines

@@ -30,6 +30,15 @@ pub enum Setting {
     ZeroThresholds,
 }
 
+/// Says in which order rows are put.
+#[derive(Clone, Copy)]
+pub enum RowOrder {
+    /// Null first, then the numbers, none above the next.
+    Rising,
+    /// Begins with the last row.
+    Reversed,
+}
+
 /// A command on the column.
 #[derive(Clone, Copy)]
 pub enum ScriptCommand<'a> {
@@ -58,6 +67,10 @@ pub enum ScriptCommand<'a> {
     Append(Words<'a>),
     /// So many rows of a value are put behind the rows, and the column is written as runs. The word is yet to be read.
     Repeat(&'a str, usize),
+    /// Puts the rows in this order.
+    Reorder(RowOrder),
+    /// Shows the distinct rows, and how many rows are equal to each.
+    Counts,
     /// The rows are cast to this type.
     Cast(PType, Nullability),
     /// Each null is filled. The word is yet to be read, since the column's type says what it may be.
@@ -129,6 +142,9 @@ fn read_name<'a>(name: &str) -> Option<ScriptCommand<'a>> {
         "decode" => Some(ScriptCommand::Decode),
         "show" => Some(ScriptCommand::Show),
         "rows" => Some(ScriptCommand::Rows),
+        "sort" => Some(ScriptCommand::Reorder(RowOrder::Rising)),
+        "reverse" => Some(ScriptCommand::Reorder(RowOrder::Reversed)),
+        "counts" => Some(ScriptCommand::Counts),
         "sum" => Some(ScriptCommand::Sum),
         "minmax" => Some(ScriptCommand::MinMax),
         "constant" => Some(ScriptCommand::Constant),

@@ -9,6 +9,7 @@ mod message;
 mod output;
 mod reads;
 mod record;
+mod reordered;
 mod scripts;
 mod serving;
 mod session;

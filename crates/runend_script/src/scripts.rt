@@ -21,8 +21,9 @@ use crate::command::{Line, RunsLine, SLASH, ScriptCommand, Setting, read_line};
 use crate::lengthened::{with_batch, with_value};
 use crate::message::message_line;
 use crate::record::{meta_line, read_record};
+use crate::reordered::reorder;
 use crate::session::set_session;
-use crate::shown::{form_line, push_line, rows_line};
+use crate::shown::{counts_line, form_line, push_line, rows_line};
 use crate::values::{read_indices, read_mask, read_scalar, read_values};
 use crate::words::Words;
 use column_base::{DType, Nullability, PType, VortexError, VortexResult};
@@ -305,6 +306,10 @@ fn perform_on<A: Allocator + Copy>(
     match command {
         ScriptCommand::Append(words) => append_reply(words, column, ctx),
         ScriptCommand::Repeat(word, count) => repeat_reply(word, count, column, ctx),
+        ScriptCommand::Reorder(order) => {
+            reorder(order, column, ctx)?;
+            Ok(Reply::Done)
+        }
         _ => perform_step(command, column, ctx),
     }
 }
@@ -369,6 +374,7 @@ fn perform_step<A: Allocator + Copy>(
     match command {
         ScriptCommand::Show => Ok(Reply::Line(form_line(*ctx.allocator(), column)?)),
         ScriptCommand::Rows => Ok(Reply::Line(rows_line(*ctx.allocator(), column)?)),
+        ScriptCommand::Counts => Ok(Reply::Line(counts_line(column, ctx)?)),
         ScriptCommand::Meta => Ok(Reply::Line(meta_line(column, ctx)?)),
         ScriptCommand::Bytes => message_reply(*ctx.allocator(), column),
         ScriptCommand::Read(words) => match read_record(words, ctx)? {
@@ -480,10 +486,7 @@ fn reply_that<A: Allocator + Copy>(
 fn is_done<A: Allocator>(answer: &Answer<A>) -> bool
     ensures { IsTrue result ↔ (answer.now ≡ Done) }
 {
-    match answer {
-        Answer::Done => true,
-        _ => false,
-    }
+    matches!(answer, Answer::Done)
 }
 
 // Why an answer has no line.

@@ -1,13 +1,15 @@
-//! The lines of rows and of forms, without their line feeds, and how a line is put behind others.
+//! The lines of rows, of their counts and of forms, without their line feeds, and how a line is put behind others.
 ghost use Rattle.std.specs.Prelude.{◌≡◌, ◌++◌, ◌∷◌, [], OnErr, OnOk};
 ghost use Rattle.std.specs.String.{string_bytes};
 
 use crate::answer::push_word;
 use column_base::{DType, VortexError, VortexResult};
 use column_words::{is_null_or_number, name_of, push_marked};
+use runend_sorts::{ValueCounts, value_counts};
 use std::alloc::{AllocError, Allocator};
 use vortex_runend::{
-    ArrayRef, ConstantArray, RunEndArray, RunEndArrayExt, RunEndArraySlotsExt, ScalarView,
+    ArrayRef, ConstantArray, ExecutionCtx, RunEndArray, RunEndArrayExt, RunEndArraySlotsExt,
+    ScalarView,
 };
 
 /// Returns the line `rows V ..` of all rows. Refused as `Unsupported` where a row is neither null nor an integer, and
@@ -15,6 +17,20 @@ use vortex_runend::{
 pub fn rows_line<A: Allocator + Copy>(alloc: A, array: &ArrayRef<A>) -> VortexResult<String<A>> {
     let mut line = String::from_str(alloc, "rows")?;
     push_rows(&mut line, array)?;
+    Ok(line)
+}
+
+/// Returns the line `counts V N ..`: each distinct row, null first, and how many rows are equal to it. Refused as
+/// `Unsupported` where a row is neither null nor an integer, and as `OutOfMemory`.
+pub fn counts_line<A: Allocator + Copy>(
+    array: &ArrayRef<A>,
+    ctx: &mut ExecutionCtx<A>,
+) -> VortexResult<String<A>>
+    ensures session { ctx.new ≡ ctx.old }
+{
+    let ValueCounts { values, counts } = value_counts(array, ctx)?;
+    let mut line = String::from_str(*ctx.allocator(), "counts")?;
+    push_counts(&mut line, &values, &counts)?;
     Ok(line)
 }
 
@@ -76,6 +92,19 @@ fn push_rows<A: Allocator + Copy>(line: &mut String<A>, array: &ArrayRef<A>) -> 
     line.reserve(array.len().saturating_mul(2))?;
     for index in 0..array.len() {
         push_row(line, array.scalar_at(index)?)?;
+    }
+    Ok(())
+}
+
+// A word for each value, and one for its count.
+fn push_counts<A: Allocator + Copy>(
+    line: &mut String<A>,
+    values: &ArrayRef<A>,
+    counts: &ArrayRef<A>,
+) -> VortexResult<()> {
+    for index in 0..values.len() {
+        push_row(line, values.scalar_at(index)?)?;
+        push_row(line, counts.scalar_at(index)?)?;
     }
     Ok(())
 }
