@@ -102,3 +102,9 @@ pub flagged-here : {S : Type 0} (value : S → FlatValue) (items : List S) (flag
     → slice_get flags place ≡ Some flag → slice_get (flagged_rows value items flags) place ≡ Some (row_if value flag item)
 flagged-here value items flags place item true inside is flag = valid-here value items flags place item inside is flag
 flagged-here value items flags place item false inside is flag = null-here value items flags place inside flag
+
+-- the side that is neither of the other two
+pub greatest_side : (side : Ordering) → side ≢ Less → side ≢ Equal → side ≡ Greater
+greatest_side Less not_less not_equal = absurd (not_less refl)
+greatest_side Equal not_less not_equal = absurd (not_equal refl)
+greatest_side Greater not_less not_equal = refl

@@ -41,6 +41,11 @@ IsLeast rows row = IsFurthest Less rows row
 abbrev pub IsGreatest : List (Option Value) → Option Value → Type 0
 IsGreatest rows row = IsFurthest Greater rows row
 
+-- a row that is furthest to a side, seen as its type is
+pub record IsEnd {A : Type 0} (side : Ordering) (dtype : DType) (rows : List (Option Value)) (view : ScalarView A) : Type 0 where
+  pub furthest : IsFurthest side rows (sees view)
+  pub of_type : IsViewOf dtype view
+
 -- a least and a greatest row, each seen as its type is
 pub record AreEnds {A : Type 0} (dtype : DType) (rows : List (Option Value)) (low high : ScalarView A) : Type 0 where
   pub least : IsLeast rows (sees low)

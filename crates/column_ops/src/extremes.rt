@@ -5,12 +5,12 @@ ghost use Rattle.column_core.specs.FlatView.{leaf_in};
 ghost use Rattle.column_core.specs.Leaf.{leaf_dtype, leaf_rows, single_rows, OfDecimals, OfNumbers};
 ghost use Rattle.column_core.specs.PrimitiveForm.{primitive_dtype};
 ghost use Rattle.column_core.specs.ScalarView.{sees, IsViewOf};
-ghost use Rattle.column_ops.specs.OrderFacts.{AreEnds, IsFurthest, IsGreatest, IsLeast};
+ghost use Rattle.column_ops.specs.OrderFacts.{AreEnds, IsEnd, IsFurthest, IsGreatest, IsLeast};
 ghost use Rattle.column_ops.specs.Steps.{is_past};
 
 use crate::compared_views::compare_views;
 use crate::flat_rows::FlatRows;
-use crate::item_ends::min_max_of;
+use crate::item_ends::{end_of, min_max_of};
 use column_base::match_each_native;
 use column_core::{DecimalArray, FlatView, PrimitiveArray, PrimitiveValues, ScalarView};
 use std::alloc::Allocator;
@@ -35,6 +35,95 @@ pub fn min_max<'a, A: Allocator + Copy>(
     ensures greatest_of_type { IfSome result (λ ends. IsViewOf (leaf_dtype (leaf_in column.entry)) ends.1) }
 {
     ends_in(column, range)
+}
+
+/// Returns a row from `range.start` to `range.end - 1` that is not null and furthest to that side, borrowed: the least
+/// where the side is `Less`, and the greatest where it is `Greater`. `None` where all of them are null. Takes no
+/// memory, and compares for that side only.
+pub fn extreme<'a, A: Allocator + Copy>(
+    column: FlatView<'a, A>,
+    range: Range<usize>,
+    side: Ordering,
+) -> Option<ScalarView<'a, A>>
+    requires ordered { range.start ≤ range.end }
+    requires in_bounds { range.end ≤ length (leaf_rows (leaf_in column)) }
+    requires side { side ≢ Ordering.Equal }
+    ensures none { IfNone result (All (λ row. row ≡
+        None) (slice_range (single_rows (leaf_in column.entry)) range.start range.end)) }
+    ensures some { IfSome result (λ row. IsFurthest side
+        (slice_range (single_rows (leaf_in column.entry)) range.start range.end) (sees row)) }
+    ensures of_type { IfSome result (λ row. IsViewOf (leaf_dtype (leaf_in column.entry)) row) }
+{
+    end_in(column, range, side)
+}
+
+// The row of these that is furthest to a side, by kind.
+fn end_in<'a, A: Allocator + Copy>(
+    column: FlatView<'a, A>,
+    range: Range<usize>,
+    side: Ordering,
+) -> Option<ScalarView<'a, A>>
+    requires ordered { range.start ≤ range.end }
+    requires in_bounds { range.end ≤ length (leaf_rows (leaf_in column)) }
+    requires side { side ≢ Ordering.Equal }
+    ensures { let rows = slice_range (single_rows (leaf_in column.entry)) range.start range.end in
+        MatchOption result (All (λ row. row ≡ None) rows) (λ row.
+        IsEnd side (leaf_dtype (leaf_in column.entry)) rows row) }
+{
+    match column {
+        FlatView::Primitive(array) => end_of_numbers(array, range, side),
+        FlatView::Bool(array) => end_of_rows(array, range, side),
+        FlatView::Decimal(array) => end_of_decimals(array, range, side),
+        FlatView::VarBinView(array) => end_of_rows(array, range, side),
+    }
+}
+
+// The integer that is furthest to a side, by the native type.
+fn end_of_numbers<'a, A: Allocator + Copy>(
+    array: &'a PrimitiveArray<A>,
+    range: Range<usize>,
+    side: Ordering,
+) -> Option<ScalarView<'a, A>>
+    requires ordered { range.start ≤ range.end }
+    requires in_bounds { range.end ≤ length (leaf_rows (OfNumbers array.now)) }
+    requires side { side ≢ Ordering.Equal }
+    ensures { let rows = slice_range (single_rows (OfNumbers array.now)) range.start range.end in
+        MatchOption result (All (λ row. row ≡ None) rows) (λ row. IsEnd side (primitive_dtype array.now) rows row) }
+{
+    let validity = array.validity();
+    match_each_native!(array.values(), items => end_of(items.as_slice(), validity, range, side))
+}
+
+// The decimal that is furthest to a side.
+fn end_of_decimals<'a, A: Allocator + Copy>(
+    array: &'a DecimalArray<A>,
+    range: Range<usize>,
+    side: Ordering,
+) -> Option<ScalarView<'a, A>>
+    requires ordered { range.start ≤ range.end }
+    requires in_bounds { range.end ≤ length (leaf_rows (OfDecimals array.now)) }
+    requires side { side ≢ Ordering.Equal }
+    ensures { let rows = slice_range (single_rows (OfDecimals array.now)) range.start range.end in
+        MatchOption result (All (λ row. row ≡ None) rows) (λ row. IsEnd side (decimal_dtype_of array.now) rows row) }
+{
+    end_of(array.values(), array.validity(), range, side)
+}
+
+// The row that is furthest to a side, of rows that are looked up one by one.
+fn end_of_rows<'a, R: FlatRows<A>, A: Allocator + Copy>(
+    column: &'a R,
+    range: Range<usize>,
+    side: Ordering,
+) -> Option<ScalarView<'a, A>>
+    requires ordered { range.start ≤ range.end }
+    requires in_bounds { range.end ≤ length (leaf_rows (R.leaf column.now)) }
+    requires side { side ≢ Ordering.Equal }
+    ensures { let rows = slice_range (single_rows (R.leaf column.now)) range.start range.end in
+        MatchOption result (All (λ row. row ≡ None) rows) (λ row.
+        IsEnd side (leaf_dtype (R.leaf column.now)) rows row) }
+{
+    let row = furthest(column, range, side)?;
+    Some(row)
 }
 
 // The least and the greatest of these rows, by kind.

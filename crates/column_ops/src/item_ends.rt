@@ -6,12 +6,13 @@ ghost use Rattle.column_base.specs.Validity.{form_of, validity_flags};
 ghost use Rattle.column_base.specs.declared.dtype.DecimalDType.{DecimalDType};
 ghost use Rattle.column_base.specs.declared.dtype.Nullability.{Nullability};
 ghost use Rattle.column_ops.specs.Items.{flagged_rows, item_row, item_rows, IsFirstValid};
-ghost use Rattle.column_ops.specs.OrderFacts.{AreEnds, IsGreatest, IsLeast};
+ghost use Rattle.column_ops.specs.OrderFacts.{AreEnds, IsEnd, IsGreatest, IsLeast};
 ghost use Rattle.column_ops.specs.Steps.{AreEndsSoFar};
 
 use crate::items::FlatItem;
 use column_core::{BitBuffer, ScalarView, Validity};
 use std::alloc::Allocator;
+use std::cmp::Ordering;
 use std::hint::select_unpredictable;
 use std::ops::Range;
 
@@ -35,7 +36,39 @@ pub(crate) fn min_max_of<'a, T: FlatItem, A: Allocator>(
     Some((least.view(), greatest.view()))
 }
 
-// The least and the greatest of the items from `start` to `stop - 1` that are no nulls.
+/// Returns the item from `range.start` to `range.end - 1` that is not null and furthest to that side, as a row: the
+/// least where the side is `Less`, and the greatest where it is `Greater`. `None` where all of them are null. Takes no
+/// memory.
+pub(crate) fn end_of<'a, T: FlatItem, A: Allocator>(
+    items: &[T],
+    validity: &Validity<A>,
+    range: Range<usize>,
+    side: Ordering,
+) -> Option<ScalarView<'a, A>>
+    requires fits { HasLength (form_of validity.now) (length items.now) }
+    requires ordered { range.start ≤ range.end }
+    requires in_bounds { range.end ≤ length items.now }
+    requires side { side ≢ Ordering.Equal }
+    ensures { (decimal : DecimalDType) (nullability : Nullability) →
+        let rows = slice_range (flagged_rows T.value items.now (validity_flags validity.now (length items.now)))
+        range.start range.end in
+        MatchOption result (All (λ row. row ≡ None) rows) (λ row. IsEnd side (T.dtype decimal nullability) rows row) }
+{
+    match side {
+        Ordering::Less => {
+            let (least, _) = item_ends(items, validity, range.start, range.end)?;
+            Some(least.view())
+        }
+        _ => {
+            let (_, greatest) = item_ends(items, validity, range.start, range.end)?;
+            Some(greatest.view())
+        }
+    }
+}
+
+// The least and the greatest of the items from `start` to `stop - 1` that are no nulls. Inlined with its loops, so that
+// a caller who takes one end compares for that end only.
+#[inline(always)]
 fn item_ends<T: FlatItem, A: Allocator>(
     items: &[T],
     validity: &Validity<A>,
@@ -64,6 +97,7 @@ fn item_ends<T: FlatItem, A: Allocator>(
 // The least and the greatest of items of which none is null. They are in two parts, and an item of each is looked at at
 // once: the lesser of the two is compared with the least, and the greater with the greatest. The middle one of an odd
 // number of items is in both parts.
+#[inline(always)]
 fn ends_of_valid<T: FlatItem>(items: &[T], start: usize, stop: usize) -> Option<(T, T)>
     requires ordered { start ≤ stop }
     requires in_bounds { stop ≤ length items.now }
@@ -103,6 +137,7 @@ pub(crate) fn first_valid<A: Allocator>(flags: &BitBuffer<A>, start: usize, stop
 }
 
 // The least and the greatest of items that are null where their flag is false, a word of flags at a time.
+#[inline(always)]
 fn ends_of_flagged<T: FlatItem, A: Allocator>(
     items: &[T],
     flags: &BitBuffer<A>,

@@ -40,7 +40,7 @@ mod views;
 pub use bit_writer::BitWriter;
 pub use compare::{compare_column, compare_scalar};
 pub use compared_views::compare_views;
-pub use extremes::min_max;
+pub use extremes::{extreme, min_max};
 pub use faults::{column_fault, kind_fault};
 pub use flat_order::FlatOrder;
 pub use operator::CompareOperator;
