@@ -42,6 +42,32 @@ pub fn min_max<'a, A: Allocator + Copy>(
     Ok(ends_of(array.values(), array.visible_runs()))
 }
 
+/// Returns a row that is not null and furthest to that side, borrowed from the column: the least where the side is
+/// `Less`, and the greatest where it is `Greater`. `None` where all rows are null. Work is by visible runs, which are
+/// compared for that side only. Refused as `Unsupported` exactly for lists. It takes no memory, whatever the form of
+/// the run values.
+pub fn extreme<'a, A: Allocator + Copy>(
+    array: &'a RunEndArray<A>,
+    side: Ordering,
+    ctx: &mut ExecutionCtx<A>,
+) -> VortexResult<Option<ScalarView<'a, A>>>
+    requires side { side ≢ Ordering.Equal }
+    ensures refused { IsRefusedBy (list_fault (column_dtype array.now.values)) result }
+    ensures no_memory { result ≢ Err VortexError.OutOfMemory }
+    ensures none { IfOk result (λ found. IfNone found (All (λ row. row ≡
+        None) (column_rows (column_of_runs array.now)))) }
+    ensures some { IfOk result (λ found. IfSome found (λ row. IsFurthest side (column_rows (column_of_runs array.now))
+        (sees row))) }
+    ensures of_type { IfOk result (λ found. IfSome found (λ row. IsViewOf (column_dtype array.now.values) row)) }
+    ensures session { ctx.new ≡ ctx.old }
+{
+    let _ = &ctx;
+    if let Some(error) = fault_of_lists(array.dtype()) {
+        return Err(error);
+    }
+    Ok(end_of(array.values(), array.visible_runs(), side))
+}
+
 // A row that is not null, and past which no such row is on that side, or `None` where all rows are null.
 fn furthest<A: Allocator + Copy>(
     values: &ArrayRef<A>,
@@ -105,5 +131,25 @@ fn ends_of<A: Allocator + Copy>(
     match values.flat_view() {
         Some(flat) => column_ops::min_max(flat, range),
         None => looked_up_ends(values, range),
+    }
+}
+
+// The row of these that is not null and furthest to a side. Flat values are read where they are stored, by their type.
+fn end_of<A: Allocator + Copy>(
+    values: &ArrayRef<A>,
+    range: Range<usize>,
+    side: Ordering,
+) -> Option<ScalarView<'_, A>>
+    requires ordered { range.start ≤ range.end }
+    requires in_bounds { range.end ≤ length (rows values.now) }
+    requires side { side ≢ Ordering.Equal }
+    ensures none { IfNone result (All (λ row. row ≡ None) (slice_range (rows values.now) range.start range.end)) }
+    ensures some { IfSome result (λ row. IsFurthest side (slice_range (rows values.now) range.start range.end)
+        (sees row)) }
+    ensures of_type { IfSome result (λ row. IsViewOf (dtype_of values.now) row) }
+{
+    match values.flat_view() {
+        Some(flat) => column_ops::extreme(flat, range, side),
+        None => furthest(values, range, side),
     }
 }

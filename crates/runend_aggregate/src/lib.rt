@@ -18,6 +18,6 @@ mod visible_sums;
 pub use column_sums::{SignedSum, SumAnswer, SumValue, UnsignedSum};
 pub use constant_sums::sum_of_constant;
 pub use constants::{is_constant_of_constant, is_sorted_of_constant, min_max_of_constant};
-pub use extremes::min_max;
+pub use extremes::{extreme, min_max};
 pub use order::{is_constant, is_sorted};
 pub use sums::{sum, sum_signed_runs, sum_unsigned_runs};
