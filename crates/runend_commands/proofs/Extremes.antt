@@ -1,6 +1,8 @@
 -- The least and the greatest row, copied.
-use Rattle.std.proofs.Common.{◌≡◌, Option, Some, None, refl}
+use Rattle.std.proofs.Common.{◌≡◌, ◌≢◌, Option, Some, None, refl}
 use Rattle.std.specs.Prelude.{All, IfNone, IfOk, IfSome, Result, Ok, Err}
+use Rattle.std.specs.declared.cmp.Ordering.{Ordering}
+use Rattle.std.specs.declared.cmp.Ordering.TheVariants.{Less, Equal, Greater}
 use Rattle.column_base.specs.declared.dtype.DType.{DType}
 use Rattle.column_base.specs.declared.dtype.DType.TheVariants as column
 use Rattle.column_base.specs.declared.dtype.Nullability.{Nullability}
@@ -14,9 +16,9 @@ use Rattle.column_core.specs.VarBinForm.{kind_dtype}
 use Rattle.column_core.specs.declared.varbinview.VarBinKind.{VarBinKind}
 use Rattle.column_core.specs.declared.varbinview.VarBinKind.TheVariants.{Utf8, Binary}
 use Rattle.column_core.specs.declared.view.ScalarView.{ScalarView}
-use Rattle.column_ops.specs.OrderFacts.{IsGreatest, IsLeast}
+use Rattle.column_ops.specs.OrderFacts.{IsFurthest, IsGreatest, IsLeast}
 use Rattle.column_core.specs.Kinds.{list_fault}
-use Rattle.runend_commands.specs.Extremes.{AreCopiesOf, AreExtremesIfAny}
+use Rattle.runend_commands.specs.Extremes.{AreCopiesOf, AreExtremes, AreExtremesIfAny, IsCopyIfAny, IsExtreme, IsExtremeIfAny}
 
 -- a type whose rows have an order is none of lists
 pub single_if_ordered : (t : DType) → list_fault t ≡ None → ¬ IsLists t
@@ -67,3 +69,32 @@ pub extremes_answered : {A : Type 0} (before : PlainColumn) (found : Option (Sca
     → IfOk result (AreCopiesOf before.dtype found) → IfOk result (AreExtremesIfAny before)
 extremes_answered before found (Ok scalars) none least greatest copies = extremes_copied before found scalars none least greatest copies
 extremes_answered before found (Err error) none least greatest copies = tt
+
+-- a copy of the row that is furthest to a side is that row
+extreme_copied : {A : Type 0} (side : Ordering) (before : PlainColumn) (found : Option (ScalarView A)) (scalar : Option ScalarForm)
+    → IfNone found (All (λ row. row ≡ None) before.rows) → IfSome found (λ row. IsFurthest side before.rows (sees row))
+    → IsCopyIfAny before.dtype found scalar → IsExtremeIfAny side before scalar
+extreme_copied side before None None none some copy = none
+extreme_copied side before None (Some scalar) none some copy = absurd copy
+extreme_copied side before (Some view) None none some copy = absurd copy
+extreme_copied side before (Some view) (Some scalar) none some copy = record {
+  dtype = copy.0;
+  furthest = rw copy.1 some;
+}
+
+-- and so is a copy that may be refused
+pub extreme_answered : {A : Type 0} (side : Ordering) (before : PlainColumn) (found : Option (ScalarView A)) (result : Result (Option ScalarForm) VortexError)
+    → IfNone found (All (λ row. row ≡ None) before.rows) → IfSome found (λ row. IsFurthest side before.rows (sees row))
+    → IfOk result (IsCopyIfAny before.dtype found) → IfOk result (IsExtremeIfAny side before)
+extreme_answered side before found (Ok scalar) none some copy = extreme_copied side before found scalar none some copy
+extreme_answered side before found (Err error) none some copy = tt
+
+-- the first of two is the least
+pub least_of_both : (before : PlainColumn) (first last : ScalarForm) (side : Ordering) → side ≡ Less → AreExtremes before first last → IsExtreme side before first
+least_of_both before first last side is ends = rw is (record { dtype = ends.first_dtype; furthest = ends.least })
+
+-- the last of two is the greatest
+pub greatest_of_both : (before : PlainColumn) (first last : ScalarForm) (side : Ordering) → side ≢ Less → side ≢ Equal → AreExtremes before first last → IsExtreme side before last
+greatest_of_both before first last Less not_less not_equal ends = absurd (not_less refl)
+greatest_of_both before first last Equal not_less not_equal ends = absurd (not_equal refl)
+greatest_of_both before first last Greater not_less not_equal ends = record { dtype = ends.last_dtype; furthest = ends.greatest }

@@ -23,7 +23,7 @@ pub use comparisons::compare;
 pub use constancy::is_constant;
 pub(crate) use constants::has_constant_form;
 pub use encodings::encode;
-pub use extremes::min_max;
+pub use extremes::{extreme, min_max};
 pub use fills::fill_null;
 pub use filters::filter;
 pub use scalar_comparisons::compare_scalar;

@@ -5,12 +5,12 @@ ghost use Rattle.column_core.specs.Leaf.{leaf_dtype};
 ghost use Rattle.column_core.specs.Refusal.{IsRefusedBy};
 ghost use Rattle.column_core.specs.Scalar.{IsScalarOf, flat_of};
 ghost use Rattle.column_core.specs.ScalarView.{IsViewOf, sees};
-ghost use Rattle.column_core.specs.Value.{IsLists, Single};
+ghost use Rattle.column_core.specs.Value.{IsLists, PlainColumn, Single};
 ghost use Rattle.column_core.specs.Kinds.{list_fault};
 ghost use Rattle.runend_array.specs.Array.{column_of, dtype_of};
 ghost use Rattle.runend_array.specs.Column.{OfConstant, OfLeaf, column_dtype, column_of_runs, plain_of};
 ghost use Rattle.runend_array.specs.declared.session.Kernel.TheVariants.{MinMax as min_max_kernel};
-ghost use Rattle.runend_commands.specs.Extremes.{AreCopiesOf, AreExtremesIfAny, HasBytes, IsCopyOf};
+ghost use Rattle.runend_commands.specs.Extremes.{AreCopiesOf, AreExtremesIfAny, HasBytes, IsCopyIfAny, IsCopyOf, IsExtremeIfAny};
 ghost use Rattle.runend_commands.specs.KernelForms.{IsReadInPlace};
 ghost use Rattle.runend_commands.specs.Meaning.{plain};
 
@@ -20,6 +20,7 @@ use runend_aggregate::min_max_of_constant;
 use runend_array::{ArrayRef, ConstantArray, ExecutionCtx, Kernel, RunEndArray, RunEndArrayExt};
 use runend_column::flat_rows;
 use std::alloc::Allocator;
+use std::cmp::Ordering;
 
 /// Returns the least and the greatest row that are not null, in memory of their own, or `None` where all are null. But
 /// for texts and bytes it takes no memory where the array is flat, or is runs or a constant and the kernel is
@@ -44,6 +45,83 @@ pub fn min_max<A: Allocator + Copy>(
         return extremes_of_flat(flat, ctx);
     }
     extremes_row_by_row(column, ctx)
+}
+
+/// Returns the row that is not null and furthest to that side, in memory of its own: the least where the side is
+/// `Less`, and the greatest where it is `Greater`. `None` where all are null. Memory and refusals are those of
+/// `min_max`; where the array is flat, or is runs and the kernel is registered, rows are compared for that side only.
+pub fn extreme<A: Allocator + Copy>(
+    column: &ArrayRef<A>,
+    side: Ordering,
+    ctx: &mut ExecutionCtx<A>,
+) -> VortexResult<Option<Scalar<A>>>
+    requires side { side ≢ Ordering.Equal }
+    ensures refused { IsRefusedBy (list_fault (dtype_of column.now)) result }
+    ensures extreme { IfOk result (IsExtremeIfAny side (plain column.now)) }
+    ensures in_place { ¬ HasBytes (dtype_of column.now) → IsReadInPlace ctx.old min_max_kernel (column_of column.now) →
+        result ≢ Err VortexError.OutOfMemory }
+    ensures session { ctx.new ≡ ctx.old }
+{
+    if let Some(runs) = runs_for(column, Kernel::MinMax, ctx) {
+        return extreme_of_runs(runs, side, ctx);
+    }
+    if let Some(flat) = column.flat_view() {
+        return extreme_of_flat(flat, side, ctx);
+    }
+    let found = min_max(column, ctx)?;
+    Ok(one_of(found, side))
+}
+
+// The row of a run column that is furthest to a side, found by the kernel.
+#[tactic(auto, using(crate::proofs::Extremes::single_if_ordered))]
+fn extreme_of_runs<A: Allocator + Copy>(
+    runs: &RunEndArray<A>,
+    side: Ordering,
+    ctx: &mut ExecutionCtx<A>,
+) -> VortexResult<Option<Scalar<A>>>
+    requires side { side ≢ Ordering.Equal }
+    ensures refused { IsRefusedBy (list_fault (column_dtype runs.now.values)) result }
+    ensures extreme { IfOk result (IsExtremeIfAny side (plain_of (column_of_runs runs.now))) }
+    ensures no_memory { ¬ HasBytes (column_dtype runs.now.values) → result ≢ Err VortexError.OutOfMemory }
+    ensures session { ctx.new ≡ ctx.old }
+{
+    let found = runend_aggregate::extreme(runs, side, ctx)?;
+    scalar_if_any(*ctx.allocator(), runs.dtype(), found)
+}
+
+// The row of a flat column that is furthest to a side.
+#[tactic(auto, using(crate::proofs::Extremes::ordered_leaf, crate::proofs::Extremes::single_leaf))]
+fn extreme_of_flat<A: Allocator + Copy>(
+    flat: FlatView<'_, A>,
+    side: Ordering,
+    ctx: &ExecutionCtx<A>,
+) -> VortexResult<Option<Scalar<A>>>
+    requires side { side ≢ Ordering.Equal }
+    ensures refused { IsRefusedBy (list_fault (leaf_dtype (leaf_in flat.entry))) result }
+    ensures extreme { IfOk result (IsExtremeIfAny side (plain_of (OfLeaf (leaf_in flat.entry)))) }
+    ensures no_memory { ¬ HasBytes (leaf_dtype (leaf_in flat.entry)) → result ≢ Err VortexError.OutOfMemory }
+{
+    let found = column_ops::extreme(flat, 0..flat.len(), side);
+    scalar_if_any(*ctx.allocator(), flat.dtype(), found)
+}
+
+// The one of two rows that is furthest to a side.
+#[tactic(auto, using(crate::proofs::Extremes::least_of_both, crate::proofs::Extremes::greatest_of_both))]
+fn one_of<A: Allocator>(found: Option<(Scalar<A>, Scalar<A>)>, side: Ordering) -> Option<Scalar<A>>
+    requires side { side ≢ Ordering.Equal }
+    ensures { (before : PlainColumn) → AreExtremesIfAny before found → IsExtremeIfAny side before result }
+{
+    let (least, greatest) = found?;
+    match side {
+        Ordering::Less => {
+            drop(greatest);
+            Some(least)
+        }
+        _ => {
+            drop(least);
+            Some(greatest)
+        }
+    }
 }
 
 // The two rows of a run column, found by the kernel.
@@ -128,6 +206,25 @@ fn scalar_pair<A: Allocator + Copy>(
             Err(error)
         }
     }
+}
+
+// What a row of this type shows, as a scalar of it, if there is a row.
+fn scalar_if_any<A: Allocator + Copy>(
+    alloc: A,
+    dtype: DType,
+    found: Option<ScalarView<'_, A>>,
+) -> VortexResult<Option<Scalar<A>>>
+    requires single { ¬ IsLists dtype }
+    requires of_type { IfSome found (λ row. IsViewOf dtype row) }
+    ensures only { IsOkUnless result VortexError.OutOfMemory }
+    ensures copy { IfOk result (IsCopyIfAny dtype found.entry) }
+    ensures no_memory { ¬ HasBytes dtype → IsOk result }
+{
+    let Some(row) = found else {
+        return Ok(None);
+    };
+    let scalar = scalar_copy(alloc, dtype, row)?;
+    Ok(Some(scalar))
 }
 
 // What a row of this type shows, as a scalar of it. Only a copy of a text or of bytes takes memory.
