@@ -6,13 +6,12 @@ use Rattle.column_base.specs.declared.error.VortexError.{VortexError}
 use Rattle.column_base.specs.declared.error.VortexError.TheVariants.{OutOfMemory}
 use Rattle.column_base.specs.Error.{number_of}
 use Rattle.column_core.specs.Refusal.{IsErrorFor}
-use Rattle.column_core.specs.Value.{PlainColumn, Value}
+use Rattle.column_core.specs.Value.{PlainColumn}
 use Rattle.runend_array.specs.declared.array_ref.ArrayRef.{ArrayRef}
 use Rattle.runend_commands.specs.declared.command.Command.TheVariants.{MinMax}
 use Rattle.runend_commands.specs.Refusal.{refusal}
 use Rattle.runend_commands.specs.Meaning.{plain}
 use Rattle.c_columns.specs.Ending.{EndsAlways, EndsOnExtreme, HasFields, IsExtremeFault}
-use Rattle.c_columns.specs.Values.{IsFurthestRow, IsRoomFault}
 use Rattle.c_columns.specs.declared.error_fields.ErrorFields.{ErrorFields}
 use Rattle.c_columns.proofs.Endings.{as_error, ends_done, ends_refused}
 
@@ -22,10 +21,6 @@ Held = Option (ArrayRef Global)
 -- the command is refused
 pub refused_extreme : (greatest : Bool) (before : PlainColumn) (room : ℕ) (error : VortexError) → IsErrorFor (refusal {A = Global} before MinMax) error → IsExtremeFault greatest before room error
 refused_extreme greatest before room error why = inl why
-
--- the row has no room
-pub short_extreme : (greatest : Bool) (before : PlainColumn) (room : ℕ) (value : Option Value) (error : VortexError) → refusal {A = Global} before MinMax ≡ None → IsFurthestRow greatest before.rows value → IsRoomFault value room error → IsExtremeFault greatest before room error
-short_extreme greatest before room value error accepted furthest short = inr (accepted, record { value = value; furthest = furthest; short = short })
 
 -- how the call ends
 pub extreme_empty : (greatest : Bool) (room : ℕ) (c : Held) (code : ℤ) (fields : ErrorFields) → c ≡ None → code ≡ pos 22 → EndsOnExtreme greatest room c code fields

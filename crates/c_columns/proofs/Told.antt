@@ -15,13 +15,13 @@ use Rattle.column_core.specs.declared.view.ScalarView.TheVariants as view
 use Rattle.runend_array.specs.Array.{dtype_of, rows}
 use Rattle.runend_array.specs.declared.array_ref.ArrayRef.{ArrayRef}
 use Rattle.column_ops.specs.OrderFacts as order
-use Rattle.runend_commands.specs.Extremes.{AreExtremes, shown}
+use Rattle.runend_commands.specs.Extremes.{AreExtremes, IsExtreme, shown}
 use Rattle.runend_commands.specs.Refusal.{refusal}
 use Rattle.runend_commands.specs.declared.command.Command.TheVariants.{MinMax}
-use Rattle.c_columns.specs.Ending.{HasNoRoomFor, HasRoomFor, IsEndsFault}
+use Rattle.c_columns.specs.Ending.{HasNoRoomFor, HasRoomFor, IsEndsFault, IsExtremeFault}
 use Rattle.c_columns.specs.Flags.{byte_of}
 use Rattle.c_columns.specs.declared.questions.Extremes.{Extremes}
-use Rattle.c_columns.specs.Values.{IsExtremeOf, IsFurthestRow, IsRoomFault, IsRoomThere, IsScalarTold, IsShownAt, IsTold, TellsView, halves}
+use Rattle.c_columns.specs.Values.{IsExtremeOf, IsFurthestRow, IsRoomFault, IsRoomThere, IsScalarTold, IsShownAt, IsTold, TellsView, halves, side_in}
 use Rattle.c_columns.specs.declared.row_value.RowValue.{RowValue}
 
 pub null_told : (value : RowValue) (text : List ℕ) → value.kind ≡ 0 → TellsView value text view.Null
@@ -68,26 +68,30 @@ greatest_row : (rows : List (Option Value)) (row : Option Value) → order.IsGre
 greatest_row rows None is = absurd (false≢true is.value)
 greatest_row rows (Some value) is = is
 
+-- the row that is furthest to the side of the one that is asked for
+furthest_row : (greatest : Bool) (rows : List (Option Value)) (row : Option Value) → order.IsFurthest (side_in greatest) rows row → IsFurthestRow greatest rows row
+furthest_row true rows row is = greatest_row rows row is
+furthest_row false rows row is = least_row rows row is
+
 module _ (before : PlainColumn) (text : List ℕ) (value : RowValue) (scalar : ScalarForm) (seen : ScalarView Global) where
   told_as : scalar.dtype ≡ before.dtype → sees seen ≡ shown scalar → IsViewOf scalar.dtype seen → TellsView value text seen → IsTold before.dtype (shown scalar) value text
   told_as typed same of tells = subst (λ (r : Option Value). IsTold before.dtype r value text) same (subst (λ (t : DType). IsTold t (sees seen) value text) typed (tells scalar.dtype of))
 
-  pub least_told : (other : ScalarForm) → AreExtremes before scalar other → sees seen ≡ shown scalar → IsViewOf scalar.dtype seen → TellsView value text seen → IsExtremeOf false before text value
-  least_told other ends same of tells = record { row = shown scalar; furthest = least_row before.rows (shown scalar) ends.least; told = told_as ends.first_dtype same of tells }
-
-  pub greatest_told : (other : ScalarForm) → AreExtremes before other scalar → sees seen ≡ shown scalar → IsViewOf scalar.dtype seen → TellsView value text seen → IsExtremeOf true before text value
-  greatest_told other ends same of tells = record { row = shown scalar; furthest = greatest_row before.rows (shown scalar) ends.greatest; told = told_as ends.last_dtype same of tells }
+  pub extreme_told : (greatest : Bool) → IsExtreme (side_in greatest) before scalar → sees seen ≡ shown scalar → IsViewOf scalar.dtype seen → TellsView value text seen → IsExtremeOf greatest before text value
+  extreme_told greatest extreme same of tells = record { row = shown scalar; furthest = furthest_row greatest before.rows (shown scalar) extreme.furthest; told = told_as extreme.dtype same of tells }
 
 -- what was told, if there was room
-pub least_of : (before : PlainColumn) (text : List ℕ) (outcome : Result RowValue VortexError) (scalar : ScalarForm) (seen : ScalarView Global) (other : ScalarForm) → AreExtremes before scalar other → sees seen ≡ shown scalar → IsViewOf scalar.dtype seen
-    → IfOk outcome (λ value. TellsView value text seen) → IfOk outcome (λ value. IsExtremeOf false before text value)
-least_of before text (Ok value) scalar seen other ends same of tells = least_told before text value scalar seen other ends same of tells
-least_of before text (Err error) scalar seen other ends same of tells = tt
+pub extreme_of : (greatest : Bool) (before : PlainColumn) (text : List ℕ) (outcome : Result RowValue VortexError) (scalar : ScalarForm) (seen : ScalarView Global) → IsExtreme (side_in greatest) before scalar → sees seen ≡ shown scalar → IsViewOf scalar.dtype seen
+    → IfOk outcome (λ value. TellsView value text seen) → IfOk outcome (λ value. IsExtremeOf greatest before text value)
+extreme_of greatest before text (Ok value) scalar seen extreme same of tells = extreme_told before text value scalar seen greatest extreme same of tells
+extreme_of greatest before text (Err error) scalar seen extreme same of tells = tt
 
-pub greatest_of : (before : PlainColumn) (text : List ℕ) (outcome : Result RowValue VortexError) (scalar : ScalarForm) (seen : ScalarView Global) (other : ScalarForm) → AreExtremes before other scalar → sees seen ≡ shown scalar → IsViewOf scalar.dtype seen
-    → IfOk outcome (λ value. TellsView value text seen) → IfOk outcome (λ value. IsExtremeOf true before text value)
-greatest_of before text (Ok value) scalar seen other ends same of tells = greatest_told before text value scalar seen other ends same of tells
-greatest_of before text (Err error) scalar seen other ends same of tells = tt
+-- or why there was none
+pub extreme_short : (greatest : Bool) (before : PlainColumn) (room : ℕ) (outcome : Result RowValue VortexError) (scalar : ScalarForm) (seen : ScalarView Global) → refusal {A = Global} before MinMax ≡ None → IsExtreme (side_in greatest) before scalar → sees seen ≡ shown scalar
+    → IfErr outcome (λ error. IsRoomFault (sees seen) room error) → IfErr outcome (λ error. IsExtremeFault greatest before room error)
+extreme_short greatest before room (Ok value) scalar seen accepted extreme same short = tt
+extreme_short greatest before room (Err error) scalar seen accepted extreme same short =
+    inr (accepted, record { value = sees seen; furthest = subst (λ (r : Option Value). IsFurthestRow greatest before.rows r) (sym same) (furthest_row greatest before.rows (shown scalar) extreme.furthest); short = short })
 
 -- all rows are null
 pub none_told : (greatest : Bool) (before : PlainColumn) (text : List ℕ) (value : RowValue) → All (λ row. row ≡ None) before.rows → value.kind ≡ 0 → IsExtremeOf greatest before text value

@@ -2,6 +2,8 @@
 use Rattle.std.specs.Prelude.{◌≡◌, ◌^◌, ℕ, ◌<◌, ◌≤◌, zero, suc, ℤ, ◌+ℤ◌, ◌*ℤ◌, pos, List, All, Bool, true, false, length, take, slice_get, Option, Some, None, option_map}
 use Rattle.std.specs.Global.{Global}
 use Rattle.std.specs.Str.{IsUtf8}
+use Rattle.std.specs.declared.cmp.Ordering.{Ordering}
+use Rattle.std.specs.declared.cmp.Ordering.TheVariants.{Greater, Less}
 use Rattle.column_base.specs.declared.dtype.DType.{DType}
 use Rattle.column_base.specs.declared.dtype.DType.TheVariants as column
 use Rattle.column_base.specs.declared.dtype.PType.{PType}
@@ -110,6 +112,11 @@ abbrev pub IsFurthestRow : Bool → List (Option Value) → Option Value → Typ
 IsFurthestRow greatest rows None = All (λ row. row ≡ None) rows
 IsFurthestRow true rows (Some value) = IsGreatest rows (Some value)
 IsFurthestRow false rows (Some value) = IsLeast rows (Some value)
+
+-- the side that the greatest row is furthest to, or the least
+abbrev pub side_in : Bool → Ordering
+side_in true = Greater
+side_in false = Less
 
 -- it tells that row
 pub record IsExtremeOf (greatest : Bool) (before : PlainColumn) (text : List ℕ) (value : RowValue) : Type 0 where

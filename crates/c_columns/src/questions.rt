@@ -13,7 +13,7 @@ ghost use Rattle.c_columns.specs.Flags.{Tells, byte_of as byte_of_truth};
 ghost use Rattle.c_columns.specs.Sessions.{IsReadInPlaceIn};
 ghost use Rattle.c_columns.specs.Totals.{IsTotalOf};
 ghost use Rattle.runend_commands.specs.Extremes.{HasBytes, shown as shown_by};
-ghost use Rattle.c_columns.specs.Values.{IsExtremeOf, IsRoomFault, IsRoomThere, IsScalarTold, IsShownAt};
+ghost use Rattle.c_columns.specs.Values.{IsExtremeOf, IsRoomFault, IsRoomThere, IsScalarTold, IsShownAt, side_in};
 ghost use Rattle.c_columns.specs.Ending.{IsEndsFault, IsExtremeFault, IsLookUpFault};
 
 use crate::row_value::{self, RowValue, row_value_of};
@@ -23,6 +23,7 @@ use column_core::{DType, Scalar, VortexError, VortexResult, fault_of_lists};
 use runend_array::ArrayRef;
 use runend_commands::compute;
 use std::alloc::Global;
+use std::cmp::Ordering;
 
 /// The least and the greatest row.
 #[derive(Clone, Copy)]
@@ -80,7 +81,7 @@ pub fn is_sorted(
 /// Returns the least or the greatest row that is not null, or null where all are. A text or bytes go to the front of
 /// `text`. Refused as the command is, and as `row_value_of`; but for texts and bytes never for memory where the
 /// rows are read in place.
-#[tactic(auto, using(crate::proofs::Extremes::refused_extreme, crate::proofs::Extremes::short_extreme, crate::proofs::Told::none_told))]
+#[tactic(auto, using(crate::proofs::Extremes::refused_extreme, crate::proofs::Told::extreme_short, crate::proofs::Told::none_told))]
 pub fn extreme_of(
     alloc: Global,
     session: &Session,
@@ -96,18 +97,24 @@ pub fn extreme_of(
         → result ≢ Err VortexError.OutOfMemory }
 {
     let mut ctx = context(alloc, session);
-    match compute::min_max(array, &mut ctx)? {
-        Some((least, last)) => {
-            let found = if greatest {
-                row_value_of(last.view(), text)
-            } else {
-                row_value_of(least.view(), text)
-            };
-            drop(least);
-            drop(last);
+    match compute::extreme(array, side_of(greatest), &mut ctx)? {
+        Some(scalar) => {
+            let found = row_value_of(scalar.view(), text);
+            drop(scalar);
             found
         }
         None => Ok(row_value::null()),
+    }
+}
+
+// The side that the greatest row is furthest to, or the least.
+fn side_of(greatest: bool) -> Ordering
+    ensures { result ≡ side_in greatest }
+{
+    if greatest {
+        Ordering::Greater
+    } else {
+        Ordering::Less
     }
 }
 

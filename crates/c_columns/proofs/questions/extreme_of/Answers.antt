@@ -1,40 +1,38 @@
-use Rattle.std.proofs.Common.{◌∙◌, ap, length, rules, Err}
-use Rattle.runend_commands.specs.Extremes.{AreExtremes}
-use Rattle.runend_commands.specs.Meaning.{plain}
+use Rattle.std.proofs.Common.{◌≡◌, ◌∙◌, ap, length, rules, subst, Err, None}
+use Rattle.std.specs.Global.{Global}
+use Rattle.std.specs.declared.cmp.Ordering.{Ordering}
 use Rattle.column_core.specs.ScalarView.{sees}
+use Rattle.runend_commands.specs.Extremes.{IsExtreme}
+use Rattle.runend_commands.specs.Meaning.{plain}
+use Rattle.runend_commands.specs.Refusal.{refusal}
+use Rattle.runend_commands.specs.declared.command.Command.TheVariants.{MinMax}
+use Rattle.c_columns.specs.Values.{side_in}
 use Rattle.c_columns.proofs.Short.{passed_short, row_not_short}
-use Rattle.c_columns.proofs.Told.{greatest_of, least_of}
+use Rattle.c_columns.proofs.Told.{extreme_of, extreme_short}
 use Rattle.c_columns.proofs.questions.extreme_of.Goals as goal
-use Rattle.c_columns.proofs.questions.extreme_of.Goals.{then-greatest, else-greatest}
 
-pub returns-after-greatest-clause-told : goal.returns-after-greatest-clause-told
-returns-after-greatest-clause-told c =
+pub returns-in-Some-clause-told : goal.returns-in-Some-clause-told
+returns-in-Some-clause-told c =
     let before = plain c.args.array.now in
-    let least = c.in-Some.least in
-    let last = c.in-Some.last in
-    let ends : AreExtremes before least last = search rules in
-    elim c.if-greatest.branch [
-      | then-greatest w ↦
-          let told = w.row_value_of-found in
-          rw (w.found-is, w.text-is, w.if-greatest.true) (greatest_of before told.new.text told.result last w.view.result least ends w.view.ensures.value w.view.ensures.of_type told.ensures.told)
-      | else-greatest w ↦
-          let told = w.row_value_of-found-else-greatest in
-          rw (w.found-is, w.text-is, w.if-greatest.false)
-          (least_of before told.new.text told.result least w.view-else-greatest.result last ends w.view-else-greatest.ensures.value w.view-else-greatest.ensures.of_type told.ensures.told)
-    ]
+    let scalar = c.in-Some.scalar in
+    let told = c.row_value_of-found in
+    let found : IsExtreme c.side_of.result before scalar = search rules in
+    let extreme : IsExtreme (side_in c.args.greatest) before scalar = subst (λ (side : Ordering). IsExtreme side before scalar) c.side_of.ensures found in
+    extreme_of c.args.greatest before told.new.text told.result scalar c.view.result extreme c.view.ensures.value c.view.ensures.of_type told.ensures.told
 
-pub returns-in_err-least-clause-memory : goal.returns-in_err-least-clause-memory
-returns-in_err-least-clause-memory c = λ plain read short.
-    c.min_max.ensures.in_place plain (read c.context-ctx.result c.context-ctx.ensures) (c.in_err-least.was ∙ ap Err (passed_short c.in_err-least.field-0.0 c.from_residual.result c.from_residual.ensures.1 short))
+pub returns-in-Some-clause-refused : goal.returns-in-Some-clause-refused
+returns-in-Some-clause-refused c =
+    let before = plain c.args.array.now in
+    let scalar = c.in-Some.scalar in
+    let told = c.row_value_of-found in
+    let accepted : refusal {A = Global} before MinMax ≡ None = search rules in
+    let found : IsExtreme c.side_of.result before scalar = search rules in
+    let extreme : IsExtreme (side_in c.args.greatest) before scalar = subst (λ (side : Ordering). IsExtreme side before scalar) c.side_of.ensures found in
+    extreme_short c.args.greatest before (length c.args.text.now) told.result scalar c.view.result accepted extreme c.view.ensures.value told.ensures.room
 
-pub returns-after-greatest-clause-memory : goal.returns-after-greatest-clause-memory
-returns-after-greatest-clause-memory c =
-    λ plain read.
-    elim c.if-greatest.branch [
-      | then-greatest w ↦
-          let told = w.row_value_of-found in
-          rw w.found-is (row_not_short (sees w.view.result) (length c.args.text.now) told.result told.ensures.room)
-      | else-greatest w ↦
-          let told = w.row_value_of-found-else-greatest in
-          rw w.found-is (row_not_short (sees w.view-else-greatest.result) (length c.args.text.now) told.result told.ensures.room)
-    ]
+pub returns-in_err-scalar-clause-memory : goal.returns-in_err-scalar-clause-memory
+returns-in_err-scalar-clause-memory c = λ plain read short.
+    c.extreme.ensures.in_place plain (read c.context-ctx.result c.context-ctx.ensures) (c.in_err-scalar.was ∙ ap Err (passed_short c.in_err-scalar.field-0.0 c.from_residual.result c.from_residual.ensures.1 short))
+
+pub returns-in-Some-clause-memory : goal.returns-in-Some-clause-memory
+returns-in-Some-clause-memory c = λ plain read. row_not_short (sees c.view.result) (length c.args.text.now) c.row_value_of-found.result c.row_value_of-found.ensures.room
