@@ -3,7 +3,7 @@ from __future__ import annotations
 
 from typing import TYPE_CHECKING, Any, Optional
 
-from . import _float_columns, _floats, _runs
+from . import _float_columns, _floats, _runs, _value_casts
 from ._library import Kind, calls, session
 from ._types import TYPES, WHOLE_NUMBERS, range_of, text_of
 from .errors import CastOutOfRange, NullNotAllowed, TypeMismatch, Unsupported
@@ -11,6 +11,14 @@ from .logical import LogicalType
 
 if TYPE_CHECKING:
     from .column import Column
+
+
+def converted(column: Column, kind: Kind) -> Column:
+    """The rows as the same values of a type: also texts as integers and integers as texts, and booleans as integers."""
+    call = f"cast to {text_of(kind)}"
+    if _value_casts.is_served(column._kind, kind):
+        column = _value_casts.converted(column, kind, call)
+    return cast(column, kind, call)
 
 
 def cast(column: Column, kind: Kind, call: Optional[str] = None) -> Column:

@@ -5,7 +5,7 @@ import array
 import ctypes
 from typing import TYPE_CHECKING, Any, Callable, Optional
 
-from . import _floats, _reading
+from . import _floats, _reading, _runs
 from ._library import Kind, ask, calls, session
 from ._making import numbers_of, validity_of
 from ._types import TYPES, WHOLE_NUMBERS, range_of
@@ -236,10 +236,10 @@ def converted(
     if rounded and logical is None:
         raise TypeError(f"{call}: only floats are rounded, and {name} has none; a float that is an integer is cast as it is")
     try:
-        made = _in_form(column, lambda rows: _cast(rows, kind, logical, rounded))
+        made = _runs.in_form(column, lambda rows: _cast(rows, kind, logical, rounded))
     except CastOutOfRange:
         _refuse_misfit(column, convert, f"{call}: row", name)
-        made = _in_form(column, lambda rows: _cast(rows, kind, logical, True))  # only NaNs, without what they carry
+        made = _runs.in_form(column, lambda rows: _cast(rows, kind, logical, True))  # only NaNs, without what they carry
     return _recast(made, kind, logical, call)
 
 
@@ -249,16 +249,6 @@ def _cast(column: Column, kind: Kind, logical: Optional[LogicalType], rounded: b
         return column._made(calls.hv_float_to_integers, column, kind.number)
     call = calls.hv_float_cast if _floats.is_float(column._logical) else calls.hv_float_of_integers
     return column._made(call, column, kind.number, rounded)
-
-
-def _in_form(column: Column, make: Callable[[Column], Column]) -> Column:
-    """What is made of a column, as integers in the form of the column."""
-    rows = column._length
-    if column.form == "constant" and rows:
-        one = make(column.slice(0, 1)).storage()
-        return column.constant(one[0], rows, one.type)
-    made = make(column).storage()
-    return made if column.form == "runs" else made.decode()
 
 
 def _refuse_misfit(column: Column, convert: Callable[[Any], Any], said: str, name: str) -> None:

@@ -3,7 +3,7 @@ from __future__ import annotations
 
 import ctypes
 import sys
-from collections.abc import Iterator
+from collections.abc import Callable, Iterator
 from itertools import chain, repeat
 from typing import TYPE_CHECKING, Any, NamedTuple, Optional
 
@@ -63,6 +63,16 @@ def visible(column: Column, most: Optional[int] = None) -> Visible:
     stops = (ctypes.c_uint64 * max(1, len(some)))()
     ask(calls.hv_read_ends_u64, column, some.start, stops, len(some))
     return Visible(len(shown), stops[: len(some)], column.values().slice(some.start, some.stop))
+
+
+def in_form(column: Column, make: Callable[[Column], Column]) -> Column:
+    """What is made of the rows of a column, which is in runs, in the form of the column."""
+    rows = column._length
+    if column.form == "constant" and rows:
+        one = make(column.slice(0, 1)).storage()
+        return column.constant(one[0], rows, one.type)
+    made = make(column).storage()
+    return made if column.form == "runs" else made.decode()
 
 
 def lengths(stops: list[int]) -> list[int]:

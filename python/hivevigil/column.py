@@ -279,12 +279,13 @@ class Column(_comparing.Comparisons, _pairs.Pairs):
         """Each row as the same value of a type: refused at the first row that does not fit, or that is null where the
         type has no null. 'i8' has none, 'i8?' has, and so has each type with `nullable`. A cast of integers to
         'timestamp[us]' says what they count; one of timestamps counts the same times, exactly, in another unit. Floats
-        are cast to floats and integers, and integers to floats, exactly; `rounded` takes the nearest float."""
+        are cast to floats and integers, and integers to floats, exactly; `rounded` takes the nearest float. Texts are
+        cast to the integers that they are the digits of, integers to texts, and booleans to 1 and 0."""
         kind, logical = asked_type(type)
         kind.nullable = kind.nullable if nullable is None else nullable
         if logical is not None or self._logical is not None or rounded:
             return _casting.recounted(self, kind, logical, f"cast to {logical or text_of(kind)}", bool(rounded))
-        return _casting.cast(self, kind)
+        return _casting.converted(self, kind)
 
     def take(self, indices: Any) -> Column:
         """The rows at the indices: a column, a list, or an array; null at a null index. In lists and arrays negative

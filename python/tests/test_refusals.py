@@ -123,7 +123,7 @@ def test_refusals_of_the_library():
         (lambda: column.eq(Column.of([1])), errors.ColumnLength, ValueError, (4, 1, 0)),
         (lambda: column.eq(Column.of(["a"] * 4)), errors.TypeMismatch, TypeError, (0, 0, 0)),
         (lambda: Column.of([3]).take_from([1, 2]), errors.OutOfBounds, IndexError, (3, 2, 0)),
-        (lambda: column.cast("utf8"), errors.Unsupported, TypeError, (0, 0, 0)),
+        (lambda: column.cast("bool"), errors.Unsupported, TypeError, (0, 0, 0)),
         (lambda: column.cast("i64", nullable=False), errors.NullNotAllowed, ValueError, (0, 0, 0)),
         (lambda: Column.of([300]).cast("u8"), errors.CastOutOfRange, OverflowError, (0, 0, 0)),
         (lambda: Column.from_runs([2, 2], [1, 2]), errors.EndsNotStrict, ValueError, (1, 0, 0)),
@@ -149,7 +149,7 @@ def test_refusals_name_the_call_and_its_columns():
     due = [
         (texts.sum, "sum does not serve columns of utf8 (flat)"),
         (texts.to_runs().sum, "sum does not serve columns of utf8 (runs)"),
-        (lambda: numbers.encode().cast("utf8"), "cast to utf8 does not serve columns of i64? (runs)"),
+        (lambda: numbers.encode().cast("bool"), "cast to bool does not serve columns of i64? (runs)"),
         (numbers.ends, "ends does not serve columns of i64? (flat)"),
         (texts.record, "record does not serve columns of utf8 (flat)"),
         (texts.to_array, "to_array does not serve columns of utf8 (flat)"),
