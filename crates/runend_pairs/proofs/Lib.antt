@@ -3,6 +3,7 @@ pub mod Grown
 pub mod Placed
 pub mod AnswerColumns
 pub mod Faultless
+pub mod FloatAnswers
 pub mod Mapped
 pub mod Same
 pub mod Picked

@@ -3,6 +3,7 @@ pub mod Operations
 pub mod Runs
 pub mod Answers
 pub mod Faults
+pub mod FloatKeys
 pub mod Hashes
 pub mod Groups
 pub mod GroupFaults

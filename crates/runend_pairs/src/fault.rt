@@ -128,8 +128,8 @@ fn is_truth_type(dtype: DType) -> bool
     }
 }
 
-// Returns `ColumnLength` where two numbers of rows differ.
-fn fault_of_lengths(left: usize, right: usize) -> Option<VortexError>
+/// Returns `ColumnLength` where two numbers of rows differ.
+pub(crate) fn fault_of_lengths(left: usize, right: usize) -> Option<VortexError>
     ensures { result ≡ length_fault left right }
 {
     if left == right {
