@@ -6,3 +6,4 @@ pub mod OrderEndings
 pub mod DecimalEndings
 pub mod PartEndings
 pub mod CastEndings
+pub mod TotalEndings

@@ -9,3 +9,4 @@ pub mod Ordered
 pub mod Decimals
 pub mod SumParts
 pub mod FloatCasts
+pub mod Totals

@@ -1,6 +1,6 @@
 //! Two columns that C holds, worked row by row at the cost of the runs of both, or one grouped by the other; one
-//! reversed, sorted, and counted by value; what one adds to a sum; columns of floats, stored by their keys in columns
-//! of integers; and the sum of decimals.
+//! reversed, sorted, and counted by value; what one adds to a sum; its running totals; columns of floats, stored by
+//! their keys in columns of integers; and the sum of decimals.
 #![tactic(auto)]
 
 mod cast_calls;
@@ -24,6 +24,8 @@ mod pair_calls;
 mod part_calls;
 mod reordered;
 mod tested;
+mod total_calls;
+mod totals;
 
 pub use cast_calls::{cast_floats_handle, cast_integers_handle, cast_keys_handle};
 pub use chosen::choose_handles;
@@ -47,3 +49,5 @@ pub use pair_calls::combine_handles;
 pub use part_calls::{PartPairs, nulls_in_handle, part_pairs, sum_parts_in_handle};
 pub use reordered::{reversed, sorted};
 pub use tested::{RowTest, test_handle};
+pub use total_calls::totals_handle;
+pub use totals::{BoxedTotals, totals_of};
