@@ -314,6 +314,12 @@ enum { HV_FOLD_SUM, HV_FOLD_ROWS, HV_FOLD_COUNT, HV_FOLD_LEAST, HV_FOLD_GREATEST
  * another number of rows, then 14 (group, from 0) for the first sum that does not fit 64 bits; 23 for no fold. */
 HV_ANSWER hv_fold_by(const hv_column *keys, const hv_column *values, uint8_t fold, hv_column *out_keys,
                      hv_column *out_answers, hv_error *error);
+/* Where each run of equal neighbouring rows ends, null equal to null, in the least unsigned type that has the number of
+ * rows; and the sum of all rows before that end, in i64 for signed rows and in u64 for unsigned ones, null only where
+ * all rows so far are null, which are skipped. Both flat, at the cost of the runs. A run of a value grows by it from row
+ * to row: up to row r of the run that ends before e, the total is that at e less (e - 1 - r) * value. 13 unless the rows
+ * are integers, and never 21 for others, then 14 (run, from 0) for the first total that does not fit 64 bits. */
+HV_ANSWER hv_running_totals(const hv_column *column, hv_column *out_ends, hv_column *out_totals, hv_error *error);
 
 /* The rows in reverse order; and in order, as hv_is_sorted has it: null first, then numbers by value, false before true,
  * texts and bytes by their bytes. At the cost of the runs and not of the rows: a constant stays one, any other column

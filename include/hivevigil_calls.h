@@ -244,6 +244,10 @@ HV_ANSWER hv_fold_by(const hv_column *keys, const hv_column *values, uint8_t fol
     hv_error ignored;
     return (hv_fold_by)(hv_lent(keys), hv_lent(values), fold, out_keys, out_answers, HV_FIELDS);
 }
+HV_ANSWER hv_running_totals(const hv_column *column, hv_column *out_ends, hv_column *out_totals, hv_error *error) {
+    hv_error ignored;
+    return (hv_running_totals)(hv_lent(column), out_ends, out_totals, HV_FIELDS);
+}
 HV_ANSWER hv_reverse(const hv_column *column, hv_column *out, hv_error *error) {
     hv_error ignored;
     return (hv_reverse)(hv_lent(column), out, HV_FIELDS);

@@ -96,6 +96,7 @@ HV_EXPORT int32_t hv_equals(hv_column *left, hv_column *right, uint8_t *truth, h
 HV_EXPORT int32_t hv_hash(hv_column *column, uint64_t *hash, hv_error *error);
 HV_EXPORT int32_t hv_fold_by(hv_column *keys, hv_column *values, uint8_t fold, hv_column *out_keys,
                              hv_column *out_answers, hv_error *error);
+HV_EXPORT int32_t hv_running_totals(hv_column *column, hv_column *out_ends, hv_column *out_totals, hv_error *error);
 HV_EXPORT int32_t hv_reverse(hv_column *column, hv_column *out, hv_error *error);
 HV_EXPORT int32_t hv_sort(hv_column *column, hv_column *out, hv_error *error);
 HV_EXPORT int32_t hv_value_counts(hv_column *column, hv_column *out_values, hv_column *out_counts, hv_error *error);
@@ -230,6 +231,7 @@ HV_EXPORT void hv_free(hv_column *column);
 #define hv_equals(...) hv_call_equals(__VA_ARGS__)
 #define hv_hash(...) hv_call_hash(__VA_ARGS__)
 #define hv_fold_by(...) hv_call_fold_by(__VA_ARGS__)
+#define hv_running_totals(...) hv_call_running_totals(__VA_ARGS__)
 #define hv_reverse(...) hv_call_reverse(__VA_ARGS__)
 #define hv_sort(...) hv_call_sort(__VA_ARGS__)
 #define hv_value_counts(...) hv_call_value_counts(__VA_ARGS__)

@@ -349,6 +349,15 @@ static int32_t summed(const hv_column *keys) {
 }
 static int32_t sum_by_runs(void) { return summed(&runs); }
 static int32_t sum_by_texts(void) { return summed(&texts); }
+static int32_t totaled(const hv_column *column) {
+    hv_column totals = HV_EMPTY;
+    const int32_t answer = hv_running_totals(column, &out, &totals, &error);
+    CHECK((answer != 0) == (hv_form(&totals) == HV_FORM_NONE));
+    hv_free(&totals);
+    return answer;
+}
+static int32_t total_flat(void) { return totaled(&flat); }
+static int32_t total_runs(void) { return totaled(&part); }
 
 /* Two columns worked place by place. */
 static int32_t add_runs(void) { return hv_combine(&runs, HV_ADD, &flat, &out, &error); }
@@ -413,7 +422,7 @@ static const step steps[] = {
     NAMED(compact_runs), NAMED(compact_texts),
     NAMED(slice_runs), NAMED(slice_texts), NAMED(cast), NAMED(take), NAMED(take_texts), NAMED(filter),
     NAMED(filter_texts), NAMED(filter_by_runs), NAMED(take_by_runs), NAMED(take_from), NAMED(compare), NAMED(compare_scalar), NAMED(compare_text), NAMED(fill),
-    NAMED(fill_text), NAMED(sum_by_runs), NAMED(sum_by_texts), NAMED(add_runs), NAMED(add_constants),
+    NAMED(fill_text), NAMED(sum_by_runs), NAMED(sum_by_texts), NAMED(total_flat), NAMED(total_runs), NAMED(add_runs), NAMED(add_constants),
     NAMED(connect_runs), NAMED(less_by_runs), NAMED(pick_runs), NAMED(negate_runs), NAMED(null_texts),
     NAMED(valid_runs), NAMED(choose_runs), NAMED(equal_runs), NAMED(hash_runs), NAMED(hash_texts), NAMED(parts_of_runs), NAMED(make_floats),
     NAMED(make_floats_of_runs), NAMED(decode_floats), NAMED(compare_floats), NAMED(order_floats), NAMED(least_float),

@@ -87,6 +87,7 @@ CALLS: dict[str, tuple[list[Any], Any]] = {
     "hv_fold_by": ([
         POINTER(Handle), POINTER(Handle), c_uint8, POINTER(Handle), POINTER(Handle), POINTER(Fields),
     ], c_int32),
+    "hv_running_totals": ([POINTER(Handle), POINTER(Handle), POINTER(Handle), POINTER(Fields)], c_int32),
     "hv_reverse": ([POINTER(Handle), POINTER(Handle), POINTER(Fields)], c_int32),
     "hv_sort": ([POINTER(Handle), POINTER(Handle), POINTER(Fields)], c_int32),
     "hv_value_counts": ([POINTER(Handle), POINTER(Handle), POINTER(Handle), POINTER(Fields)], c_int32),

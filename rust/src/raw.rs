@@ -312,6 +312,12 @@ extern "C" {
         out_answers: *mut Handle,
         error: *mut Fields,
     ) -> i32;
+    pub fn hv_running_totals(
+        column: *mut Handle,
+        out_ends: *mut Handle,
+        out_totals: *mut Handle,
+        error: *mut Fields,
+    ) -> i32;
     pub fn hv_reverse(column: *mut Handle, out: *mut Handle, error: *mut Fields) -> i32;
     pub fn hv_sort(column: *mut Handle, out: *mut Handle, error: *mut Fields) -> i32;
     pub fn hv_value_counts(

@@ -1,10 +1,12 @@
-//! The call that groups the rows of one column by runs of equal rows of another.
+//! The calls that answer by runs of equal rows: of another column, and of the column itself.
 ghost use Rattle.std.specs.Prelude.{◌≡◌, ◌≢◌, IsSomeAnd, MatchOption, pos};
+ghost use Rattle.c_columns.specs.Ending.{WhereAll};
 ghost use Rattle.c_kernels.specs.Grouped.{fold_numbered, AreMade, EndsOnGroups};
+ghost use Rattle.c_kernels.specs.Totals.{AreTotals, EndsOnTotals};
 
 use c_columns::error_fields::ErrorFields;
 use c_columns::handle::Handle;
-use c_kernels::fold_handles;
+use c_kernels::{fold_handles, totals_handle};
 use std::alloc::Global;
 
 /// Makes the keys of the groups of rows with equal neighbouring keys, and what the fold of this number answers of the
@@ -30,4 +32,25 @@ pub extern "C" fn hv_fold_by(
         (λ fold. EndsOnGroups fold keys.old.column values.old.column result error.new) }
 {
     fold_handles(alloc, keys, values, fold, out_keys, out_answers, error)
+}
+
+/// Makes the ends of the runs of equal neighbouring rows, and the sum of all rows before each end, in `i64` or `u64`,
+/// null where all of them are null, both flat. Refused as `Unsupported` where the rows are not integers, and then never
+/// for memory; with 14 and the run for the first total that does not fit 64 bits. Returns 22 for an empty handle.
+#[unsafe(no_mangle)]
+pub extern "C" fn hv_running_totals(
+    alloc: Global,
+    column: &mut Handle,
+    out_ends: &mut Handle,
+    out_totals: &mut Handle,
+    error: &mut ErrorFields,
+) -> i32
+    ensures same { column.new.column ≡ column.old.column }
+    ensures made { result ≡ pos 0 →
+        WhereAll AreTotals column.old.column out_ends.new.column out_totals.new.column }
+    ensures kept { result ≢ pos 0 → out_ends.new.column ≡ out_ends.old.column }
+    ensures kept_totals { result ≢ pos 0 → out_totals.new.column ≡ out_totals.old.column }
+    ensures ended { EndsOnTotals column.old.column result error.new }
+{
+    totals_handle(alloc, column, out_ends, out_totals, error)
 }
