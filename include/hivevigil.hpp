@@ -255,6 +255,17 @@ public:
     }
     // The sum of the values in each group, null where all of them are null.
     std::pair<Column, Column> sum_by(const Column &values) const { return fold_by(values, Fold::sum); }
+    // Where each run of equal neighbouring rows ends, null equal to null, and the sum of all rows before that end, null
+    // where all of them are. Refused as HV_CAST_OUT_OF_RANGE where a total does not fit 64 bits; the first field is its
+    // run, counted from 0.
+    std::pair<Column, Column> running_totals() const {
+        std::pair<Column, Column> made;
+        hv_error fields{};
+        const int32_t answer = hv_running_totals(&handle, &made.first.handle, &made.second.handle, &fields);
+        if (answer == HV_CAST_OUT_OF_RANGE) throw Error(answer, fields, detail::words_of_total(kind(), fields));
+        if (answer) throw Error(answer, fields);
+        return made;
+    }
     // What the two rows at each place give; so do + - * & | and ~ (hivevigil_pairs.hpp).
     Column combine(Pairing by, const Column &right) const;
     // Whether each row is null, or is not; the other boolean, as ~; of a mask the left row where it is true, else the

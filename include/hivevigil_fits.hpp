@@ -161,6 +161,12 @@ inline std::string words_of_group(hv_kind values, const hv_error &fields) {
     return "integer overflow: the sum of group " + std::to_string(fields.first) + " does not fit " + type;
 }
 
+// A run at whose end the total does not fit the type of sums of these values.
+inline std::string words_of_total(hv_kind values, const hv_error &fields) {
+    const char *const type = values.number < HV_I8 ? "u64" : "i64";
+    return "integer overflow: the total at the end of run " + std::to_string(fields.first) + " does not fit " + type;
+}
+
 // A sum of decimals of a column that has none, or that leaves 38 digits.
 inline std::string words_of_decimals(hv_kind kind, int32_t answer, const hv_error &fields) {
     if (answer == HV_UNSUPPORTED) return to_string(kind) + " has no sum of decimals";

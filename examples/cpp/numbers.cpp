@@ -280,6 +280,27 @@ static void check_groups() {
     CHECK(rows_of(of_two.fold_by(large, hv::Fold::greatest).second)[1] == Value(INT64_MAX));
 }
 
+// ---- Running totals ----
+
+static void check_totals() {
+    const auto none = std::nullopt;
+    using Narrow = std::vector<std::optional<int16_t>>;
+    const Column column = Column::of(Narrow{none, none, 4, 4, 4, none, -9, 0}), runs = column.encode();
+    for (const Column *each : {&column, &runs}) {
+        const auto [ends, totals] = each->running_totals();
+        CHECK(rows_of(ends) == rows_of(Column::of(std::vector<uint8_t>{2, 5, 6, 7, 8})));
+        CHECK(rows_of(totals) == rows_of(Column::of(std::vector<std::optional<int64_t>>{none, 12, 12, 3, 3})));
+        CHECK(ends.kind().number == HV_U8 && totals.kind().number == HV_I64 && totals.kind().nullable);
+        CHECK(ends.form() == hv::Form::flat && totals.form() == hv::Form::flat);
+    }
+    const Column large = Column::of(std::vector<uint64_t>{1, UINT64_MAX - 1, 1});
+    check_refused(HV_CAST_OUT_OF_RANGE, "integer overflow: the total at the end of run 2 does not fit u64",
+                  [&] { (void)large.running_totals(); });
+    CHECK(large.slice(0, 2).running_totals().second.at(1) == Value(UINT64_MAX));
+    check_refused(HV_UNSUPPORTED, "the call does not serve columns of this type or form",
+                  [&] { (void)Column::of({"a", "b"}).running_totals(); });
+}
+
 // ---- Two columns, place by place ----
 
 using Rows = std::vector<std::optional<int16_t>>;
@@ -491,6 +512,7 @@ int main() {
     check_comparisons();
     check_sums();
     check_groups();
+    check_totals();
     check_pairs();
     check_sorts();
     check_decimal_sums();

@@ -10,7 +10,7 @@ from ._library import Total, Value, ask, calls, session
 from ._making import is_array
 from ._types import TYPES, WHOLE_NUMBERS, range_of
 from ._values import Scalar, is_missing, is_truth, shown
-from .errors import ColumnLength, in_words
+from .errors import ColumnLength, Unsupported, in_words
 from .logical import LogicalType
 
 if TYPE_CHECKING:
@@ -28,9 +28,7 @@ def total(column: Column) -> Any:
     if _floats.is_float(logical):
         return _float_columns.total(column)[0]
     if logical is not None:
-        if logical.sort != "duration":
-            hint = "column.storage().sum() is that of their integers"
-            raise TypeError(f"sum: rows of type {logical} have no sum; {hint}")
+        refuse_other_sums(column, "sum")
         return _times.shown(logical, total(column.storage()))
     if TYPES[column._kind.number] == "decimal":
         return _decimals.total(column)
@@ -38,9 +36,29 @@ def total(column: Column) -> Any:
     ask(calls.hv_sum, session, column, found)
     if found.kind:
         return int(found.as_unsigned if found.kind == 1 else found.as_signed)
-    name = "u64" if TYPES[column._kind.number][0] == "u" else "i64"
-    row, value, before = _overflow(column, range_of(name))
-    raise OverflowError(f"sum: it leaves {name} at row {row}, which is {value}: the rows before it make {before}")
+    raise leaving(column, "sum")
+
+
+def refuse_other_sums(column: Column, call: str) -> None:
+    """Refuses rows of integers that mean something else than durations."""
+    logical = column._there()._logical
+    if _floats.is_float(logical):
+        raise Unsupported().saying(f"{call} does not serve columns of type {logical}")
+    if logical is not None and logical.sort != "duration":
+        hint = f"column.storage().{call}() is that of their integers"
+        raise TypeError(f"{call}: rows of type {logical} have no sum; {hint}")
+
+
+def sum_type(column: Column) -> str:
+    """The type of the sums of integers of a type."""
+    return "u64" if TYPES[column._kind.number][0] == "u" else "i64"
+
+
+def leaving(column: Column, call: str) -> OverflowError:
+    """What says with which row the sum leaves 64 bits."""
+    name, stored = sum_type(column), column.storage()
+    row, value, before = _overflow(stored, range_of(name))
+    return OverflowError(f"{call}: it leaves {name} at row {row}, which is {value}: the rows before it make {before}")
 
 
 def float_mean(column: Column) -> Optional[float]:

@@ -9,7 +9,7 @@ from typing import Any, Optional
 
 from . import (
     _arrow, _casting, _comparing, _copying, _files, _float_columns, _floats, _indexing, _lists, _making, _pairs,
-    _questions, _reading, _rows, _runs, _showing, _sorting, _statistics, _times,
+    _questions, _reading, _rows, _runs, _showing, _sorting, _statistics, _times, _totals,
 )
 from ._library import Handle, Kind, ask, calls, session
 from ._runs import Run
@@ -370,6 +370,12 @@ class Column(_comparing.Comparisons, _pairs.Pairs):
         OverflowError names the first row whose difference the type does not have."""
         return self - self.shift(rows)
 
+    def cumsum(self) -> Column:
+        """The sum of the rows up to each row, 'i64', or 'u64' of unsigned rows: null rows stay null and are skipped, as
+        in pandas and Arrow. OverflowError names the row with which it leaves 64 bits. Unlike `running_totals` it takes
+        a step and 8 bytes for each row that is not 0 or null, and is flat where these are more than half."""
+        return _totals.of_rows(self)
+
     # ---- Questions ----
 
     def __len__(self) -> int:
@@ -484,6 +490,12 @@ class Column(_comparing.Comparisons, _pairs.Pairs):
         """The rows of this column by runs of equal neighbouring rows of another, a column or what `Column.of` takes:
         `values.group_by(keys).sum()` is the keys of the groups and their sums."""
         return Groups(keys if isinstance(keys, Column) else self.of(keys), self._there())
+
+    def running_totals(self) -> tuple[Column, Column]:
+        """Where each run of equal neighbouring rows ends, null equal to null, and the sum of all rows before that end,
+        'i64?' or 'u64?', null where all of them are, both flat: a step and 8 bytes for each run. Integers and durations
+        have them."""
+        return _totals.at_ends(self)
 
     def equals(self, other: Column) -> bool:
         """Whether both have the same type and the same rows, whatever their forms, null equal to null."""

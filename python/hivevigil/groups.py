@@ -4,7 +4,7 @@ from __future__ import annotations
 from itertools import accumulate
 from typing import TYPE_CHECKING, Any, Callable
 
-from . import _float_columns, _floats, _statistics
+from . import _float_columns, _floats, _questions, _statistics
 from ._library import Handle, ask, calls
 from ._types import GREATEST_PRECISION, TYPES, WHOLE_NUMBERS
 from .errors import CastOutOfRange
@@ -45,7 +45,7 @@ class Groups:
         try:
             return self._folded("sum")
         except CastOutOfRange as large:
-            name = "u64" if TYPES[self._values._kind.number][0] == "u" else "i64"
+            name = _questions.sum_type(self._values)
             raise large.saying(f"sum: group {large.fields[0]} does not fit {name}") from None
 
     def mean(self) -> tuple[Column, Column]:

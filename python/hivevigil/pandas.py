@@ -275,6 +275,16 @@ class RunEndArray(ExtensionArray):
         answer = self._reduced(name, skipna, options.get("min_count", 0))
         return type(self)([answer], self.dtype) if options.get("keepdims") else answer
 
+    def _accumulate(self, name: str, *, skipna: bool = True, **options: Any) -> RunEndArray:
+        """The total up to each row, as pandas 2 asks for it; without `skipna` null from the first null on."""
+        if name != "cumsum" or not self.dtype._is_numeric:
+            raise NotImplementedError(f"'{type(self).__name__}' with dtype {self.dtype} does not support {name}")
+        totals = self._column.cumsum()
+        if skipna or not self._column.null_count:
+            return type(self)(totals)
+        first = next(start for start, _, value in self._column.runs() if value is None)
+        return type(self)(concat([totals[:first], Column.constant(None, len(self) - first, totals.type)]))
+
     def _reduced(self, name: str, skipna: bool, least: int) -> Any:
         """The answer; pandas.NA where a null counts, or where there are fewer rows than a sum needs."""
         nulls = self._column.null_count

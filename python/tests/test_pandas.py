@@ -139,6 +139,16 @@ def test_a_sum_past_64_bits_names_the_row():
         pandas.Series(RunEndArray([2**63 - 1, 1])).sum()
 
 
+def test_running_totals():
+    array = RunEndArray([4, 4, None, -3], "i16")
+    assert same(list(array._accumulate("cumsum")), [4, 8, NA, 5])  # as pandas 2 asks
+    assert same(list(array._accumulate("cumsum", skipna=False)), [4, 8, NA, NA])
+    assert same(list(RunEndArray([4, 9], "u8")._accumulate("cumsum", skipna=False)), [4, 13])
+    for refused in (lambda: array._accumulate("cumprod"), lambda: RunEndArray(["a"])._accumulate("cumsum")):
+        with pytest.raises(NotImplementedError):
+            refused()
+
+
 def test_sum_of_no_row_and_of_few():
     series = pandas.Series(RunEndArray([None, 4], "i64"))
     assert (series.sum(), series.sum(min_count=2), series.sum(skipna=False)) == (4, NA, NA)

@@ -27,6 +27,8 @@ less: Column = column < kept
 either: Column = (column == 3) | ~mask
 picked: Column = column.where(mask, 0)
 counted: tuple[Column, Column] = column.value_counts()
+totals: tuple[Column, Column] = column.running_totals()
+each_total: Column = column.cumsum()
 is_same: bool = column.equals(kept) and mask.any()
 builder: Builder = Builder("i64")
 builder.append_value(3, count=2)

@@ -66,6 +66,8 @@ enum Detail {
     Overflow(usize, Kind),
     /// Says that the sum of this group does not fit its type.
     GroupOverflow(u64, Kind),
+    /// Says that the total at the end of this run does not fit its type.
+    TotalOverflow(u64, Kind),
     /// Says that a sum of decimals leaves 38 digits with this row.
     DigitsOverflow(u64),
     /// Has words about two types.
@@ -236,6 +238,14 @@ impl Error {
         self
     }
 
+    /// Names the run at whose end the total does not fit, where that is what was refused.
+    pub(crate) fn of_total(self, kind: Kind) -> Error {
+        if self.kind() == Some(ErrorKind::CastOutOfRange) {
+            return self.with(Detail::TotalOverflow(self.fields.first, kind));
+        }
+        self
+    }
+
     /// Names the row with which a sum of decimals leaves 38 digits, where that is what was refused.
     pub(crate) fn of_digits(self) -> Error {
         if self.kind() == Some(ErrorKind::CastOutOfRange) {
@@ -371,6 +381,10 @@ impl fmt::Display for Error {
             Detail::GroupOverflow(group, kind) => write!(
                 formatter,
                 "integer overflow: the sum of group {group} does not fit {kind}"
+            ),
+            Detail::TotalOverflow(run, kind) => write!(
+                formatter,
+                "integer overflow: the total at the end of run {run} does not fit {kind}"
             ),
             Detail::DigitsOverflow(row) => write!(
                 formatter,

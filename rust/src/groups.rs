@@ -1,4 +1,4 @@
-//! The rows of one column, grouped by runs of equal neighbouring rows of another.
+//! The rows of one column, grouped by runs of equal neighbouring rows of another, and totals at the ends of its own runs.
 use crate::column::turn_of;
 use crate::{ask, raw, Column, Error, Fold, Kind};
 use std::ptr;
@@ -35,12 +35,7 @@ impl Column {
                 fields,
             )
         })
-        .map_err(|error| {
-            error.of_group(match values.kind().is_signed() {
-                true => Kind::I64,
-                false => Kind::U64,
-            })
-        })?;
+        .map_err(|error| error.of_group(sums_of(values.kind())))?;
         Ok((keys, answers))
     }
 
@@ -57,5 +52,39 @@ impl Column {
     /// ```
     pub fn sum_by(&self, values: &Column) -> Result<(Column, Column), Error> {
         self.fold_by(values, Fold::Sum)
+    }
+
+    /// Returns where each run of equal neighbouring rows ends, null equal to null, and the sum of all rows before that
+    /// end, both flat. Null rows are skipped: a total is null only where all rows so far are. Refused as `Unsupported`
+    /// where rows are not integers, and as `CastOutOfRange` where a total does not fit 64 bits: the first field is the
+    /// run, counted from 0.
+    ///
+    /// ```
+    /// let (ends, totals) = hivevigil::Column::new(&[4u8, 4, 4, 9])?.running_totals()?;
+    /// assert_eq!(ends.numbers::<u8>()?, [3, 4]);
+    /// assert_eq!(totals.options::<u64>()?, [Some(12), Some(21)]);
+    /// # Ok::<(), hivevigil::Error>(())
+    /// ```
+    pub fn running_totals(&self) -> Result<(Column, Column), Error> {
+        let _turn = turn_of(&[self]);
+        let (ends, totals) = (Column::none(), Column::none());
+        ask(|fields| unsafe {
+            raw::hv_running_totals(
+                self.handle.get(),
+                ends.handle.get(),
+                totals.handle.get(),
+                fields,
+            )
+        })
+        .map_err(|error| error.of_total(sums_of(self.kind())))?;
+        Ok((ends, totals))
+    }
+}
+
+/// Returns the type of the sums of integers of a type.
+fn sums_of(kind: Kind) -> Kind {
+    match kind.is_signed() {
+        true => Kind::I64,
+        false => Kind::U64,
     }
 }
