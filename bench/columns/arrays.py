@@ -2,6 +2,8 @@
 
     python3 arrays.py TOOL TURNS FOLDER..       as columns.py starts it
 """
+import bisect
+
 import numpy
 
 from asked import LIMIT, Tool, main
@@ -13,7 +15,7 @@ def pairs(keys, answers):
 
 
 class Hivevigil(Tool):
-    """Columns in runs. Running totals are of runs, by NumPy: the package has no call for those of rows."""
+    """Columns in runs. Running totals are those at the ends of runs, from which that of any row follows."""
 
     @staticmethod
     def version():
@@ -54,11 +56,12 @@ class Hivevigil(Tool):
         return self.level.sort().take(self.places).to_list()
 
     def running(self):
-        ends = self.level.ends().to_numpy().astype(numpy.int64)
-        values = self.level.values().to_numpy()
-        totals = numpy.cumsum(values * numpy.diff(ends, prepend=0))
-        runs = numpy.searchsorted(ends, self.places, side="right")
-        return totals[runs] - values[runs] * (ends[runs] - 1 - self.places)
+        ends, totals = self.level.running_totals()
+        runs = [bisect.bisect_right(ends, place) for place in self.places]
+        return [
+            totals[run] - self.level[place] * (ends[run] - 1 - place)
+            for run, place in zip(runs, self.places)
+        ]
 
 
 class NumPy(Tool):

@@ -56,8 +56,8 @@ Times are milliseconds of the processor, the median of the turns, with their num
 since a question is not asked again after 20 seconds. Each answers on one processor. Memory is what the first turn took
 at its peak over what the process had before.
 
-- hivevigil: columns in runs, through Python. Value counts are those of the sorted column. Running totals have no call:
-  NumPy adds the runs, which gives the total at the end of each run, from which that of any row follows.
+- hivevigil: columns in runs, through Python. Value counts are those of the sorted column. Running totals are those at
+  the end of each run, from which that of any row follows.
 - NumPy and pandas: arrays of all rows. NumPy finds the days where the key changes, and adds between these.
 - SQLite: a plain table in memory. PostgreSQL: an unlogged table, with 1 GB for buffers and for sorting, one process
   and no compiler. A time is that of one statement, which answers in few rows.
