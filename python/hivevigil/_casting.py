@@ -3,7 +3,7 @@ from __future__ import annotations
 
 from typing import TYPE_CHECKING, Any, Optional
 
-from . import _float_columns, _floats, _runs, _value_casts
+from . import _decimals, _float_columns, _floats, _runs, _value_casts
 from ._library import Kind, calls, session
 from ._types import TYPES, WHOLE_NUMBERS, range_of, text_of
 from .errors import CastOutOfRange, NullNotAllowed, TypeMismatch, Unsupported
@@ -14,9 +14,12 @@ if TYPE_CHECKING:
 
 
 def converted(column: Column, kind: Kind) -> Column:
-    """The rows as the same values of a type: also texts as integers and integers as texts, and booleans as integers."""
+    """The rows as the same values of a type: also integers and decimals of any scale as one another, texts as integers
+    and integers as texts, and booleans as integers."""
     call = f"cast to {text_of(kind)}"
-    if _value_casts.is_served(column._kind, kind):
+    if _decimals.is_scaled(column._kind, kind):
+        column = _decimals.rescaled(column, kind, call)
+    elif _value_casts.is_served(column._kind, kind):
         column = _value_casts.converted(column, kind, call)
     return cast(column, kind, call)
 

@@ -11,12 +11,12 @@ from fractions import Fraction
 from numbers import Real
 from typing import TYPE_CHECKING, Any, Optional
 
-from . import _float_columns, _floats, _times
+from . import _decimals, _float_columns, _floats, _times
 from ._library import calls, session
 from ._making import is_array
 from ._types import TYPES, WHOLE_NUMBERS, range_of
 from ._values import is_missing, is_truth, is_whole, operator_of, passed, stored
-from .errors import TypeMismatch, in_words
+from .errors import CastOutOfRange, TypeMismatch, in_words
 from .logical import LogicalType
 
 if TYPE_CHECKING:
@@ -144,11 +144,17 @@ def _decided(sign: str, floor: int, exact: bool, fits: range) -> tuple[str, int]
 
 
 def with_column(column: Column, sign: str, right: Column) -> Column:
-    """Row by row whether `row sign other`, for the rows of a column of the same type: by the runs of both, unless both
-    are flat."""
+    """Row by row whether `row sign other`, for the rows of a column of the same type, or of decimals of another scale: by
+    the runs of both, unless both are flat."""
     if _floats.is_float(column._logical) and _floats.is_float(right._logical):
         return _float_columns.with_column(column, sign, right)
-    number, beside = operator_of(sign), column._beside(right)
+    number = operator_of(sign)
+    if _decimals.is_decimal(column) and _decimals.is_decimal(right) and column._length == right._length:
+        try:
+            column, right = _decimals.at_one_scale([column, right], "compare")
+        except CastOutOfRange:
+            return _decimals.compared(column, sign, right)
+    beside = column._beside(right)
     if not are_compared(column._logical, right._logical):
         left, other = (each._logical or each.type.rstrip("?") for each in (column, right))
         hint = "rows of one type are compared"

@@ -1,12 +1,16 @@
-"""The exact sum of a column of decimals."""
+"""The exact sum of a column of decimals, and the same numbers at other scales."""
 from __future__ import annotations
 
 import ctypes
+import operator
+from collections.abc import Iterable
 from decimal import Decimal
-from typing import TYPE_CHECKING
+from fractions import Fraction
+from typing import TYPE_CHECKING, Any, Callable, Optional
 
-from ._library import Pair, ask, calls
-from ._types import GREATEST_PRECISION
+from . import _runs
+from ._library import Kind, Pair, ask, calls
+from ._types import GREATEST_PRECISION, TYPES, WHOLE_NUMBERS, range_of, text_of
 from ._values import decimal_of
 from .errors import CastOutOfRange
 
@@ -25,3 +29,85 @@ def total(column: Column) -> Decimal:
         said = f"it leaves {GREATEST_PRECISION} digits at row {row}, which is {column[row]}"
         raise OverflowError(f"sum: {said}: the rows before it make {total(column.slice(0, row))}") from None
     return decimal_of((found.high << 64) + found.low, column._kind.scale)
+
+
+# ---- Scales ----
+
+
+def is_decimal(column: Column) -> bool:
+    return TYPES[column._kind.number] == "decimal"
+
+
+def is_scaled(before: Kind, after: Kind) -> bool:
+    """Whether rows of a type are cast to another as numbers at two scales: integers have no digits after the point."""
+    names = TYPES[before.number], TYPES[after.number]
+    if names == ("decimal", "decimal"):
+        return (before.precision, before.scale) != (after.precision, after.scale)
+    return "decimal" in names and all(name in (*WHOLE_NUMBERS, "decimal") for name in names)
+
+
+def rescaled(column: Column, kind: Kind, call: str) -> Column:
+    """The same integers or decimals as the decimals or the integers of a type, in the form of the column; refused at
+    the first row that the type does not have. Each run is cast once."""
+    return _runs.in_form(column, lambda rows: _cast(rows, kind, call))
+
+
+def _cast(column: Column, kind: Kind, call: str) -> Column:
+    """The runs of the column, each number counted in units of the last place of the type."""
+    name = text_of(Kind(kind.number, False, kind.precision, kind.scale))
+    is_whole = name in WHOLE_NUMBERS
+    fits = range_of(name) if is_whole else range(1 - 10**kind.precision, 10**kind.precision)
+    shown = _runs.visible(column if column.form == "runs" else column.to_runs())
+    rows: list[Any] = []
+    for start, value in zip([0, *shown.stops], shown.values.to_list()):
+        if value is None:
+            rows.append(None)
+            continue
+        number: Any = value
+        scaled = Fraction(number) * Fraction(10) ** kind.scale
+        if scaled.denominator > 1 or scaled.numerator not in fits:
+            why = "lies between two numbers of" if scaled.denominator > 1 else "does not fit"
+            raise CastOutOfRange().saying(f"{call}: row {start} is {number}, which {why} {name}")
+        rows.append(scaled.numerator if is_whole else decimal_of(scaled.numerator, kind.scale))
+    values = column.of(rows, name + ("?" if column._kind.nullable else ""))
+    return column.from_runs(column.of(shown.stops, "u64"), values)
+
+
+def common_kind(columns: Iterable[Column]) -> Kind:
+    """The decimals that have the digits of each column before the point, and after it, as far as a type has as many."""
+    kinds = [column._kind for column in columns]
+    scale = max(kind.scale for kind in kinds)
+    before = max(kind.precision - kind.scale for kind in kinds)
+    precision = min(max(1, before + scale), GREATEST_PRECISION)
+    return Kind(TYPES.index("decimal"), any(kind.nullable for kind in kinds), precision, scale)
+
+
+def at_one_scale(columns: list[Column], call: str) -> list[Column]:
+    """The same columns of decimals, those of different scales as decimals of one type."""
+    if len({(column._kind.precision, column._kind.scale) for column in columns}) <= 1:
+        return columns
+    kind = common_kind(columns)
+    return [rescaled(column, kind, call) if is_scaled(column._kind, kind) else column for column in columns]
+
+
+_SIGNS: dict[str, Callable[[Any, Any], bool]] = {
+    "==": operator.eq, "!=": operator.ne, ">": operator.gt, ">=": operator.ge, "<": operator.lt, "<=": operator.le,
+}
+
+
+def compared(column: Column, sign: str, right: Column) -> Column:
+    """Row by row whether `row sign other`, for decimals of which some have no place at the scale of the others: by the
+    runs that both columns share."""
+    stops: list[int] = []
+    truths: list[Optional[bool]] = []
+    lefts, rights = iter(column.runs()), iter(right.runs())
+    left, other = next(lefts, None), next(rights, None)
+    while left is not None and other is not None:
+        is_null = left.value is None or other.value is None
+        stops.append(min(left.stop, other.stop))
+        truths.append(None if is_null else _SIGNS[sign](left.value, other.value))
+        left, other = (next(lefts, None) if left.stop == stops[-1] else left,
+                       next(rights, None) if other.stop == stops[-1] else other)
+    is_nullable = column._kind.nullable or right._kind.nullable
+    mask = column.from_runs(column.of(stops, "u64"), column.of(truths, "bool?" if is_nullable else "bool"))
+    return mask.to_runs()

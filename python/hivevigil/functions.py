@@ -6,6 +6,7 @@ from importlib import metadata
 from pathlib import Path
 from typing import Any
 
+from . import _decimals
 from ._arrow import import_columns
 from ._library import Handle, calls, session
 from ._making import listed
@@ -20,7 +21,7 @@ def columns_from_arrow(source: Any) -> dict[str, Column]:
 
 def concat(columns: Iterable[Column]) -> Column:
     """The rows of columns of one type, one column after the other: lists as lists, runs where each column is runs or a
-    constant, else flat."""
+    constant, else flat. Decimals of different scales are joined as decimals that have the digits of each."""
     given = [_column(column) for column in listed(columns, "columns")]
     if not given:
         raise ValueError("concat takes at least one column, whose type is that of the answer")
@@ -29,6 +30,8 @@ def concat(columns: Iterable[Column]) -> Column:
         if column._logical != logical:
             names = f"{logical or given[0].type.rstrip('?')} and {column._logical or column.type.rstrip('?')}"
             raise TypeMismatch().saying(f"concat: {names} are two types; columns of one type are joined")
+    if all(map(_decimals.is_decimal, given)):
+        given = _decimals.at_one_scale(given, "concat")
     handles = (Handle * max(1, len(given)))()
     for place, column in enumerate(given):
         handles[place] = column._there()._handle
