@@ -33,7 +33,7 @@ pub enum Setting {
 /// Says in which order rows are put.
 #[derive(Clone, Copy)]
 pub enum RowOrder {
-    /// Null first, then the numbers, none above the next.
+    /// Puts null first, then the numbers, none above the next.
     Rising,
     /// Begins with the last row.
     Reversed,

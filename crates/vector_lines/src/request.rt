@@ -132,7 +132,7 @@ pub struct Record<'a> {
     pub values: &'a str,
 }
 
-/// Columns made from the rows of columns, by their names.
+/// Names what is made from the rows of columns, and these columns.
 #[derive(Clone, Copy)]
 pub enum Derived<'a> {
     One(RowOperator, &'a str),
