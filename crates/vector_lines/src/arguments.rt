@@ -2,16 +2,17 @@
 use crate::calls::{Call, Maker, Part, Task};
 use crate::columns::Columns;
 use crate::commands::read_command;
-use crate::flats::{bits_of_word, flat_column, flat_of, scalar_of};
+use crate::flats::{bits_of_word, flat_column, flat_of, float_column, scalar_of};
 use crate::line_error::{LineError, LineResult};
 use crate::lists::row_validity;
-use crate::request::{self, Derived, Lists, NEXT, Record, Runs, Views};
+use crate::request::{self, Derived, FloatOperator, Lists, NEXT, Record, RowOperator, Runs, Views};
 use crate::row_work::RowWork;
 use crate::types::read_type;
 use crate::values::{Value, bytes_of, bytes_of_words, paired, read_value};
 use bytes::Bytes;
 use column_words::parse_count;
 use runend_commands::Command;
+use runend_floats::FloatPatterns;
 use std::alloc::Allocator;
 use std::rc::Rc;
 use vortex_runend::{ArrayRef, DType, ExecutionCtx, FlatColumn, Mask, RowValidity, Validity, View};
@@ -34,6 +35,7 @@ pub fn prepare<A: Allocator + Copy>(
         request::Call::Bytes => on_copy(name, Task::Bytes, columns, ctx),
         request::Call::Equals(other) => prepared_equality(name, other, columns, ctx),
         request::Call::Hash => on_copy(name, Task::Hash, columns, ctx),
+        request::Call::Floats(question) => on_copy(name, Task::Floats(question), columns, ctx),
         request::Call::Derived(derived) => Ok(Call::Derive(prepared_work(derived, columns, ctx)?)),
         request::Call::Read(words) => Ok(Call::Read(bytes_of_words(*ctx.allocator(), words)?)),
         _ => Ok(Call::Make(prepared_maker(call, columns, ctx)?)),
@@ -149,6 +151,10 @@ fn prepared_work<A: Allocator + Copy>(
         Derived::Fold(part, values, keys) => {
             let (values, keys) = clones_named(values, keys, columns, ctx)?;
             Ok(RowWork::Fold(part, values, keys))
+        }
+        Derived::Floats(dtype, words) => {
+            let encode = RowOperator::Floats(FloatOperator::Encode(FloatPatterns::Exact));
+            Ok(RowWork::One(encode, float_column(dtype, words, ctx)?))
         }
     }
 }

@@ -1,11 +1,12 @@
 //! Calls, and what comes of them.
+use crate::float_work::float_reply;
 use crate::lists::boxed_lists;
 use crate::printer::{push_refusal, push_row, push_sum, push_truth, push_word};
 use crate::questions::{
     bytes_reply, equality_of, hash_of, meta_of, probe_of, read_of, row_reply, text_reply,
     validity_of,
 };
-use crate::request::NEXT;
+use crate::request::{FloatQuestion, NEXT};
 use crate::row_work::{RowWork, WorkError};
 use bytes::Bytes;
 use column_base::VortexResult;
@@ -75,6 +76,7 @@ pub enum Task<A: Allocator> {
     /// Asks whether this column has the same rows.
     Equals(ArrayRef<A>),
     Hash,
+    Floats(FloatQuestion),
 }
 
 /// What a call, or a line, is answered.
@@ -277,6 +279,7 @@ impl<A: Allocator + Copy> Task<A> {
             Task::Bytes => bytes_reply(write_column(*ctx.allocator(), column), ample),
             Task::Equals(other) => equality_of(column, other, ctx, ample),
             Task::Hash => hash_of(column, ctx, ample),
+            Task::Floats(question) => float_reply(question, column, ctx, ample),
         }
     }
 }

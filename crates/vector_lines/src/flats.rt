@@ -1,11 +1,14 @@
 //! Flat columns of the values that words write.
+use crate::float_words::read_float;
 use crate::line_error::{LineError, LineResult};
 use crate::lists::lists_of_rows;
+use crate::request::FloatType;
 use crate::stored::stored_column;
 use crate::types::single_of;
 use crate::values::{NULL_ROW, Row, Value, bytes_of, push_row, text_of, unless_failed};
 use column_words::parse_bits;
 use runend_array::array_of;
+use runend_floats::{FloatFormat, bits_type};
 use std::alloc::Allocator;
 use vortex_runend::{
     ArrayRef, BitBuffer, BitBufferMut, DType, ElementDType, ExecutionCtx, FlatColumn, NativePType,
@@ -61,6 +64,47 @@ fn array_of_rows<A: Allocator + Copy>(
         }
         None => Err(LineError::Bad),
     }
+}
+
+/// Returns the flat column of the bits of these floats, with the validity made from its bits. Bad where a word writes
+/// no float of the format.
+pub fn float_column<A: Allocator + Copy>(
+    dtype: FloatType,
+    words: &[&str],
+    ctx: &mut ExecutionCtx<A>,
+) -> LineResult<ArrayRef<A>> {
+    let rows = read_float_rows(*ctx.allocator(), dtype.format, words)?;
+    let bits = DType::Primitive(bits_type(dtype.format), dtype.nullability);
+    let array = array_of_rows(bits, rows.as_slice(), ctx);
+    drop(rows);
+    array
+}
+
+fn read_float_rows<A: Allocator + Copy>(
+    alloc: A,
+    format: FloatFormat,
+    words: &[&str],
+) -> LineResult<Vec<Row<'static>, A>> {
+    let mut rows = Vec::new(alloc);
+    for word in words {
+        match read_float_row(format, word) {
+            Some(row) => rows.push(row)?,
+            None => return Err(LineError::Bad),
+        }
+    }
+    Ok(rows)
+}
+
+// The row of bits that the word of a float writes, or null.
+fn read_float_row(format: FloatFormat, word: &str) -> Option<Row<'static>> {
+    if word == "null" {
+        return Some(NULL_ROW);
+    }
+    let bits = read_float(format, word)?;
+    Some(Row {
+        valid: true,
+        value: Value::Number(i128::from(bits)),
+    })
 }
 
 /// Returns the flat column of what the words store, with this validity. Bad where the validity is none of the type, or

@@ -7,6 +7,8 @@ mod calls;
 mod columns;
 mod commands;
 mod flats;
+mod float_words;
+mod float_work;
 mod line;
 mod line_error;
 mod lists;

@@ -1,7 +1,8 @@
 //! Columns, as words ask for them to be made.
+use crate::float_words::read_float_type;
 use crate::names::{is_name, only_name, read_name};
 use crate::reader::called;
-use crate::request::{Call, Lists, Plain, Record, Request, Runs, Views};
+use crate::request::{Call, Derived, Lists, Plain, Record, Request, Runs, Views};
 use crate::row_words::read_derived;
 use crate::types::read_type;
 use crate::values::read_value;
@@ -86,6 +87,7 @@ fn read_made<'a>(maker: &str, words: &'a [&'a str]) -> Option<Call<'a>> {
         "views" => read_views(words),
         "deserialize" => read_record(words),
         "from" => read_from(words),
+        "floats" => read_floats(words),
         _ => read_of_column(maker, words),
     }
 }
@@ -113,6 +115,12 @@ fn read_from<'a>(words: &'a [&'a str]) -> Option<Call<'a>> {
         ["bytes", bytes @ ..] => Some(Call::FromBytes(bytes)),
         _ => None,
     }
+}
+
+// The floats of a type that the words write.
+fn read_floats<'a>(words: &'a [&'a str]) -> Option<Call<'a>> {
+    let (dtype, values) = words.split_first()?;
+    Some(Call::Derived(Derived::Floats(read_float_type(dtype)?, values)))
 }
 
 fn read_window<'a>(words: &'a [&'a str]) -> Option<Call<'a>> {

@@ -29,7 +29,7 @@ fn push_letters<A: Allocator + Copy>(text: &mut String<A>, letters: &str) -> Vor
 }
 
 // The space between the last word, if there is one, and the next.
-fn push_space<A: Allocator + Copy>(text: &mut String<A>) -> VortexResult<()>
+pub(crate) fn push_space<A: Allocator + Copy>(text: &mut String<A>) -> VortexResult<()>
     ensures only { IsOkUnless result VortexError.OutOfMemory }
 {
     if !text.is_empty() {

@@ -2,7 +2,7 @@
 use crate::commands::{read_bare, read_worded};
 use crate::makers::read_maker;
 use crate::names::{is_name, only_count, only_name};
-use crate::request::{Call, Look, Request};
+use crate::request::{Call, FloatQuestion, Look, Request};
 use crate::session_words::{read_kernels, read_thresholds};
 use column_words::parse_count;
 
@@ -102,6 +102,7 @@ fn read_call<'a>(verb: &str, words: &'a [&'a str]) -> Option<Call<'a>> {
         "row" => Some(Call::Row(only_count(words)?)),
         "probe" => Some(Call::Probe(only_count(words)?)),
         "equals" => Some(Call::Equals(only_name(words)?)),
+        "float_at" => Some(Call::Floats(FloatQuestion::At(only_count(words)?))),
         _ => Some(Call::Command(read_worded(verb, first, rest)?)),
     }
 }
@@ -113,6 +114,10 @@ fn read_alone<'a>(verb: &str) -> Option<Call<'a>> {
         "meta" => Some(Call::Meta),
         "bytes" => Some(Call::Bytes),
         "hash" => Some(Call::Hash),
+        "floats" => Some(Call::Floats(FloatQuestion::Rows)),
+        "min_max_numbers" => Some(Call::Floats(FloatQuestion::MinMaxNumbers)),
+        "min_max_total" => Some(Call::Floats(FloatQuestion::MinMaxTotal)),
+        "sum_floats" => Some(Call::Floats(FloatQuestion::Sum)),
         _ => Some(Call::Command(read_bare(verb)?)),
     }
 }

@@ -1,7 +1,8 @@
 //! What a line of vectors may ask.
 use crate::values::Value;
 use column_ops::CompareOperator;
-use runend_array::{DType, Thresholds, VarBinKind};
+use runend_array::{DType, Nullability, PType, Thresholds, VarBinKind};
+use runend_floats::{FloatFormat, FloatPatterns};
 use runend_pairs::{BooleanOperator, GroupFold, NumericOperator};
 
 /// The word between a command of a list and the next, and between the parts that a builder is given.
@@ -71,6 +72,8 @@ pub enum Call<'a> {
     Equals(&'a str),
     /// Asks for the hash of the rows.
     Hash,
+    /// Asks a column of floats.
+    Floats(FloatQuestion),
     /// What a record says. It is asked of no column, so its request is named `read`, as no column is.
     Read(&'a [&'a str]),
 }
@@ -85,7 +88,7 @@ impl<'a> Call<'a> {
             Call::Deserialize(_) | Call::FromBytes(_) | Call::Derived(_) => true,
             Call::Command(_) | Call::Run(_) | Call::Row(_) | Call::Probe(_) => false,
             Call::Validity | Call::Meta | Call::Bytes | Call::Read(_) => false,
-            Call::Equals(_) | Call::Hash => false,
+            Call::Equals(_) | Call::Hash | Call::Floats(_) => false,
         }
     }
 }
@@ -141,6 +144,15 @@ pub enum Derived<'a> {
     Choice(&'a str, &'a str, &'a str),
     /// Names values, and the keys that they are grouped by.
     Fold(GroupPart, &'a str, &'a str),
+    /// Has the words of floats, which are made without the rows of a column.
+    Floats(FloatType, &'a [&'a str]),
+}
+
+/// Says of which format floats are, and whether rows may be null.
+#[derive(Clone, Copy)]
+pub struct FloatType {
+    pub format: FloatFormat,
+    pub nullability: Nullability,
 }
 
 /// Says what is made from the rows of one column.
@@ -159,6 +171,37 @@ pub enum RowOperator {
     Totals,
     /// Says where each of these runs ends.
     TotalEnds,
+    Floats(FloatOperator),
+}
+
+/// Says what is made of a column of floats, of bits or of integers.
+#[derive(Clone, Copy)]
+pub enum FloatOperator {
+    /// Makes the keys of bits.
+    Encode(FloatPatterns),
+    /// Makes the bits of keys.
+    Decode,
+    /// Compares with the float of these bits, by IEEE 754.
+    CompareNumbers(CompareOperator, u64),
+    /// Compares with the float of these bits, in the total order.
+    CompareTotal(CompareOperator, u64),
+    Cast(FloatFormat),
+    Round(FloatFormat),
+    OfIntegers(FloatFormat),
+    RoundIntegers(FloatFormat),
+    ToIntegers(PType),
+}
+
+/// Says what a column of floats is asked.
+#[derive(Clone, Copy)]
+pub enum FloatQuestion {
+    Rows,
+    At(usize),
+    /// Asks for the least and the greatest number.
+    MinMaxNumbers,
+    /// Asks for the first and the last float of the total order.
+    MinMaxTotal,
+    Sum,
 }
 
 /// Says what is made of the two rows at each place.

@@ -1,16 +1,59 @@
 //! Columns made from the rows of others, as words ask for them.
 use crate::commands::read_operator;
+use crate::float_words::{read_float, read_format};
 use crate::names::read_name;
-use crate::request::{Derived, GroupPart, PairOperator, RowOperator};
+use crate::request::{Derived, FloatOperator, GroupPart, PairOperator, RowOperator};
+use column_words::parse_ptype;
+use runend_floats::FloatPatterns;
 use runend_pairs::{BooleanOperator, GroupFold, NumericOperator};
 
 // How a column is made from the rows of those that the words name.
 pub(crate) fn read_derived<'a>(words: &'a [&'a str]) -> Option<Derived<'a>> {
     match words {
         [operator, name] => Some(Derived::One(read_row_operator(operator)?, read_name(name)?)),
-        [left, operator, right] => read_pair(left, operator, right),
+        [first, second, third] => match read_float_cast(first, second) {
+            Some(operator) => one_of(operator, third),
+            None => read_pair(first, second, third),
+        },
         ["if_else", mask, left, right] => read_choice(mask, left, right),
         ["fold", part, values, "by", keys] => read_fold(part, values, keys),
+        [order, operator, format, constant, name] => {
+            one_of(
+                read_float_comparison(order, operator, format, constant)?,
+                name,
+            )
+        }
+        _ => None,
+    }
+}
+
+// What the operator makes of the rows of the column of this name.
+fn one_of<'a>(operator: FloatOperator, name: &'a str) -> Option<Derived<'a>> {
+    Some(Derived::One(RowOperator::Floats(operator), read_name(name)?))
+}
+
+fn read_float_cast(cast: &str, to: &str) -> Option<FloatOperator> {
+    match cast {
+        "cast_floats" => Some(FloatOperator::Cast(read_format(to)?)),
+        "round_floats" => Some(FloatOperator::Round(read_format(to)?)),
+        "floats_of_integers" => Some(FloatOperator::OfIntegers(read_format(to)?)),
+        "round_integers" => Some(FloatOperator::RoundIntegers(read_format(to)?)),
+        "integers_of_floats" => Some(FloatOperator::ToIntegers(parse_ptype(to)?)),
+        _ => None,
+    }
+}
+
+fn read_float_comparison(
+    order: &str,
+    operator: &str,
+    format: &str,
+    constant: &str,
+) -> Option<FloatOperator> {
+    let operator = read_operator(operator)?;
+    let bits = read_float(read_format(format)?, constant)?;
+    match order {
+        "compare_numbers" => Some(FloatOperator::CompareNumbers(operator, bits)),
+        "compare_total" => Some(FloatOperator::CompareTotal(operator, bits)),
         _ => None,
     }
 }
@@ -26,8 +69,15 @@ fn read_row_operator(word: &str) -> Option<RowOperator> {
         "is_valid" => Some(RowOperator::IsValid),
         "totals" => Some(RowOperator::Totals),
         "total_ends" => Some(RowOperator::TotalEnds),
+        "encode_floats" => Some(encode_floats(FloatPatterns::Exact)),
+        "canonical_floats" => Some(encode_floats(FloatPatterns::Canonical)),
+        "decode_floats" => Some(RowOperator::Floats(FloatOperator::Decode)),
         _ => None,
     }
+}
+
+fn encode_floats(patterns: FloatPatterns) -> RowOperator {
+    RowOperator::Floats(FloatOperator::Encode(patterns))
 }
 
 fn read_pair<'a>(left: &'a str, operator: &str, right: &'a str) -> Option<Derived<'a>> {

@@ -1,4 +1,5 @@
 //! Columns made from the rows of others.
+use crate::float_work::made_of_floats;
 use crate::request::{GroupPart, PairOperator, RowOperator};
 use column_base::VortexError;
 use runend_array::array_of;
@@ -109,6 +110,7 @@ fn made_of_one<A: Allocator + Copy>(
         RowOperator::IsValid => Ok(is_valid(column, ctx)?),
         RowOperator::Distinct | RowOperator::Counts => counted(operator, column, ctx),
         RowOperator::Totals | RowOperator::TotalEnds => totalled(operator, column, ctx),
+        RowOperator::Floats(operator) => Ok(made_of_floats(operator, column, ctx)?),
     }
 }
 
