@@ -12,7 +12,7 @@ use std::num::{
     f32_from_bits_with_nan, f32_to_bits_with_nan, f64_from_bits_with_nan, f64_to_bits_with_nan,
 };
 
-/// Is the key of a float of one format.
+/// Works floats of one format by their keys.
 pub(crate) trait FloatKey: NativePType {
     // The format.
     ghost format: { FloatFormat };
