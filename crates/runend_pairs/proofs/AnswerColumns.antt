@@ -3,15 +3,17 @@ use Rattle.std.proofs.Common.{◌≡◌, ℕ, ℤ, pos, zero, suc, ◌<◌, List
 use Rattle.std.specs.Prelude.{◌&&◌, ◌==◌, not, option_map, slice_get, slice_index}
 use Rattle.std.proofs.lemmas.List.{length-map, length-replicate}
 use Rattle.column_base.specs.declared.dtype.DType.{DType}
+use Rattle.column_base.specs.declared.dtype.DecimalDType.{DecimalDType}
 use Rattle.column_base.specs.declared.dtype.PType.{PType}
 use Rattle.column_base.specs.Types.{IsLeastFor}
 use Rattle.column_base.specs.ValidityForm.{ValidityForm, IsNormal, flags}
 use Rattle.column_core.specs.BoolForm.{BoolForm, bool_with}
 use Rattle.column_core.specs.Computed.{HasRowIfAllNull, IsComputedLeaf}
-use Rattle.column_core.specs.Leaf.{Leaf, OfNumbers, OfTruths, leaf_dtype, leaf_rows, single_rows}
+use Rattle.column_core.specs.DecimalForm.{DecimalForm, decimal_with}
+use Rattle.column_core.specs.Leaf.{Leaf, OfDecimals, OfNumbers, OfTruths, leaf_dtype, leaf_rows, single_rows}
 use Rattle.column_core.specs.Optionals.{optionals, AreBlankAtNulls}
 use Rattle.column_core.specs.PrimitiveForm.{PrimitiveForm, primitive_with}
-use Rattle.column_core.specs.Value.{FlatValue, Number, Single, Truth, Value}
+use Rattle.column_core.specs.Value.{DecimalNumber, FlatValue, Number, Single, Truth, Value}
 use Rattle.column_ops.proofs.RowRanges.{length-single_rows}
 use Rattle.runend_array.specs.Column.{Column, Constant, OfConstant, OfLeaf, OfLists, OfRuns, column_dtype, column_of_runs, column_rows, runs_of}
 use Rattle.runend_encode.specs.Encoding.{AreLeastEnds, IsRowEncoding}
@@ -42,6 +44,19 @@ zeros_of_blanks : {S : Type 0} (number : S → ℤ) (items : List S) (bits : Lis
 zeros_of_blanks number [] bits blank = tt
 zeros_of_blanks number (x ∷ items) [] blank = tt
 zeros_of_blanks number (x ∷ items) (b ∷ bits) blank = ((λ e. let is = blank.0 e in cc), zeros_of_blanks number items bits blank.1)
+
+-- the same of decimals
+decimal_rows_of_items : (items : List ℤ) (bits : List Bool)
+    → map (option_map (λ (v : FlatValue). Single v)) (map (option_map (λ (n : ℤ). DecimalNumber n)) (optionals items bits)) ≡ rows_of_items (λ item. DecimalNumber item) items bits
+decimal_rows_of_items [] bits = refl
+decimal_rows_of_items (x ∷ items) [] = refl
+decimal_rows_of_items (x ∷ items) (true ∷ bits) = ap (λ (rest : List (Option Value)). Some (Single (DecimalNumber x)) ∷ rest) (decimal_rows_of_items items bits)
+decimal_rows_of_items (x ∷ items) (false ∷ bits) = ap (λ (rest : List (Option Value)). None ∷ rest) (decimal_rows_of_items items bits)
+
+decimal_zeros : (items : List ℤ) (bits : List Bool) → AreBlankAtNulls (DecimalNumber (pos 0)) (map (λ item. DecimalNumber item) items) bits → AreBlankAtNulls (pos 0) items bits
+decimal_zeros [] bits blank = tt
+decimal_zeros (x ∷ items) [] blank = tt
+decimal_zeros (x ∷ items) (b ∷ bits) blank = ((λ e. let is = blank.0 e in cc), decimal_zeros items bits blank.1)
 
 -- the same of booleans
 truth_rows_of_items : (items bits : List Bool) → map (option_map (λ (v : FlatValue). Single v)) (map (option_map (λ (b : Bool). Truth b)) (optionals items bits)) ≡ rows_of_items (λ item. Truth item) items bits
@@ -100,6 +115,25 @@ module _ (items bits packed : List Bool) (validity : ValidityForm) (form : BoolF
         normal = normal;
         some = λ e. subst (λ (n : ℕ). 0 < n) (sym many) (some e);
       })
+
+-- a flat column of decimals
+module _ (items : List ℤ) (bits : List Bool) (decimal : DecimalDType) (validity : ValidityForm) (form : DecimalForm) (made : form ≡ decimal_with decimal items validity) (told : flags validity (length bits) ≡ bits)
+    (paired : length bits ≡ length items) where
+  decimal_own_flags : flags validity (length items) ≡ bits
+  decimal_own_flags = ap (λ (n : ℕ). flags validity n) (sym paired) ∙ told
+
+  pub decimals_rows : single_rows (OfDecimals form) ≡ rows_of_items (λ item. DecimalNumber item) items bits
+  decimals_rows =
+      ap (λ (f : DecimalForm). single_rows (OfDecimals f)) made
+      ∙ ap (λ (bs : List Bool). map (option_map (λ (v : FlatValue). Single v)) (map (option_map (λ (n : ℤ). DecimalNumber n)) (optionals items bs))) decimal_own_flags
+      ∙ decimal_rows_of_items items bits
+
+  pub decimals_computed : AreBlankAtNulls (DecimalNumber (pos 0)) (map (λ item. DecimalNumber item) items) bits → IsNormal validity → HasRowIfAllNull validity (length bits) → IsComputedLeaf (OfDecimals form)
+  decimals_computed blank normal some = subst (λ (f : DecimalForm). IsComputedLeaf (OfDecimals f)) (sym made) (record {
+    blanked = subst (λ (bs : List Bool). AreBlankAtNulls (pos 0) items bs) (sym decimal_own_flags) (decimal_zeros items bits blank);
+    normal = normal;
+    some = λ e. subst (λ (n : ℕ). 0 < n) paired (some e);
+  })
 
 -- ends in the least type and a flat column of the items are the encoding
 pub encoding_made : (rows : List (Option Value)) (dtype : DType) (wanted : List ℕ) (shown : List (Option Value)) (ends : PrimitiveForm) (values : Leaf) → IsTightCover rows wanted shown → AreLeastEnds wanted ends

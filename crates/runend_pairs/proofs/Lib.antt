@@ -4,6 +4,7 @@ pub mod Placed
 pub mod AnswerColumns
 pub mod Faultless
 pub mod FloatAnswers
+pub mod DecimalAnswers
 pub mod Mapped
 pub mod Same
 pub mod Picked

@@ -4,6 +4,7 @@ pub mod Runs
 pub mod Answers
 pub mod Faults
 pub mod FloatKeys
+pub mod Decimals
 pub mod Hashes
 pub mod Groups
 pub mod GroupFaults

@@ -138,7 +138,9 @@ pub(crate) fn pick<A: Allocator + Copy>(
         (column_of answers)) }
 {
     match right.dtype() {
-        DType::Bool(_) => pick_as::<bool, Truths, A>(alloc, left, rule, right, nullability),
+        DType::Bool(_) => {
+            pick_as::<bool, Truths, A>(alloc, left, rule, right, &Truths, nullability)
+        }
         DType::Primitive(ptype, _) => {
             pick_integers(alloc, ptype, left, rule, right, nullability)
         }
@@ -165,14 +167,14 @@ fn pick_integers<A: Allocator + Copy>(
         (column_of answers)) }
 {
     match ptype {
-        PType::U8 => pick_as::<u8, Integers, A>(alloc, left, rule, right, nullability),
-        PType::U16 => pick_as::<u16, Integers, A>(alloc, left, rule, right, nullability),
-        PType::U32 => pick_as::<u32, Integers, A>(alloc, left, rule, right, nullability),
-        PType::U64 => pick_as::<u64, Integers, A>(alloc, left, rule, right, nullability),
-        PType::I8 => pick_as::<i8, Integers, A>(alloc, left, rule, right, nullability),
-        PType::I16 => pick_as::<i16, Integers, A>(alloc, left, rule, right, nullability),
-        PType::I32 => pick_as::<i32, Integers, A>(alloc, left, rule, right, nullability),
-        PType::I64 => pick_as::<i64, Integers, A>(alloc, left, rule, right, nullability),
+        PType::U8 => pick_as::<u8, Integers, A>(alloc, left, rule, right, &Integers, nullability),
+        PType::U16 => pick_as::<u16, Integers, A>(alloc, left, rule, right, &Integers, nullability),
+        PType::U32 => pick_as::<u32, Integers, A>(alloc, left, rule, right, &Integers, nullability),
+        PType::U64 => pick_as::<u64, Integers, A>(alloc, left, rule, right, &Integers, nullability),
+        PType::I8 => pick_as::<i8, Integers, A>(alloc, left, rule, right, &Integers, nullability),
+        PType::I16 => pick_as::<i16, Integers, A>(alloc, left, rule, right, &Integers, nullability),
+        PType::I32 => pick_as::<i32, Integers, A>(alloc, left, rule, right, &Integers, nullability),
+        PType::I64 => pick_as::<i64, Integers, A>(alloc, left, rule, right, &Integers, nullability),
     }
 }
 
@@ -182,57 +184,75 @@ fn pick_as<Z: Copy + Drop, K: Stored<Z>, A: Allocator + Copy>(
     left: &ArrayRef<A>,
     rule: PickRule,
     right: &ArrayRef<A>,
+    stored: &K,
     nullability: Nullability,
 ) -> VortexResult<ArrayRef<A>>
-    requires kind { AreOfKind rule K.dtype_in (dtype_of left.now) (dtype_of right.now) (length (rows left.now))
-        (length (rows right.now)) }
+    requires kind { AreOfKind rule (K.dtype_in stored.now) (dtype_of left.now) (dtype_of right.now)
+        (length (rows left.now)) (length (rows right.now)) }
     requires filled { nullability ≡ NonNullable → IsNeverNull (nullability_of (dtype_of left.now))
         (nullability_of (dtype_of right.now)) (picked rule) }
     ensures only { IsOkUnless result VortexError.OutOfMemory }
     ensures answers { IfOk result (λ answers. IsAnswerColumn (are_constant (column_of left.now) (column_of right.now))
-        (zip_rows (picked rule) (rows left.now) (rows right.now)) (K.dtype_in nullability) (column_of answers)) }
+        (zip_rows (picked rule) (rows left.now) (rows right.now)) (K.dtype_in stored.now nullability)
+        (column_of answers)) }
 {
-    let made = zip_columns::<Z, K, PickRule, A>(alloc, left, &rule, right, nullability);
+    let picking = Picking { rule, stored };
+    let made = zip_columns::<Z, K, Picking<'_, K>, A>(
+        alloc,
+        left,
+        &picking,
+        right,
+        stored,
+        nullability,
+    );
     only_refused(made)
 }
 
-impl<Z: Copy + Drop, K: Stored<Z>> Pairwise<Z, K> for PickRule {
-    ghost takes = { λ rule left right. IsLeftOf rule K.dtype_in left × IsOfKind K.dtype_in right };
+/// Picks rows that are stored in one way.
+#[derive(Drop)]
+struct Picking<'a, K> {
+    rule: PickRule,
+    stored: &'a K,
+}
 
-    ghost answer_of = { λ rule. picked rule };
+impl<Z: Copy + Drop, K: Stored<Z>> Pairwise<Z, K> for Picking<'_, K> {
+    ghost takes = { λ picking left right. IsLeftOf picking.rule (K.dtype_in picking.stored.now) left
+        × IsOfKind (K.dtype_in picking.stored.now) right };
 
-    ghost has = { λ rule answer. Unit {0} };
+    ghost answer_of = { λ picking. picked picking.rule };
+
+    ghost has = { λ picking answer. Unit {0} };
 
     fn answer<A: Allocator>(
         &self,
         left: &ScalarView<'_, A>,
         right: &ScalarView<'_, A>,
     ) -> Option<Option<Z>> {
-        match self {
+        match self.rule {
             PickRule::FirstValid => match left {
-                ScalarView::Null => Some(K::of_view(right)),
-                _ => Some(K::of_view(left)),
+                ScalarView::Null => Some(self.stored.of_view(right)),
+                _ => Some(self.stored.of_view(left)),
             },
             PickRule::Lesser => {
                 if is_lesser(left, right) {
-                    Some(K::of_view(left))
+                    Some(self.stored.of_view(left))
                 } else {
-                    Some(K::of_view(right))
+                    Some(self.stored.of_view(right))
                 }
             }
             PickRule::Greater => {
                 if is_greater(left, right) {
-                    Some(K::of_view(left))
+                    Some(self.stored.of_view(left))
                 } else {
-                    Some(K::of_view(right))
+                    Some(self.stored.of_view(right))
                 }
             }
             PickRule::WhereTrue => match truth_in(left) {
-                Some(true) => Some(K::of_view(right)),
+                Some(true) => Some(self.stored.of_view(right)),
                 _ => Some(None),
             },
             PickRule::WhereFalse => match truth_in(left) {
-                Some(false) => Some(K::of_view(right)),
+                Some(false) => Some(self.stored.of_view(right)),
                 _ => Some(None),
             },
         }

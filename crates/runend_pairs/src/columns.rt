@@ -15,7 +15,7 @@ ghost use Rattle.runend_pairs.specs.Answers.{rows_of_items};
 ghost use Rattle.runend_pairs.specs.Faults.{AreSingle, IsZipRefusal};
 ghost use Rattle.runend_pairs.specs.Operations.{both_nullability, IsNeverNull};
 ghost use Rattle.runend_pairs.specs.Runs.{rows_in, AreColumnRuns};
-ghost use Rattle.runend_pairs.specs.Zipped.{are_constant, is_constant, zip_rows, IsAnswerColumn, IsOneRow};
+ghost use Rattle.runend_pairs.specs.Zipped.{are_constant, is_constant, zip_rows, AllHave, IsAnswerColumn, IsOneRow};
 
 use crate::answers::AnswerRuns;
 use crate::fault::{ZipError, only_refused};
@@ -48,6 +48,7 @@ pub(crate) fn zip_columns<Z: Copy + Drop, K: Stored<Z>, O: Pairwise<Z, K>, A: Al
     left: &ArrayRef<A>,
     operation: &O,
     right: &ArrayRef<A>,
+    stored: &K,
     nullability: Nullability,
 ) -> Result<ArrayRef<A>, ZipError>
     requires left { ¬ IsLists (dtype_of left.now) }
@@ -57,8 +58,11 @@ pub(crate) fn zip_columns<Z: Copy + Drop, K: Stored<Z>, O: Pairwise<Z, K>, A: Al
     requires filled { nullability ≡ NonNullable → IsNeverNull (nullability_of (dtype_of left.now))
         (nullability_of (dtype_of right.now)) (O.answer_of operation.now) }
     ensures answers { IfOk result (λ answers. IsAnswerColumn (are_constant (column_of left.now) (column_of right.now))
-        (zip_rows (O.answer_of operation.now) (rows left.now) (rows right.now)) (K.dtype_in nullability)
+        (zip_rows (O.answer_of operation.now) (rows left.now) (rows right.now))
+        (K.dtype_in stored.now nullability)
         (column_of answers)) }
+    ensures had { IfOk result (λ answers. AllHave (O.has operation.now)
+        (zip_rows (O.answer_of operation.now) (rows left.now) (rows right.now))) }
     ensures refused { IfErr result (IsZipRefusal (O.has operation.now)
         (zip_rows (O.answer_of operation.now) (rows left.now) (rows right.now))) }
 {
@@ -70,7 +74,7 @@ pub(crate) fn zip_columns<Z: Copy + Drop, K: Stored<Z>, O: Pairwise<Z, K>, A: Al
         nullability,
         is_constant: are_constants(left, right),
     };
-    zip_shown::<Z, K, O, A>(alloc, &left_runs, operation, &right_runs, form)
+    zip_shown::<Z, K, O, A>(alloc, &left_runs, operation, &right_runs, stored, form)
 }
 
 /// Returns the answers of an operation for each row of a column, given to it twice: a constant where the column is one
@@ -79,6 +83,7 @@ pub(crate) fn map_column<Z: Copy + Drop, K: Stored<Z>, O: Pairwise<Z, K>, A: All
     alloc: A,
     column: &ArrayRef<A>,
     operation: &O,
+    stored: &K,
     nullability: Nullability,
 ) -> Result<ArrayRef<A>, ZipError>
     requires single { ¬ IsLists (dtype_of column.now) }
@@ -86,7 +91,8 @@ pub(crate) fn map_column<Z: Copy + Drop, K: Stored<Z>, O: Pairwise<Z, K>, A: All
     requires filled { nullability ≡ NonNullable → IsNeverNull (nullability_of (dtype_of column.now))
         (nullability_of (dtype_of column.now)) (O.answer_of operation.now) }
     ensures answers { IfOk result (λ answers. IsAnswerColumn (is_constant (column_of column.now))
-        (zip_rows (O.answer_of operation.now) (rows column.now) (rows column.now)) (K.dtype_in nullability)
+        (zip_rows (O.answer_of operation.now) (rows column.now) (rows column.now))
+        (K.dtype_in stored.now nullability)
         (column_of answers)) }
     ensures refused { IfErr result (IsZipRefusal (O.has operation.now)
         (zip_rows (O.answer_of operation.now) (rows column.now) (rows column.now))) }
@@ -98,7 +104,7 @@ pub(crate) fn map_column<Z: Copy + Drop, K: Stored<Z>, O: Pairwise<Z, K>, A: All
         nullability,
         is_constant: is_filled_constant(column),
     };
-    zip_shown::<Z, K, O, A>(alloc, &runs, operation, &runs, form)
+    zip_shown::<Z, K, O, A>(alloc, &runs, operation, &runs, stored, form)
 }
 
 /// Returns the answers of an operation that has one for any two rows, which are booleans and null only where a row is.
@@ -120,7 +126,14 @@ pub(crate) fn zip_truths<O: Pairwise<bool, Truths>, A: Allocator + Copy>(
         (compare_dtype (dtype_of left.now) (dtype_of right.now)) (column_of answers)) }
 {
     let nullability = either_null(left.dtype(), right.dtype());
-    let made = zip_columns::<bool, Truths, O, A>(alloc, left, operation, right, nullability);
+    let made = zip_columns::<bool, Truths, O, A>(
+        alloc,
+        left,
+        operation,
+        right,
+        &Truths,
+        nullability,
+    );
     only_refused(made)
 }
 
@@ -142,7 +155,7 @@ pub(crate) fn map_truths<O: Pairwise<bool, Truths>, A: Allocator + Copy>(
         (zip_rows (O.answer_of operation.now) (rows column.now) (rows column.now)) (DType.Bool nullability)
         (column_of answers)) }
 {
-    let made = map_column::<bool, Truths, O, A>(alloc, column, operation, nullability);
+    let made = map_column::<bool, Truths, O, A>(alloc, column, operation, &Truths, nullability);
     only_refused(made)
 }
 
@@ -152,6 +165,7 @@ fn zip_shown<Z: Copy + Drop, K: Stored<Z>, O: Pairwise<Z, K>, A: Allocator + Cop
     left: &ColumnRuns<A>,
     operation: &O,
     right: &ColumnRuns<A>,
+    stored: &K,
     form: AnswerForm,
 ) -> Result<ArrayRef<A>, ZipError>
     requires left { AreColumnRuns left.now.ends left.now.offset (leaf_of left.now.values) form.count }
@@ -167,13 +181,16 @@ fn zip_shown<Z: Copy + Drop, K: Stored<Z>, O: Pairwise<Z, K>, A: Allocator + Cop
     ensures answers { IfOk result (λ answers. IsAnswerColumn form.is_constant (zip_rows (O.answer_of operation.now)
         (rows_in left.now.ends left.now.offset (leaf_of left.now.values) form.count)
         (rows_in right.now.ends right.now.offset (leaf_of right.now.values) form.count))
-        (K.dtype_in form.nullability) (column_of answers)) }
+        (K.dtype_in stored.now form.nullability) (column_of answers)) }
+    ensures had { IfOk result (λ answers. AllHave (O.has operation.now) (zip_rows (O.answer_of operation.now)
+        (rows_in left.now.ends left.now.offset (leaf_of left.now.values) form.count)
+        (rows_in right.now.ends right.now.offset (leaf_of right.now.values) form.count))) }
     ensures refused { IfErr result (IsZipRefusal (O.has operation.now) (zip_rows (O.answer_of operation.now)
         (rows_in left.now.ends left.now.offset (leaf_of left.now.values) form.count)
         (rows_in right.now.ends right.now.offset (leaf_of right.now.values) form.count))) }
 {
     let runs = zip_runs::<Z, K, O, A>(alloc, left, operation, right, form.count)?;
-    let (ends, values) = encoding_of::<Z, K, A>(alloc, runs, form.nullability)?;
+    let (ends, values) = encoding_of::<Z, K, A>(alloc, runs, stored, form.nullability)?;
     let answers = column_over(alloc, ends, values, form.count, form.is_constant)?;
     Ok(answers)
 }
@@ -219,6 +236,7 @@ fn is_filled_constant<A: Allocator + Copy>(array: &ArrayRef<A>) -> bool
 fn encoding_of<Z: Copy + Drop, K: Stored<Z>, A: Allocator + Copy>(
     alloc: A,
     runs: AnswerRuns<Z, A>,
+    stored: &K,
     nullability: Nullability,
 ) -> VortexResult<(PrimitiveArray<A>, FlatColumn<A>)>
     requires increasing { IsStrictlyIncreasing runs.ends.items }
@@ -228,7 +246,7 @@ fn encoding_of<Z: Copy + Drop, K: Stored<Z>, A: Allocator + Copy>(
     ensures only { IsOkUnless result VortexError.OutOfMemory }
     ensures encoding { (rows : List (Option Value)) → IsTightCover rows runs.ends.items
         (rows_of_items K.shown runs.items.items runs.flags) → IfOk result (λ parts.
-        IsRowEncoding rows (K.dtype_in nullability) parts.0 (leaf_of parts.1)) }
+        IsRowEncoding rows (K.dtype_in stored.now nullability) parts.0 (leaf_of parts.1)) }
 {
     let AnswerRuns {
         ends,
@@ -239,7 +257,7 @@ fn encoding_of<Z: Copy + Drop, K: Stored<Z>, A: Allocator + Copy>(
         steps: _,
     } = runs;
     let ends = least_ends(alloc, ends.as_slice())?;
-    let values = K::column(alloc, items, flags.freeze(), nullability)?;
+    let values = stored.column(alloc, items, flags.freeze(), nullability)?;
     Ok((ends, values))
 }
 

@@ -116,6 +116,7 @@ fn calculate<T: FloatKey, A: Allocator + Copy>(
         left,
         &calculation,
         right,
+        &Integers,
         nullability,
     );
     only_refused(made)
@@ -152,5 +153,5 @@ fn key_in<T: FloatKey, A: Allocator>(view: &ScalarView<'_, A>) -> Option<T>
     requires { IsViewIn (λ nullability. column.Primitive T.PTYPE nullability) view.now }
     ensures { row_of (λ item. Number (T.number item)) result ≡ sees view.now }
 {
-    <Integers as Stored<T>>::of_view(view)
+    <Integers as Stored<T>>::of_view(&Integers, view)
 }

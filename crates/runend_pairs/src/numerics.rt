@@ -106,6 +106,7 @@ fn numeric_as<T: NativePType, A: Allocator + Copy>(
         left,
         &Calculation { operator },
         right,
+        &Integers,
         nullability,
     )
 }
@@ -150,8 +151,8 @@ impl NumericOperator {
         }
     }
 
-    // The integer that two give, where 128 bits have it.
-    fn calculate(self, left: i128, right: i128) -> Option<i128>
+    /// Returns the integer that two give, where 128 bits have it.
+    pub(crate) fn calculate(self, left: i128, right: i128) -> Option<i128>
         ensures some { IfSome result (λ number. number ≡ calculated self left right) }
         ensures none { IfNone result (¬ FitsSigned w128 (calculated self left right)) }
     {

@@ -8,14 +8,14 @@ ghost use Rattle.column_core.specs.Computed.{IsComputedLeaf};
 ghost use Rattle.column_core.specs.FlatColumn.{leaf_of};
 ghost use Rattle.column_core.specs.Leaf.{leaf_dtype, single_rows};
 ghost use Rattle.column_core.specs.Optionals.{AreBlankAtNulls};
-ghost use Rattle.column_core.specs.Value.{FlatValue, Number, Truth};
+ghost use Rattle.column_core.specs.Value.{DecimalNumber, FlatValue, Number, Truth};
 ghost use Rattle.column_core.specs.ScalarView.{sees};
 ghost use Rattle.runend_pairs.specs.Answers.{row_of, rows_of_items};
 ghost use Rattle.runend_pairs.specs.Operations.{IsViewIn};
 
 use column_core::{
-    BitBuffer, BitBufferMut, BoolArray, FlatColumn, NativePType, Nullability, PrimitiveArray,
-    ScalarView, VortexError, VortexResult,
+    BitBuffer, BitBufferMut, BoolArray, DecimalArray, DecimalDType, FlatColumn, NativePType,
+    Nullability, PrimitiveArray, ScalarView, VortexError, VortexResult,
 };
 use runend_windows::validity_with;
 use std::alloc::Allocator;
@@ -29,7 +29,7 @@ pub(crate) trait Stored<Z: Copy + Drop> {
     ghost blank_value: { FlatValue };
 
     // The type of a column of items, with null or without.
-    ghost dtype_in: { Nullability → DType };
+    ghost dtype_in: { Self → Nullability → DType };
 
     /// Returns what is stored under null.
     fn blank() -> Z
@@ -40,12 +40,13 @@ pub(crate) trait Stored<Z: Copy + Drop> {
         ensures { IsTrue result ↔ (shown left ≡ shown right) };
 
     /// Returns the item that a view of a row shows, or `None` for null.
-    fn of_view<A: Allocator>(view: &ScalarView<'_, A>) -> Option<Z>
-        requires { IsViewIn dtype_in view.now }
+    fn of_view<A: Allocator>(&self, view: &ScalarView<'_, A>) -> Option<Z>
+        requires { IsViewIn (dtype_in self.now) view.now }
         ensures { row_of shown result ≡ sees view.now };
 
     /// Returns the flat column of items, null where the flag is false. Refused as `OutOfMemory` only.
     fn column<A: Allocator + Copy>(
+        &self,
         alloc: A,
         items: Vec<Z, A>,
         flags: BitBuffer<A>,
@@ -57,7 +58,7 @@ pub(crate) trait Stored<Z: Copy + Drop> {
         ensures only { IsOkUnless result VortexError.OutOfMemory }
         ensures rows { IfOk result (λ made.
             single_rows (leaf_of made) ≡ rows_of_items shown items.items flags) }
-        ensures dtype { IfOk result (λ made. leaf_dtype (leaf_of made) ≡ dtype_in nullability) }
+        ensures dtype { IfOk result (λ made. leaf_dtype (leaf_of made) ≡ dtype_in self.now nullability) }
         ensures computed { IfOk result (λ made. IsComputedLeaf (leaf_of made)) };
 }
 
@@ -69,7 +70,7 @@ impl<T: NativePType> Stored<T> for Integers {
 
     ghost blank_value = { Number (pos 0) };
 
-    ghost dtype_in = { λ nullability. column.Primitive T.PTYPE nullability };
+    ghost dtype_in = { λ integers nullability. column.Primitive T.PTYPE nullability };
 
     fn blank() -> T {
         T::default()
@@ -79,7 +80,7 @@ impl<T: NativePType> Stored<T> for Integers {
         left == right
     }
 
-    fn of_view<A: Allocator>(view: &ScalarView<'_, A>) -> Option<T>
+    fn of_view<A: Allocator>(&self, view: &ScalarView<'_, A>) -> Option<T>
         requires { IsViewIn (λ nullability. column.Primitive T.PTYPE nullability) view.now }
         ensures { row_of (λ item. Number (T.number item)) result ≡ sees view.now }
     {
@@ -92,6 +93,7 @@ impl<T: NativePType> Stored<T> for Integers {
     }
 
     fn column<A: Allocator + Copy>(
+        &self,
         _alloc: A,
         items: Vec<T, A>,
         flags: BitBuffer<A>,
@@ -112,6 +114,60 @@ impl<T: NativePType> Stored<T> for Integers {
     }
 }
 
+/// Stores the integers of decimals of one precision and scale.
+#[derive(Clone, Copy, Drop)]
+pub(crate) struct Decimals {
+    pub(crate) decimal: DecimalDType,
+}
+
+impl Stored<i128> for Decimals {
+    ghost shown = { λ item. DecimalNumber item };
+
+    ghost blank_value = { DecimalNumber (pos 0) };
+
+    ghost dtype_in = { λ decimals nullability. column.Decimal decimals.decimal nullability };
+
+    fn blank() -> i128 {
+        0
+    }
+
+    fn is_same(left: i128, right: i128) -> bool {
+        left == right
+    }
+
+    fn of_view<A: Allocator>(&self, view: &ScalarView<'_, A>) -> Option<i128>
+        requires { IsViewIn (λ nullability. column.Decimal self.now.decimal nullability) view.now }
+        ensures { row_of (λ item. DecimalNumber item) result ≡ sees view.now }
+    {
+        match view {
+            ScalarView::Decimal(number) => Some(*number),
+            _ => None,
+        }
+    }
+
+    fn column<A: Allocator + Copy>(
+        &self,
+        _alloc: A,
+        items: Vec<i128, A>,
+        flags: BitBuffer<A>,
+        nullability: Nullability,
+    ) -> VortexResult<FlatColumn<A>>
+        requires paired { length flags ≡ length items.items }
+        requires blank { AreBlankAtNulls (DecimalNumber (pos 0)) (map (λ item. DecimalNumber item) items.items) flags }
+        requires filled { nullability ≡ NonNullable → All (λ flag. flag ≡ true) flags }
+        ensures only { IsOkUnless result VortexError.OutOfMemory }
+        ensures rows { IfOk result (λ made. single_rows (leaf_of made) ≡
+            rows_of_items (λ item. DecimalNumber item) items.items flags) }
+        ensures dtype { IfOk result (λ made.
+            leaf_dtype (leaf_of made) ≡ column.Decimal self.now.decimal nullability) }
+        ensures computed { IfOk result (λ made. IsComputedLeaf (leaf_of made)) }
+    {
+        let validity = validity_with(nullability, flags);
+        let decimals = DecimalArray::new_unchecked(items, self.decimal, validity);
+        Ok(FlatColumn::Decimal(decimals))
+    }
+}
+
 /// Stores booleans.
 pub(crate) struct Truths;
 
@@ -120,7 +176,7 @@ impl Stored<bool> for Truths {
 
     ghost blank_value = { Truth false };
 
-    ghost dtype_in = { λ nullability. column.Bool nullability };
+    ghost dtype_in = { λ truths nullability. column.Bool nullability };
 
     fn blank() -> bool {
         false
@@ -130,7 +186,7 @@ impl Stored<bool> for Truths {
         left == right
     }
 
-    fn of_view<A: Allocator>(view: &ScalarView<'_, A>) -> Option<bool>
+    fn of_view<A: Allocator>(&self, view: &ScalarView<'_, A>) -> Option<bool>
         requires { IsViewIn (λ nullability. column.Bool nullability) view.now }
         ensures { row_of (λ item. Truth item) result ≡ sees view.now }
     {
@@ -142,6 +198,7 @@ impl Stored<bool> for Truths {
     }
 
     fn column<A: Allocator + Copy>(
+        &self,
         alloc: A,
         items: Vec<bool, A>,
         flags: BitBuffer<A>,

@@ -25,7 +25,7 @@ returns-clause-answers g c =
     let f = g.O.Pairwise.answer_of c.args.operation.now in
     let runs = c.in_ok-runs.runs in
     let own = rows c.args.column.now in
-    let dtype = g.K.Stored.dtype_in c.args.nullability in
+    let dtype = g.K.Stored.dtype_in c.args.stored.now c.args.nullability in
     let count = c.len-count.result in
     let shown_is : rows_in runs.ends runs.offset (leaf_of runs.values) count ≡ own = ap (λ (n : ℕ). rows_in runs.ends runs.offset (leaf_of runs.values) n) c.len-count.ensures ∙ c.in_ok-runs.ensures.rows in
     subst (λ (constant : Bool). IfOk c.zip_shown.result (λ made. IsAnswerColumn constant (zip_rows f own own) dtype (column_of made))) c.is_filled_constant.ensures

@@ -9,7 +9,7 @@ use Rattle.runend_array.specs.Array.{column_of, dtype_of, rows}
 use Rattle.runend_pairs.specs.Faults.{IsZipRefusal}
 use Rattle.runend_pairs.specs.Operations.{IsNeverNull}
 use Rattle.runend_pairs.specs.Runs.{rows_in}
-use Rattle.runend_pairs.specs.Zipped.{zip_rows, IsAnswerColumn, IsOneRow}
+use Rattle.runend_pairs.specs.Zipped.{zip_rows, AllHave, IsAnswerColumn, IsOneRow}
 use Rattle.runend_pairs.proofs.AnswerColumns.{one_answer_row}
 use Rattle.runend_pairs.proofs.Mapped.{same_answers}
 use Rattle.runend_pairs.proofs.columns.zip_columns.Goals as goal
@@ -43,7 +43,7 @@ returns-clause-answers g c =
     let right = c.in_ok-right_runs.right_runs in
     let lefts = rows c.args.left.now in
     let rights = rows c.args.right.now in
-    let dtype = g.K.Stored.dtype_in c.args.nullability in
+    let dtype = g.K.Stored.dtype_in c.args.stored.now c.args.nullability in
     let count = c.len-count.result in
     let left_is : rows_in left.ends left.offset (leaf_of left.values) count ≡ lefts = ap (λ (n : ℕ). rows_in left.ends left.offset (leaf_of left.values) n) c.len-count.ensures ∙ c.in_ok-left_runs.ensures.rows in
     let right_is : rows_in right.ends right.offset (leaf_of right.values) count ≡ rights =
@@ -51,6 +51,19 @@ returns-clause-answers g c =
     subst (λ (constant : Bool). IfOk c.zip_shown.result (λ made. IsAnswerColumn constant (zip_rows f lefts rights) dtype (column_of made))) c.are_constants.ensures
     (subst (λ (answers : List (Option Value)). IfOk c.zip_shown.result (λ made. IsAnswerColumn c.are_constants.result answers dtype (column_of made))) (same_answers f lefts rights _ _ left_is right_is)
     c.zip_shown.ensures.answers)
+
+pub returns-clause-had : goal.returns-clause-had
+returns-clause-had g c =
+    let f = g.O.Pairwise.answer_of c.args.operation.now in
+    let left = c.in_ok-left_runs.left_runs in
+    let right = c.in_ok-right_runs.right_runs in
+    let lefts = rows c.args.left.now in
+    let rights = rows c.args.right.now in
+    let count = c.len-count.result in
+    let left_is : rows_in left.ends left.offset (leaf_of left.values) count ≡ lefts = ap (λ (n : ℕ). rows_in left.ends left.offset (leaf_of left.values) n) c.len-count.ensures ∙ c.in_ok-left_runs.ensures.rows in
+    let right_is : rows_in right.ends right.offset (leaf_of right.values) count ≡ rights =
+    ap (λ (n : ℕ). rows_in right.ends right.offset (leaf_of right.values) n) (c.len-count.ensures ∙ c.requires.counted) ∙ c.in_ok-right_runs.ensures.rows in
+    subst (λ (answers : List (Option Value)). IfOk c.zip_shown.result (λ made. AllHave (g.O.Pairwise.has c.args.operation.now) answers)) (same_answers f lefts rights _ _ left_is right_is) c.zip_shown.ensures.had
 
 pub returns-clause-refused : goal.returns-clause-refused
 returns-clause-refused g c =

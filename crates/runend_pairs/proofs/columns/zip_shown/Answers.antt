@@ -17,7 +17,7 @@ column_over-requires-clause-encoding g c =
     let left = c.args.left.now in
     let right = c.args.right.now in
     let count = c.args.form.count in
-    shown_encoding (zip_rows f (rows_in left.ends left.offset (leaf_of left.values) count) (rows_in right.ends right.offset (leaf_of right.values) count)) count (g.K.Stored.dtype_in c.args.form.nullability) c.in_ok-ends.ends
+    shown_encoding (zip_rows f (rows_in left.ends left.offset (leaf_of left.values) count) (rows_in right.ends right.offset (leaf_of right.values) count)) count (g.K.Stored.dtype_in c.args.stored.now c.args.form.nullability) c.in_ok-ends.ends
     (leaf_of c.in_ok-ends.values) (c.in_ok-ends.ensures.encoding _ c.in_ok-runs.ensures.cover)
     (length-zip_runs f (ends_of left.ends) (single_rows (leaf_of left.values)) left.offset (ends_of right.ends) (single_rows (leaf_of right.values)) right.offset count)
 
@@ -27,7 +27,7 @@ column_over-requires-clause-one g c = λ constant.
     let left = c.args.left.now in
     let right = c.args.right.now in
     let count = c.args.form.count in
-    shown_one (zip_rows f (rows_in left.ends left.offset (leaf_of left.values) count) (rows_in right.ends right.offset (leaf_of right.values) count)) count (g.K.Stored.dtype_in c.args.form.nullability) c.in_ok-ends.ends
+    shown_one (zip_rows f (rows_in left.ends left.offset (leaf_of left.values) count) (rows_in right.ends right.offset (leaf_of right.values) count)) count (g.K.Stored.dtype_in c.args.stored.now c.args.form.nullability) c.in_ok-ends.ends
     (leaf_of c.in_ok-ends.values) (c.in_ok-ends.ensures.encoding _ c.in_ok-runs.ensures.cover)
     (length-zip_runs f (ends_of left.ends) (single_rows (leaf_of left.values)) left.offset (ends_of right.ends) (single_rows (leaf_of right.values)) right.offset count) (c.requires.one constant)
 
@@ -37,7 +37,7 @@ returns-clause-answers g c =
     let left = c.args.left.now in
     let right = c.args.right.now in
     let count = c.args.form.count in
-    answers_column (zip_rows f (rows_in left.ends left.offset (leaf_of left.values) count) (rows_in right.ends right.offset (leaf_of right.values) count)) count (g.K.Stored.dtype_in c.args.form.nullability) c.in_ok-ends.ends
+    answers_column (zip_rows f (rows_in left.ends left.offset (leaf_of left.values) count) (rows_in right.ends right.offset (leaf_of right.values) count)) count (g.K.Stored.dtype_in c.args.stored.now c.args.form.nullability) c.in_ok-ends.ends
     (leaf_of c.in_ok-ends.values) (c.in_ok-ends.ensures.encoding _ c.in_ok-runs.ensures.cover)
     (length-zip_runs f (ends_of left.ends) (single_rows (leaf_of left.values)) left.offset (ends_of right.ends) (single_rows (leaf_of right.values)) right.offset count) c.args.form.is_constant
     (column_of c.in_ok-answers.answers) c.in_ok-answers.ensures.column
