@@ -4,6 +4,9 @@ use Rattle.std.specs.Int.{w128}
 use Rattle.std.specs.Prelude.{option_map, IfErr, IsErrAnd, Result, Ok, Err}
 use Rattle.std.proofs.lemmas.Int.{ints}
 use Rattle.std.proofs.lemmas.List.{length-map}
+use Rattle.column_base.specs.declared.dtype.PType.{PType}
+use Rattle.column_base.specs.declared.dtype.PType.TheVariants.{U8, U16, U32, U64, I8, I16, I32, I64}
+use Rattle.column_base.specs.Types.{HasNumber}
 use Rattle.column_base.specs.ValidityForm.{HasLength, ValidityForm, flags}
 use Rattle.column_base.proofs.ValidityRows.{length-flags}
 use Rattle.column_core.specs.Optionals.{optionals}
@@ -54,6 +57,17 @@ module _ (kind : ℤ → FlatValue) (dropped added : ℕ) (validity : ValidityFo
 -- what has the digits of a precision is small
 pub small_digits : (limit p : ℕ) (n : ℤ) → limit ≡ 10 ^ min p 38 → unsigned_abs n < limit → FitsSigned w128 n
 small_digits limit p n is within = let small = short_precision p in omega (arith, ints, small, is, within)
+
+-- what a native type has is small
+pub small_number : (t : PType) (n : ℤ) → HasNumber t n → FitsSigned w128 n
+small_number U8 n has = omega (arith, ints, has)
+small_number U16 n has = omega (arith, ints, has)
+small_number U32 n has = omega (arith, ints, has)
+small_number U64 n has = omega (arith, ints, has)
+small_number I8 n has = omega (arith, ints, has)
+small_number I16 n has = omega (arith, ints, has)
+small_number I32 n has = omega (arith, ints, has)
+small_number I64 n has = omega (arith, ints, has)
 
 module _ (from to : ℤ) (limit digits : ℕ) (is : limit ≡ 10 ^ digits) (rows : List (Option ℤ)) where
   -- what is below the limit has the digits

@@ -4,7 +4,8 @@ use Rattle.column_base.specs.declared.dtype.DType.{DType}
 use Rattle.column_base.specs.declared.dtype.DType.TheVariants as column
 use Rattle.column_base.specs.declared.error.VortexError.{VortexError}
 use Rattle.column_core.specs.Refusal.{IsErrorFor}
-use Rattle.column_core.specs.Value.{Value, Single, DecimalNumber}
+use Rattle.column_core.specs.Value.{Value, Single, DecimalNumber, Number}
+use Rattle.column_sums.specs.SumAnswer.{number_in}
 use Rattle.runend_decimals.specs.Rows.{decimal_in}
 use Rattle.runend_decimals.specs.declared.fault.RescaleError.{RescaleError}
 use Rattle.runend_decimals.specs.declared.fault.RescaleError.TheVariants.{Inexact, Overflow, Refused}
@@ -65,9 +66,21 @@ IsRescaleRefusal fault from to Has rows error = IsRescaleRefusalBy fault (places
 abbrev pub decimal_row : Option ℤ → Option Value
 decimal_row number = option_map (λ n. Single (DecimalNumber n)) number
 
+-- the row that is this integer, or null
+abbrev pub integer_row : Option ℤ → Option Value
+integer_row number = option_map (λ n. Single (Number n)) number
+
 -- a row at another scale
 abbrev pub rescaled_row : ℤ → ℤ → Option Value → Option Value
 rescaled_row from to row = decimal_row (option_map (rescaled from to) (decimal_in row))
+
+-- the integer in a row as a decimal at a scale: integers have no places
+abbrev pub decimal_of_row : ℤ → Option Value → Option Value
+decimal_of_row scale row = decimal_row (option_map (rescaled (pos 0) scale) (number_in row))
+
+-- the decimal in a row, at a scale, as an integer
+abbrev pub integer_of_row : ℤ → Option Value → Option Value
+integer_of_row scale row = integer_row (option_map (rescaled scale (pos 0)) (decimal_in row))
 
 -- the scale of a type, 0 where it is not one of decimals
 abbrev pub scale_of : DType → ℤ

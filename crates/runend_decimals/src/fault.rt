@@ -28,7 +28,7 @@ impl From<VortexError> for DecimalError {
     }
 }
 
-/// Says why decimals are not written in the precision and scale asked for. Rows are counted from 0.
+/// Says why decimals are not written in the precision and scale asked for, or as integers. Rows are counted from 0.
 #[derive(Clone, Copy, Debug, Drop, PartialEq, Eq, Error)]
 pub enum RescaleError {
     /// Says that the call does not serve the column, or that a growth of memory was refused.
@@ -37,7 +37,7 @@ pub enum RescaleError {
     /// Has the first row whose decimal has more places than the scale asked for.
     #[error("Inexact")]
     Inexact { row: usize },
-    /// Has the first row whose decimal has more digits than the precision asked for.
+    /// Has the first row whose decimal has more digits than the precision asked for, or is past the type of integers.
     #[error("Overflow")]
     Overflow { row: usize },
 }

@@ -1,7 +1,8 @@
-//! The runs of a column of decimals.
+//! The runs of a column of decimals, and of one of integers.
 ghost use Rattle.std.specs.Prelude.{◌≡◌, ◌<◌, Some, length, slice_get, IfOk, IsOkUnless, true};
 ghost use Rattle.column_core.specs.DecimalForm.{optional_decimals};
-ghost use Rattle.column_core.specs.Leaf.{OfDecimals};
+ghost use Rattle.column_core.specs.Kinds.{is_numbers};
+ghost use Rattle.column_core.specs.Leaf.{OfDecimals, OfNumbers};
 ghost use Rattle.runend_array.specs.Array.{dtype_of, rows};
 ghost use Rattle.runend_encode.specs.Encoding.{IsRowEncoding};
 ghost use Rattle.runend_decimals.specs.Rows.{is_decimals};
@@ -26,6 +27,23 @@ pub(crate) fn decimal_runs<A: Allocator + Copy>(
     let (ends, values) = row_runs(alloc, column)?;
     match values {
         FlatColumn::Decimal(decimals) => Ok((ends, decimals)),
+        _ => unreachable!(),
+    }
+}
+
+/// Returns the same of a column of integers. Refused as `OutOfMemory` only.
+pub(crate) fn integer_runs<A: Allocator + Copy>(
+    alloc: A,
+    column: &ArrayRef<A>,
+) -> VortexResult<(PrimitiveArray<A>, PrimitiveArray<A>)>
+    requires { is_numbers (dtype_of column.now) ≡ true }
+    ensures only { IsOkUnless result VortexError.OutOfMemory }
+    ensures encoding { IfOk result (λ parts.
+        IsRowEncoding (rows column.now) (dtype_of column.now) parts.0 (OfNumbers parts.1)) }
+{
+    let (ends, values) = row_runs(alloc, column)?;
+    match values {
+        FlatColumn::Primitive(integers) => Ok((ends, integers)),
         _ => unreachable!(),
     }
 }
