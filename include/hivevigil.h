@@ -421,6 +421,16 @@ HV_ANSWER hv_float_of_integers(const hv_column *integers, uint8_t to, uint8_t is
  * float that is not an integer of the type, as one with a fraction, an infinity and a NaN are not; 23 for another type,
  * 21 */
 HV_ANSWER hv_float_to_integers(const hv_column *floats, uint8_t to, hv_column *out, hv_error *error);
+/* what HV_ADD, HV_SUBTRACT, HV_MULTIPLY or this operator gives of two floats of one format */
+enum { HV_DIVIDE = 14 };
+/* The floats of two columns worked place by place, at the cost of the runs of both: as IEEE 754 says in their format,
+ * rounded once, at a tie to the even one, so past the finite floats and divided by zero an infinity; of every NaN the
+ * quiet one with a plus and no payload; null where either row is null. A constant where both are constants that have a
+ * row, else runs, as few as possible. 12 unless both are of i32 or both of i64, 13 where both are of i16 (hv_float_cast
+ * to 32 bits, and back rounded, gives what IEEE 754 says of 16), then 11 (left, right) for another number of rows, which
+ * take no memory, 21; 23 for no operator */
+HV_ANSWER hv_float_combine(const hv_column *left, uint8_t operator_, const hv_column *right, hv_column *out,
+                           hv_error *error);
 
 /* ---- Reading many rows ----
  * These calls read columns in any form. Reading a flat column takes no memory, and what is stored under null is read as

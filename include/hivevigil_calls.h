@@ -364,6 +364,11 @@ HV_ANSWER hv_float_to_integers(const hv_column *floats, uint8_t to, hv_column *o
     hv_error ignored;
     return (hv_float_to_integers)(hv_lent(floats), to, out, HV_FIELDS);
 }
+HV_ANSWER hv_float_combine(const hv_column *left, uint8_t operator_, const hv_column *right, hv_column *out,
+                           hv_error *error) {
+    hv_error ignored;
+    return (hv_float_combine)(hv_lent(left), operator_, hv_lent(right), out, HV_FIELDS);
+}
 
 /* Reading many rows */
 HV_ANSWER hv_read_u8(const hv_column *column, size_t start, uint8_t *items, size_t len, hv_error *error) {

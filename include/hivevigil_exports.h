@@ -137,6 +137,8 @@ HV_EXPORT int32_t hv_float_cast(hv_column *floats, uint8_t to, uint8_t is_rounde
 HV_EXPORT int32_t hv_float_of_integers(hv_column *integers, uint8_t to, uint8_t is_rounded, hv_column *out,
                                        hv_error *error);
 HV_EXPORT int32_t hv_float_to_integers(hv_column *floats, uint8_t to, hv_column *out, hv_error *error);
+HV_EXPORT int32_t hv_float_combine(hv_column *left, uint8_t operator_, hv_column *right, hv_column *out,
+                                   hv_error *error);
 
 /* Reading many rows */
 HV_EXPORT int32_t hv_read_u8(hv_column *column, size_t start, uint8_t *items, size_t len, hv_error *error);
@@ -258,6 +260,7 @@ HV_EXPORT void hv_free(hv_column *column);
 #define hv_float_cast(...) hv_call_float_cast(__VA_ARGS__)
 #define hv_float_of_integers(...) hv_call_float_of_integers(__VA_ARGS__)
 #define hv_float_to_integers(...) hv_call_float_to_integers(__VA_ARGS__)
+#define hv_float_combine(...) hv_call_float_combine(__VA_ARGS__)
 #define hv_read_u8(...) hv_call_read_u8(__VA_ARGS__)
 #define hv_read_u16(...) hv_call_read_u16(__VA_ARGS__)
 #define hv_read_u32(...) hv_call_read_u32(__VA_ARGS__)

@@ -197,6 +197,8 @@ STEP(cast_same_floats, hv_float_cast(&runs, HV_I64, 0, &out, &error))
 STEP(cast_integers, hv_float_of_integers(&runs, HV_I64, 0, &out, &error))
 STEP(round_integers, hv_float_of_integers(&flat, HV_I16, 1, &out, &error))
 STEP(cast_to_integers, hv_float_to_integers(&whole_floats, HV_U8, &out, &error))
+STEP(divide_floats, hv_float_combine(&runs, HV_DIVIDE, &flat, &out, &error))
+STEP(divide_constants, hv_float_combine(&many, HV_DIVIDE, &as_many, &out, &error))
 STEP(cast_constant, hv_cast(&session, &many, &i32_type, &out, &error))
 STEP(compare_constants, hv_compare(&session, &many, HV_LE, &as_many, &out, &error))
 STEP(compare_constant, hv_compare_scalar(&session, &many_texts, HV_GT, &letter, letters, 1, &out, &error))
@@ -427,7 +429,7 @@ static const step steps[] = {
     NAMED(valid_runs), NAMED(choose_runs), NAMED(equal_runs), NAMED(hash_runs), NAMED(hash_texts), NAMED(parts_of_runs), NAMED(make_floats),
     NAMED(make_floats_of_runs), NAMED(decode_floats), NAMED(compare_floats), NAMED(order_floats), NAMED(least_float),
     NAMED(first_float), NAMED(sum_floats), NAMED(read_float), NAMED(cast_floats), NAMED(cast_same_floats),
-    NAMED(cast_integers), NAMED(round_integers), NAMED(cast_to_integers), NAMED(reverse_runs), NAMED(reverse_texts),
+    NAMED(cast_integers), NAMED(round_integers), NAMED(cast_to_integers), NAMED(divide_floats), NAMED(divide_constants), NAMED(reverse_runs), NAMED(reverse_texts),
     NAMED(sort_runs), NAMED(sort_texts), NAMED(sort_constant), NAMED(count_runs), NAMED(count_texts),
     NAMED(cast_constant), NAMED(compare_constants),
     NAMED(compare_constant), NAMED(fill_constant), NAMED(filter_constant), NAMED(sum), NAMED(sum_decimals),

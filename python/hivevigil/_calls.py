@@ -121,6 +121,7 @@ CALLS: dict[str, tuple[list[Any], Any]] = {
     "hv_float_cast": ([POINTER(Handle), c_uint8, c_uint8, POINTER(Handle), POINTER(Fields)], c_int32),
     "hv_float_of_integers": ([POINTER(Handle), c_uint8, c_uint8, POINTER(Handle), POINTER(Fields)], c_int32),
     "hv_float_to_integers": ([POINTER(Handle), c_uint8, POINTER(Handle), POINTER(Fields)], c_int32),
+    "hv_float_combine": ([POINTER(Handle), c_uint8, POINTER(Handle), POINTER(Handle), POINTER(Fields)], c_int32),
     "hv_read_u8": ([POINTER(Handle), c_size_t, POINTER(c_uint8), c_size_t, POINTER(Fields)], c_int32),
     "hv_read_u16": ([POINTER(Handle), c_size_t, POINTER(c_uint16), c_size_t, POINTER(Fields)], c_int32),
     "hv_read_u32": ([POINTER(Handle), c_size_t, POINTER(c_uint32), c_size_t, POINTER(Fields)], c_int32),

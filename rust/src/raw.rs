@@ -448,6 +448,13 @@ extern "C" {
         out: *mut Handle,
         error: *mut Fields,
     ) -> i32;
+    pub fn hv_float_combine(
+        left: *mut Handle,
+        operator: u8,
+        right: *mut Handle,
+        out: *mut Handle,
+        error: *mut Fields,
+    ) -> i32;
     pub fn hv_read_u8(
         column: *mut Handle,
         start: usize,

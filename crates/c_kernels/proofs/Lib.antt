@@ -2,6 +2,7 @@ pub mod PairEndings
 pub mod Answered
 pub mod GroupEndings
 pub mod FloatEndings
+pub mod FloatPairEndings
 pub mod OrderEndings
 pub mod DecimalEndings
 pub mod PartEndings

@@ -5,6 +5,7 @@ pub mod Chosen
 pub mod Hashed
 pub mod Grouped
 pub mod Floats
+pub mod FloatPairs
 pub mod Ordered
 pub mod Decimals
 pub mod SumParts

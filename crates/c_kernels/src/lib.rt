@@ -13,6 +13,7 @@ mod float_answers;
 mod float_calls;
 mod float_casts;
 mod float_columns;
+mod float_pairs;
 mod float_questions;
 mod group_calls;
 mod grouped;
@@ -38,6 +39,7 @@ pub use float_calls::{
 };
 pub use float_casts::{floats_cast, format_numbered, integers_cast, keys_cast};
 pub use float_columns::{compared, decoded, encoded};
+pub use float_pairs::{combine_float_handles, float_operator_by, floats_combined};
 pub use float_questions::{FloatExtremes, RoundedSum, extremes, float_of_row, sum_of};
 pub use group_calls::fold_handles;
 pub use grouped::{BoxedGroups, groups_of};

@@ -1,15 +1,17 @@
 //! Calls on columns of floats of 16, 32 and 64 bits, stored by their keys in columns of `i16`, `i32` and `i64`.
 ghost use Rattle.std.specs.Prelude.{◌≡◌, ◌≢◌, IsSomeAnd, MatchOption, pos};
 ghost use Rattle.column_floats.specs.Formats.{bits_fault, constant_fault, doubles_fault, floats_fault};
-ghost use Rattle.c_columns.specs.Ending.{WhereBoth};
+ghost use Rattle.c_columns.specs.Ending.{WhereAll, WhereBoth};
 ghost use Rattle.c_columns.specs.Flags.{flag_of};
 ghost use Rattle.c_columns.specs.Kinds.{operator_by};
+ghost use Rattle.c_kernels.specs.FloatPairs.{float_operator_numbered, AreFloatsCombined, EndsOnFloatPairs};
 ghost use Rattle.c_kernels.specs.Floats.{AreBitsOf, AreComparedBy, AreExtremesShown, AreFloatsOf, EndsOnFloats, EndsOnLookUp, IsFloatAt, IsSumShown};
 
 use c_columns::error_fields::ErrorFields;
 use c_columns::handle::Handle;
 use c_kernels::{
-    compare_handle, decode_handle, encode_handle, float_in_handle, min_max_in_handle, sum_in_handle,
+    combine_float_handles, compare_handle, decode_handle, encode_handle, float_in_handle,
+    min_max_in_handle, sum_in_handle,
 };
 use std::alloc::Global;
 
@@ -131,4 +133,27 @@ pub extern "C" fn hv_float_sum(
     ensures ended { EndsOnFloats doubles_fault floats.old.column result error.new }
 {
     sum_in_handle(alloc, floats, count, bits, error)
+}
+
+/// Makes what the operator of this number gives of the two floats at each place, in runs, as few as possible, or in a
+/// constant. Returns 23 for a number of no operator; refused as `TypeMismatch` unless both are of floats of one format,
+/// then as `Unsupported` for floats of 16 bits, then as `ColumnLength`.
+#[unsafe(no_mangle)]
+pub extern "C" fn hv_float_combine(
+    alloc: Global,
+    left: &mut Handle,
+    operator: u8,
+    right: &mut Handle,
+    out: &mut Handle,
+    error: &mut ErrorFields,
+) -> i32
+    ensures same { left.new.column ≡ left.old.column }
+    ensures same_right { right.new.column ≡ right.old.column }
+    ensures made { result ≡ pos 0 → IsSomeAnd (float_operator_numbered operator)
+        (λ operator. WhereAll (AreFloatsCombined operator) left.old.column right.old.column out.new.column) }
+    ensures kept { result ≢ pos 0 → out.new.column ≡ out.old.column }
+    ensures ended { MatchOption (float_operator_numbered operator) (result ≡ pos 23)
+        (λ operator. EndsOnFloatPairs left.old.column right.old.column result error.new) }
+{
+    combine_float_handles(alloc, left, operator, right, out, error)
 }
