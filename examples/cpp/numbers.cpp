@@ -424,6 +424,44 @@ static void check_float_casts() {
     check_refused(HV_CAST_OUT_OF_RANGE, "a row does not fit the type", [&] { (void)exact.to_integers(hv::kinds::u8); });
 }
 
+// The bits of a number, and of every NaN those of the quiet one with a plus and no payload.
+template <class T> static uint64_t bits_of(T number) {
+    if (number != number) number = std::numeric_limits<T>::quiet_NaN();
+    std::conditional_t<sizeof(T) == 4, uint32_t, uint64_t> bits;
+    std::memcpy(&bits, &number, sizeof bits);
+    return bits;
+}
+
+// What floats give by T's own operators, for each pair of rows.
+template <class T> static void check_float_pairs() {
+    using limits = std::numeric_limits<T>;
+    const std::vector<std::optional<T>> some{
+        T(0), T(-0.0), T(0.1), std::nullopt, T(-3), limits::denorm_min(), limits::min(), limits::max(), limits::lowest(),
+        limits::infinity(), limits::quiet_NaN()};
+    std::vector<std::optional<T>> lefts, rights;
+    for (const auto &left : some)
+        for (const auto &right : some) lefts.push_back(left), rights.push_back(right);
+    const auto left = hv::Floats<T>::of(lefts), right = hv::Floats<T>::of(rights);
+    const auto check_all = [&](const hv::Floats<T> &found, auto give) {
+        CHECK(found.keys().form() == hv::Form::runs);
+        const auto rows = found.optionals();
+        for (size_t row = 0; row < rows.size(); row++) {
+            CHECK(rows[row].has_value() == (lefts[row] && rights[row]));
+            if (rows[row]) CHECK(bits_of<T>(*rows[row]) == bits_of<T>(give(*lefts[row], *rights[row])));
+        }
+    };
+    check_all(left + right, [](T a, T b) -> T { return a + b; });
+    check_all(left - right, [](T a, T b) -> T { return a - b; });
+    check_all(left * right, [](T a, T b) -> T { return a * b; });
+    check_all(left / right, [](T a, T b) -> T { return a / b; });
+    const auto prices = hv::Floats<T>::of({T(1.5), T(1.5), T(-0.25)});
+    CHECK((prices * 2 + 1).optionals() == (std::vector<std::optional<T>>{T(4), T(4), T(0.5)}));
+    CHECK((1 - prices / 2).at(2) == T(1.125) && (prices - prices).at(0) == T(0) && (3 / prices).at(1) == T(2));
+    const auto many = hv::Floats<T>::constant(T(-0.5), size_t{1} << 60);
+    CHECK((many * many).keys().form() == hv::Form::constant && (many * many).at(9) == T(0.25) && many.at(3) == T(-0.5));
+    check_refused(HV_COLUMN_LENGTH, "a length of 3 next to one of 121", [&] { (void)(prices / left); });
+}
+
 // ---- Sums of decimals ----
 
 // Integers of 128 bits added row by row, as long as they have 38 digits; the row that leaves them, or no row.
@@ -506,6 +544,8 @@ int main() {
     check_floats<double>();
     check_float_sums();
     check_float_casts();
+    check_float_pairs<float>();
+    check_float_pairs<double>();
     check_same();
     check_types();
     check_decimals();

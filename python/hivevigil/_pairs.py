@@ -1,4 +1,4 @@
-"""The rows of two columns worked place by place: + - * & | ~, at the cost of the runs of both.
+"""The rows of two columns worked place by place: + - * / & | ~, at the cost of the runs of both.
 
 The library takes two columns. A single value is a constant column, which is one run.
 """
@@ -6,7 +6,7 @@ from __future__ import annotations
 
 from typing import TYPE_CHECKING, Any
 
-from . import _floats
+from . import _float_pairs, _floats
 from ._library import calls
 from ._making import is_array
 from ._rows import constant_of
@@ -18,7 +18,7 @@ if TYPE_CHECKING:
 # each with its number in hivevigil.h, and what a sentence says was not done
 SIGNS = {
     "+": (6, "added"), "-": (7, "subtracted"), "*": (8, "multiplied"), "&": (9, "connected"), "|": (10, "connected"),
-    "coalesce": (11, "picked from"), "lesser": (12, "picked from"), "greater": (13, "picked from"),
+    "coalesce": (11, "picked from"), "lesser": (12, "picked from"), "greater": (13, "picked from"), "/": (14, "divided"),
 }
 
 
@@ -26,8 +26,9 @@ class Pairs:
     """What a column answers to Python's operators that give a value for two rows.
 
     Integers of one type give integers of that type, null where either row is null; OverflowError names the first row
-    whose answer the type does not have. Booleans are connected as SQL's AND and OR have it, where null is unknown:
-    `False & None` is False, `True | None` is True.
+    whose answer the type does not have. Floats give what IEEE 754 says in the type with more bits, and no row is
+    refused; integers next to floats, and those that are divided, count as float64, exactly. Booleans are connected as
+    SQL's AND and OR have it, where null is unknown: `False & None` is False, `True | None` is True.
     """
 
     __slots__ = ()
@@ -50,6 +51,12 @@ class Pairs:
     def __rmul__(self, other: Any) -> Column:
         return worked(self, "*", other, is_left=False)
 
+    def __truediv__(self, other: Any) -> Column:
+        return worked(self, "/", other)
+
+    def __rtruediv__(self, other: Any) -> Column:
+        return worked(self, "/", other, is_left=False)
+
     def __and__(self, other: Any) -> Column:
         return worked(self, "&", other)
 
@@ -63,8 +70,9 @@ class Pairs:
         return worked(self, "|", other, is_left=False)
 
     def __neg__(self) -> Column:
-        """0 minus each row, which an unsigned type has only of 0."""
-        return worked(self, "-", 0, is_left=False)
+        """0 minus each row, which an unsigned type has only of 0; of floats -0.0 minus each."""
+        column: Any = self
+        return worked(self, "-", -0.0 if _floats.is_float(column._logical) else 0, is_left=False)
 
     def __invert__(self) -> Column:
         """The other boolean of each row, null for null."""
@@ -76,10 +84,15 @@ class Pairs:
 
 def worked(column: Any, sign: str, other: Any, is_left: bool = True) -> Column:
     """What the sign gives of each row and the row of another column at its place, or one value."""
+    if not isinstance(other, Pairs):
+        column = _float_pairs.as_floats(column, sign, other)
     beside = other if isinstance(other, Pairs) else _constant(column, other)
     left, right = (column, beside) if is_left else (beside, column)
     number, done = SIGNS[sign]
-    if any(_floats.is_float(each._logical) for each in (left, right)):  # keys are not to be added
+    is_of_floats = sign == "/" or any(_floats.is_float(each._logical) for each in (left, right))
+    if is_of_floats and sign in _float_pairs.NUMBERS and _float_pairs.are_numbers(left, right):
+        return _float_pairs.worked(left, sign, right)
+    if is_of_floats:  # keys of floats are not integers to be worked with
         raise TypeMismatch().saying(f"{_type_of(left)} and {_type_of(right)} are not {done}")
     try:
         return column._made(calls.hv_combine, left, number, left._beside(right))  # type: ignore[no-any-return]

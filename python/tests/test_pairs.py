@@ -260,11 +260,6 @@ def test_constants_of_many_rows():
         (lambda one: Column.of(["a"]).coalesce("b"), errors.Unsupported, "utf8 and utf8 are not picked from"),
         (lambda one: ~one, errors.Unsupported, "~ is of booleans, not of i64"),
         (lambda one: one + 2**70, OverflowError, f"{2**70} does not fit i64"),
-        (lambda one: 1.5 * one, TypeError, "a value of type i64 is an integer, not 1.5: floats are values of "
-         "float64, float32 and float16"),
-        (lambda one: Column.of([1.5] * 3) + 1, errors.TypeMismatch, "float64 and float64 are not added"),
-        (lambda one: one * Column.of([1.5] * 3), errors.TypeMismatch, "i64 and float64 are not multiplied"),
-        (lambda one: -Column.of([1.5] * 3), errors.TypeMismatch, "float64 and float64 are not subtracted"),
         (lambda one: one + [1, 2, 3], TypeError,
          "a column is worked with a column or one value: Column.of(..) makes one of [1, 2, 3]"),
         (lambda one: one + one[:2], errors.ColumnLength, "lengths of 3 and 2, which have to be the same"),

@@ -18,6 +18,8 @@ mod sealed {
         fn bits(self) -> u64;
         /// Returns the float with these bits.
         fn of(bits: u64) -> Self;
+        /// Returns the place in the total order, counted from 0.0.
+        fn key(self) -> i64;
         /// Makes the column of the bits of rows.
         fn column(rows: &[Self], valid: Option<&[bool]>) -> Result<Column, Error>;
         /// Returns the bits that a column has.
@@ -26,7 +28,7 @@ mod sealed {
 }
 
 macro_rules! float {
-    ($($type:ty, $bits:ty, $keys:ident;)*) => { $(
+    ($($type:ty, $bits:ty, $key:ty, $keys:ident;)*) => { $(
         impl Float for $type {
             const KEYS: Kind = Kind::$keys;
         }
@@ -36,6 +38,10 @@ macro_rules! float {
             }
             fn of(bits: u64) -> $type {
                 <$type>::from_bits(bits as $bits)
+            }
+            fn key(self) -> i64 {
+                let magnitude = i64::from(self.abs().to_bits() as $key);
+                if self.is_sign_negative() { -1 - magnitude } else { magnitude }
             }
             fn column(rows: &[$type], valid: Option<&[bool]>) -> Result<Column, Error> {
                 let bits: Vec<$bits> = rows.iter().map(|row| row.to_bits()).collect();
@@ -50,8 +56,8 @@ macro_rules! float {
 }
 
 float! {
-    f32, u32, I32;
-    f64, u64, I64;
+    f32, u32, i32, I32;
+    f64, u64, i64, I64;
 }
 
 /// Says how floats are compared.
@@ -62,6 +68,15 @@ pub enum FloatOrder {
     Total = 0,
     /// Compares numbers by IEEE 754: 0.0 equals -0.0, and a NaN differs from every number, itself too.
     Ieee = 1,
+}
+
+/// Says what two floats give, by the numbers of `hivevigil.h`.
+#[derive(Clone, Copy)]
+enum FloatPairing {
+    Add = 6,
+    Subtract = 7,
+    Multiply = 8,
+    Divide = 14,
 }
 
 /// Holds a column of floats: that of their keys, which are their places in the total order.
@@ -94,6 +109,11 @@ impl<T: Float> Floats<T> {
             .map(|row| row.unwrap_or_else(|| T::of(0)))
             .collect();
         Floats::of_bits(&T::column(&items, Some(&valid))?)
+    }
+
+    /// Makes the column that has one float in each of these rows.
+    pub fn constant(number: T, rows: usize) -> Result<Floats<T>, Error> {
+        Floats::of_keys(Column::constant(T::KEYS, number.key(), rows)?)
     }
 
     /// Takes a column as the keys of floats. Refused as `TypeMismatch` unless it has integers of the width.
@@ -193,6 +213,45 @@ impl<T: Float> Floats<T> {
             raw::hv_float_sum(self.keys.handle.get(), &mut count, &mut bits, fields)
         })?;
         Ok((f64::from_bits(bits), count))
+    }
+
+    /// Adds the two floats at each place as IEEE 754 says, rounded once, at the cost of the runs of both: an infinity past
+    /// the finite floats; null where either row is null; of every NaN the one without sign and payload. The sums are in
+    /// runs, as few as possible, or in a constant where both columns are constants that have a row. Refused as
+    /// `ColumnLength` for another number of rows.
+    ///
+    /// ```
+    /// use hivevigil::Floats;
+    /// let prices = Floats::of(&[1.5, 1.5, 0.25])?;
+    /// let taxed = prices.mul(&Floats::constant(1.5, prices.len())?)?.add(&prices)?;
+    /// assert_eq!(taxed.options()?, [Some(3.75), Some(3.75), Some(0.625)]);
+    /// assert_eq!(prices.div(&Floats::constant(0.0, 3)?)?.at(2)?, Some(f64::INFINITY));
+    /// # Ok::<(), hivevigil::Error>(())
+    /// ```
+    pub fn add(&self, right: &Floats<T>) -> Result<Floats<T>, Error> {
+        self.combined(FloatPairing::Add, right)
+    }
+
+    /// Subtracts the right float at each place from the left one, as [`Floats::add`] adds them.
+    pub fn sub(&self, right: &Floats<T>) -> Result<Floats<T>, Error> {
+        self.combined(FloatPairing::Subtract, right)
+    }
+
+    /// Multiplies the two floats at each place, as [`Floats::add`] adds them.
+    pub fn mul(&self, right: &Floats<T>) -> Result<Floats<T>, Error> {
+        self.combined(FloatPairing::Multiply, right)
+    }
+
+    /// Divides the left float at each place by the right one, as [`Floats::add`] adds them: by zero an infinity, and a
+    /// NaN for zero by zero.
+    pub fn div(&self, right: &Floats<T>) -> Result<Floats<T>, Error> {
+        self.combined(FloatPairing::Divide, right)
+    }
+
+    fn combined(&self, by: FloatPairing, right: &Floats<T>) -> Result<Floats<T>, Error> {
+        Floats::of_keys(self.keys.beside(&right.keys, |right, out, fields| unsafe {
+            raw::hv_float_combine(self.keys.handle.get(), by as u8, right, out, fields)
+        })?)
     }
 
     /// Returns the same floats in another format, in as few runs as possible; refused as `CastOutOfRange` where that does
