@@ -44,7 +44,7 @@ pub(crate) fn integer_runs<A: Allocator + Copy>(
     let (ends, values) = row_runs(alloc, column)?;
     match values {
         FlatColumn::Primitive(integers) => Ok((ends, integers)),
-        _ => unreachable!(),
+        _ => Err(VortexError::Unsupported),
     }
 }
 
