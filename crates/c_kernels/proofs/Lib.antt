@@ -8,3 +8,4 @@ pub mod DecimalEndings
 pub mod PartEndings
 pub mod CastEndings
 pub mod TotalEndings
+pub mod RescaleEndings

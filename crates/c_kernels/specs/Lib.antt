@@ -11,3 +11,4 @@ pub mod Decimals
 pub mod SumParts
 pub mod FloatCasts
 pub mod Totals
+pub mod DecimalCasts

@@ -1,6 +1,6 @@
 //! Two columns that C holds, worked row by row at the cost of the runs of both, or one grouped by the other; one
 //! reversed, sorted, and counted by value; what one adds to a sum; its running totals; columns of floats, stored by
-//! their keys in columns of integers; and the sum of decimals.
+//! their keys in columns of integers; and decimals: their sum, and casts.
 #![tactic(auto)]
 
 mod cast_calls;
@@ -8,6 +8,8 @@ mod chosen;
 mod combined;
 mod counted;
 mod decimal_calls;
+mod decimal_cast_calls;
+mod decimal_casts;
 mod equal;
 mod float_answers;
 mod float_calls;
@@ -33,6 +35,8 @@ pub use chosen::choose_handles;
 pub use combined::combine;
 pub use counted::{BoxedCounts, count_values};
 pub use decimal_calls::decimal_sum_in_handle;
+pub use decimal_cast_calls::{cast_decimals_handle, cast_wholes_handle};
+pub use decimal_casts::{decimals_cast, wholes_cast};
 pub use equal::{are_equal, equal_handles};
 pub use float_calls::{
     compare_handle, decode_handle, encode_handle, float_in_handle, min_max_in_handle, sum_in_handle,
