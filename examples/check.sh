@@ -73,7 +73,7 @@ else
     skip "names of the header" "nm and readelf"
 fi
 
-for test in first errors layout answers refusals levels forms constants lists groups pairs sorts sums totals floats float_casts float_pairs decimals builders messages arrow_arrays; do
+for test in first errors layout answers refusals levels forms constants lists groups pairs sorts sums totals floats float_casts float_pairs decimals decimal_casts builders messages arrow_arrays; do
     run "c/$test.c" built "$cc" "$c_flags -O2" "examples/c/$test.c"
 done
 wraps="-Wl,--wrap=malloc,--wrap=calloc,--wrap=realloc,--wrap=free"
@@ -82,10 +82,10 @@ run "c/helpers.c" built "$cc" "$c_flags -O2" examples/c/helpers.c
 
 echo 'int main(void) { return 0; }' >"$work/empty.c"
 if $cc $watched "$work/empty.c" -o "$work/empty" 2>/dev/null && "$work/empty"; then
-    for test in errors answers refusals levels forms constants lists groups pairs sorts sums totals floats float_casts float_pairs decimals builders messages arrow_arrays; do
+    for test in errors answers refusals levels forms constants lists groups pairs sorts sums totals floats float_casts float_pairs decimals decimal_casts builders messages arrow_arrays; do
         run "c/$test.c under sanitizers" built "$cc" "$c_flags $watched" "examples/c/$test.c"
     done
-    for test in demo numbers spans; do
+    for test in demo numbers decimal_casts spans; do
         has "$cxx" && run "cpp/$test.cpp under sanitizers" built "$cxx" "$cxx_flags $watched" "examples/cpp/$test.cpp"
     done
     has "$cxx" && run "cpp/spans.cpp in C++20, under sanitizers" built "$cxx" "$cxx_flags -std=c++20 $watched" \
@@ -132,14 +132,14 @@ headers_alone() {
         cp "$work/alone.c" "$work/alone.cpp"
         $cc -std=c99 $warned "$work/alone.c" && $cxx -std=c++17 $warned "$work/alone.cpp" || return 1
     done
-    for test in demo numbers spans; do
+    for test in demo numbers decimal_casts spans; do
         $cxx -std=c++17 $warned "examples/cpp/$test.cpp" && $cxx -std=c++20 $warned "examples/cpp/$test.cpp" || return 1
     done
     echo "those of C and C++, and what is made of their templates"
 }
 if has "$cxx"; then
     run "headers alone, with every warning" headers_alone
-    for test in demo numbers spans; do run "cpp/$test.cpp" built "$cxx" "$cxx_flags -O2" "examples/cpp/$test.cpp"; done
+    for test in demo numbers decimal_casts spans; do run "cpp/$test.cpp" built "$cxx" "$cxx_flags -O2" "examples/cpp/$test.cpp"; done
     run "cpp/spans.cpp in C++20" built "$cxx" "$cxx_flags -std=c++20 -O2" examples/cpp/spans.cpp
 else
     skip "cpp/demo.cpp" "$cxx"

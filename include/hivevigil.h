@@ -379,6 +379,16 @@ HV_CALL size_t hv_bytes_used(const hv_column *column);
  * memory; then 14 (row) for the first row such that the rows up to it add up to more than 38 digits, also where later
  * rows would bring the sum back; 21. */
 HV_ANSWER hv_decimal_sum(const hv_column *column, hv_pair *sum, uint8_t *is_empty, hv_error *error);
+/* Integers or decimals, the same numbers as decimals of up to `precision` digits, at most 38, with `scale` of them
+ * after the point, or -scale zeros before it, in as few runs as possible and at the cost of the runs; null where the
+ * row is. 13 unless they are integers or decimals, which takes no memory; then 14 (row, why) for the first row that is
+ * not such a decimal: why is 1 where the scale has no place for a digit of it, and 0 where it has too many digits; 21
+ */
+HV_ANSWER hv_decimal_cast(const hv_column *column, uint8_t precision, int8_t scale, hv_column *out, hv_error *error);
+/* the integers that decimals are, of a type from HV_U8 to HV_I64; 13 unless they are decimals, then 14 (row, why) for
+ * the first row that is not such an integer: why is 1 where it has a fraction, and 0 where the type does not have it;
+ * 23 for another type, 21 */
+HV_ANSWER hv_decimal_to_integers(const hv_column *decimals, uint8_t to, hv_column *out, hv_error *error);
 
 /* ---- Floats ----
  * Floats of 16, 32 and 64 bits are columns of their keys, in i16, i32 and i64: a key is the place of a float in the

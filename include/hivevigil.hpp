@@ -176,11 +176,9 @@ public:
     // The column in this many windows, which share its buffers, for threads: of as many rows each, give or take one, or
     // of as many runs. Some are empty where there are fewer. Refused as HV_BAD_NUMBER for 0.
     std::vector<Column> split(size_t parts, SplitBy by = SplitBy::rows) const;
-    // Each row as the same value of a type. The sentence of a refusal names the first row that does not fit.
-    Column cast(hv_kind kind, const hv_session &session = initial_session()) const {
-        return made([&](auto *out, auto *error) { return hv_cast(&session, &handle, &kind, out, error); },
-                    [&](int32_t answer) { return words_of_cast(answer, kind); });
-    }
+    // Each row as the same value of a type: among integers and decimals of any scale, at the cost of runs where one of
+    // the two types is of decimals, else of one kind. The sentence of a refusal names the first row that does not fit.
+    Column cast(hv_kind kind, const hv_session &session = initial_session()) const;
     Column take(const Column &indices, const hv_session &session = initial_session()) const {
         return beside(
             indices,
@@ -514,7 +512,6 @@ private:
     static Column cut(bool binary, const std::vector<std::string_view> &rows, const std::vector<bool> *valid);
     Column compared(Operator by, const Column &right) const;
     template <class Right> Column compared(Operator by, const Right &right) const { return compare(by, right); }
-    std::string words_of_cast(int32_t answer, hv_kind kind) const;
     Error overflow() const;
     // A row, asked for again with more room where its text has none.
     template <class Call> Value shown(Call call) const {

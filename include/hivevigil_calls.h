@@ -323,6 +323,14 @@ HV_ANSWER hv_decimal_sum(const hv_column *column, hv_pair *sum, uint8_t *is_empt
     hv_error ignored;
     return (hv_decimal_sum)(hv_lent(column), sum, is_empty, HV_FIELDS);
 }
+HV_ANSWER hv_decimal_cast(const hv_column *column, uint8_t precision, int8_t scale, hv_column *out, hv_error *error) {
+    hv_error ignored;
+    return (hv_decimal_cast)(hv_lent(column), precision, scale, out, HV_FIELDS);
+}
+HV_ANSWER hv_decimal_to_integers(const hv_column *decimals, uint8_t to, hv_column *out, hv_error *error) {
+    hv_error ignored;
+    return (hv_decimal_to_integers)(hv_lent(decimals), to, out, HV_FIELDS);
+}
 
 /* Floats */
 HV_ANSWER hv_float_encode(const hv_column *bits, uint8_t is_canonical, hv_column *out, hv_error *error) {

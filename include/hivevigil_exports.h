@@ -123,6 +123,8 @@ HV_EXPORT size_t hv_bytes_used(hv_column *column);
 
 /* Decimals */
 HV_EXPORT int32_t hv_decimal_sum(hv_column *column, hv_pair *sum, uint8_t *is_empty, hv_error *error);
+HV_EXPORT int32_t hv_decimal_cast(hv_column *column, uint8_t precision, int8_t scale, hv_column *out, hv_error *error);
+HV_EXPORT int32_t hv_decimal_to_integers(hv_column *decimals, uint8_t to, hv_column *out, hv_error *error);
 
 /* Floats */
 HV_EXPORT int32_t hv_float_encode(hv_column *bits, uint8_t is_canonical, hv_column *out, hv_error *error);
@@ -251,6 +253,8 @@ HV_EXPORT void hv_free(hv_column *column);
 #define hv_offset(...) hv_call_offset(__VA_ARGS__)
 #define hv_bytes_used(...) hv_call_bytes_used(__VA_ARGS__)
 #define hv_decimal_sum(...) hv_call_decimal_sum(__VA_ARGS__)
+#define hv_decimal_cast(...) hv_call_decimal_cast(__VA_ARGS__)
+#define hv_decimal_to_integers(...) hv_call_decimal_to_integers(__VA_ARGS__)
 #define hv_float_encode(...) hv_call_float_encode(__VA_ARGS__)
 #define hv_float_decode(...) hv_call_float_decode(__VA_ARGS__)
 #define hv_float_compare(...) hv_call_float_compare(__VA_ARGS__)

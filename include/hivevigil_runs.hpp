@@ -93,6 +93,19 @@ inline std::string words_of_cast(const Column &column, hv_kind kind, int32_t ans
     return is_row ? words_of_misfit(column, kind) : "";
 }
 
+// Are rows of one type cast to the other as numbers at two scales? Integers have no digits after the point.
+inline bool is_scaled(hv_kind from, hv_kind to) {
+    if (to.number != HV_DECIMAL) return from.number == HV_DECIMAL && is_integer(to);
+    if (from.number != HV_DECIMAL) return is_integer(from);
+    return from.precision != to.precision || from.scale != to.scale;
+}
+
+inline std::string words_of_scaled(const Column &column, hv_kind kind, int32_t answer, size_t row) {
+    if (answer != HV_CAST_OUT_OF_RANGE) return "";
+    const std::string value = to_string(column.at(row));
+    return "row " + std::to_string(row) + " is " + value + ", which does not fit " + to_string(not_nullable(kind));
+}
+
 inline bool same_kind(hv_kind left, hv_kind right) {
     return left.number == right.number && left.nullable == right.nullable && left.precision == right.precision &&
            left.scale == right.scale;
@@ -144,8 +157,20 @@ inline bool Column::same_rows(const Column &other) const {
     if (size() != other.size() || !detail::same_kind(kind(), other.kind())) return false;
     return kind().number == HV_LIST ? detail::same_lists(*this, other) : detail::same_runs(*this, other);
 }
-inline std::string Column::words_of_cast(int32_t answer, hv_kind kind) const {
-    return detail::words_of_cast(*this, kind, answer);
+inline Column Column::cast(hv_kind kind, const hv_session &session) const {
+    if (!detail::is_scaled(this->kind(), kind))
+        return made([&](auto *out, auto *error) { return hv_cast(&session, &handle, &kind, out, error); },
+                    [&](int32_t answer) { return detail::words_of_cast(*this, kind, answer); });
+    hv_error fields{};
+    const Column scaled = made(
+        [&](auto *out, auto *error) {
+            const int32_t answer = kind.number == HV_DECIMAL
+                                       ? hv_decimal_cast(&handle, kind.precision, kind.scale, out, &fields)
+                                       : hv_decimal_to_integers(&handle, kind.number, out, &fields);
+            return *error = fields, answer;
+        },
+        [&](int32_t answer) { return detail::words_of_scaled(*this, kind, answer, fields.first); });
+    return scaled.cast(kind, session);
 }
 inline Error Column::overflow() const { return detail::overflow(*this); }
 

@@ -5,12 +5,11 @@ import ctypes
 import operator
 from collections.abc import Iterable
 from decimal import Decimal
-from fractions import Fraction
 from typing import TYPE_CHECKING, Any, Callable, Optional
 
 from . import _runs
 from ._library import Kind, Pair, ask, calls
-from ._types import GREATEST_PRECISION, TYPES, WHOLE_NUMBERS, range_of, text_of
+from ._types import GREATEST_PRECISION, TYPES, WHOLE_NUMBERS, text_of
 from ._values import decimal_of
 from .errors import CastOutOfRange
 
@@ -49,28 +48,19 @@ def is_scaled(before: Kind, after: Kind) -> bool:
 def rescaled(column: Column, kind: Kind, call: str) -> Column:
     """The same integers or decimals as the decimals or the integers of a type, in the form of the column; refused at
     the first row that the type does not have. Each run is cast once."""
-    return _runs.in_form(column, lambda rows: _cast(rows, kind, call))
+    try:
+        return _runs.in_form(column, lambda rows: _cast(rows, kind))
+    except CastOutOfRange as refused:
+        row, is_between = refused.fields[:2]
+        name = text_of(Kind(kind.number, False, kind.precision, kind.scale))
+        why = f"lies between two numbers of {name}" if is_between else f"does not fit {name}"
+        raise refused.saying(f"{call}: row {row} is {column[row]}, which {why}") from None
 
 
-def _cast(column: Column, kind: Kind, call: str) -> Column:
-    """The runs of the column, each number counted in units of the last place of the type."""
-    name = text_of(Kind(kind.number, False, kind.precision, kind.scale))
-    is_whole = name in WHOLE_NUMBERS
-    fits = range_of(name) if is_whole else range(1 - 10**kind.precision, 10**kind.precision)
-    shown = _runs.visible(column if column.form == "runs" else column.to_runs())
-    rows: list[Any] = []
-    for start, value in zip([0, *shown.stops], shown.values.to_list()):
-        if value is None:
-            rows.append(None)
-            continue
-        number: Any = value
-        scaled = Fraction(number) * Fraction(10) ** kind.scale
-        if scaled.denominator > 1 or scaled.numerator not in fits:
-            why = "lies between two numbers of" if scaled.denominator > 1 else "does not fit"
-            raise CastOutOfRange().saying(f"{call}: row {start} is {number}, which {why} {name}")
-        rows.append(scaled.numerator if is_whole else decimal_of(scaled.numerator, kind.scale))
-    values = column.of(rows, name + ("?" if column._kind.nullable else ""))
-    return column.from_runs(column.of(shown.stops, "u64"), values)
+def _cast(column: Column, kind: Kind) -> Column:
+    if TYPES[kind.number] == "decimal":
+        return column._made(calls.hv_decimal_cast, column, kind.precision, kind.scale)
+    return column._made(calls.hv_decimal_to_integers, column, kind.number)
 
 
 def common_kind(columns: Iterable[Column]) -> Kind:

@@ -73,9 +73,23 @@ impl Column {
     }
 
     /// Returns each row as the same value of another type; refused as `CastOutOfRange` or `NullNotAllowed` at the first
-    /// row that does not fit, which the sentence names, and as `Unsupported` unless both types are of integers or of
-    /// one kind that is not lists.
+    /// row that does not fit, which the sentence names, and as `Unsupported` unless both types are of integers or
+    /// decimals, or of one kind that is not lists. From and to decimals each run is cast once.
+    ///
+    /// ```
+    /// use hivevigil::{Column, Kind};
+    /// let counts = Column::new(&[7i64, 7, -3])?;
+    /// let prices = counts.cast(Kind::decimal(10, 2))?;
+    /// assert_eq!(prices.at(2)?.to_string(), "-3.00");
+    /// assert!(prices.cast(Kind::decimal(3, 1))?.cast(Kind::I64)? == counts);
+    /// let refused = prices.cast(Kind::U8).unwrap_err();
+    /// assert_eq!(refused.to_string(), "row 2 is -3.00, which does not fit u8");
+    /// # Ok::<(), hivevigil::Error>(())
+    /// ```
     pub fn cast(&self, kind: Kind) -> Result<Column, Error> {
+        if self.kind().is_scaled_to(kind) {
+            return self.scaled(kind)?.cast(kind);
+        }
         self.command(|session, column, out, fields| unsafe {
             raw::hv_cast(session, column, &kind, out, fields)
         })
@@ -89,6 +103,20 @@ impl Column {
                 "is not cast to",
                 Some(kind),
             ),
+        })
+    }
+
+    /// Returns numbers at another scale, with null where a row is.
+    fn scaled(&self, kind: Kind) -> Result<Column, Error> {
+        self.part(|column, out, fields| unsafe {
+            match kind.is_decimal() {
+                true => raw::hv_decimal_cast(column, kind.precision, kind.scale, out, fields),
+                false => raw::hv_decimal_to_integers(column, kind.number, out, fields),
+            }
+        })
+        .map_err(|error| match error.kind() {
+            Some(ErrorKind::CastOutOfRange) => self.first_misfit(kind).unwrap_or(error),
+            _ => error,
         })
     }
 

@@ -107,6 +107,17 @@ impl Kind {
         self.number == DECIMAL
     }
 
+    /// Returns whether rows are cast to another type as numbers at two scales: integers have no digits after the point.
+    pub(crate) fn is_scaled_to(self, to: Kind) -> bool {
+        let is_integer = |kind: Kind| kind.is_unsigned() || kind.is_signed();
+        match (self.is_decimal(), to.is_decimal()) {
+            (true, true) => (self.precision, self.scale) != (to.precision, to.scale),
+            (true, false) => is_integer(to),
+            (false, true) => is_integer(self),
+            (false, false) => false,
+        }
+    }
+
     /// Names the same type, in which no row is null.
     pub const fn not_nullable(self) -> Kind {
         Kind {

@@ -392,6 +392,19 @@ extern "C" {
         is_empty: *mut u8,
         error: *mut Fields,
     ) -> i32;
+    pub fn hv_decimal_cast(
+        column: *mut Handle,
+        precision: u8,
+        scale: i8,
+        out: *mut Handle,
+        error: *mut Fields,
+    ) -> i32;
+    pub fn hv_decimal_to_integers(
+        decimals: *mut Handle,
+        to: u8,
+        out: *mut Handle,
+        error: *mut Fields,
+    ) -> i32;
     pub fn hv_float_encode(
         bits: *mut Handle,
         is_canonical: u8,
