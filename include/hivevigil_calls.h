@@ -331,6 +331,11 @@ HV_ANSWER hv_decimal_to_integers(const hv_column *decimals, uint8_t to, hv_colum
     hv_error ignored;
     return (hv_decimal_to_integers)(hv_lent(decimals), to, out, HV_FIELDS);
 }
+HV_ANSWER hv_decimal_combine(const hv_column *left, uint8_t operator_, const hv_column *right, hv_column *out,
+                             hv_error *error) {
+    hv_error ignored;
+    return (hv_decimal_combine)(hv_lent(left), operator_, hv_lent(right), out, HV_FIELDS);
+}
 
 /* Floats */
 HV_ANSWER hv_float_encode(const hv_column *bits, uint8_t is_canonical, hv_column *out, hv_error *error) {

@@ -125,6 +125,8 @@ HV_EXPORT size_t hv_bytes_used(hv_column *column);
 HV_EXPORT int32_t hv_decimal_sum(hv_column *column, hv_pair *sum, uint8_t *is_empty, hv_error *error);
 HV_EXPORT int32_t hv_decimal_cast(hv_column *column, uint8_t precision, int8_t scale, hv_column *out, hv_error *error);
 HV_EXPORT int32_t hv_decimal_to_integers(hv_column *decimals, uint8_t to, hv_column *out, hv_error *error);
+HV_EXPORT int32_t hv_decimal_combine(hv_column *left, uint8_t operator_, hv_column *right, hv_column *out,
+                                     hv_error *error);
 
 /* Floats */
 HV_EXPORT int32_t hv_float_encode(hv_column *bits, uint8_t is_canonical, hv_column *out, hv_error *error);
@@ -255,6 +257,7 @@ HV_EXPORT void hv_free(hv_column *column);
 #define hv_decimal_sum(...) hv_call_decimal_sum(__VA_ARGS__)
 #define hv_decimal_cast(...) hv_call_decimal_cast(__VA_ARGS__)
 #define hv_decimal_to_integers(...) hv_call_decimal_to_integers(__VA_ARGS__)
+#define hv_decimal_combine(...) hv_call_decimal_combine(__VA_ARGS__)
 #define hv_float_encode(...) hv_call_float_encode(__VA_ARGS__)
 #define hv_float_decode(...) hv_call_float_decode(__VA_ARGS__)
 #define hv_float_compare(...) hv_call_float_compare(__VA_ARGS__)

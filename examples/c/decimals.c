@@ -1,5 +1,5 @@
-/* The sum of a column of decimals, in every form, against integers of 128 bits that are added row by row; where it
- * leaves 38 digits, and each refusal. */
+/* The sum of a column of decimals, and sums, differences and products of two, in every form, against integers of 128
+ * bits that are worked row by row; where they leave the digits, and each refusal. */
 #include "check.h"
 
 enum { MOST = 40, TRIALS = 400 };
@@ -164,13 +164,178 @@ static void check_refusals(void) {
     hv_free(&wrong);
 }
 
+/* ---- Two columns ---- */
+
+enum { SCALE = 2, OTHER_SCALE = 3, FORMS = 4 };
+
+/* What two rows give: nothing where either is null, or where the integer has more digits than the type. */
+typedef struct answer {
+    wide number;
+    bool is_null, is_had;
+} answer;
+
+static answer answer_of(uint8_t by, const rows *left, const rows *right, size_t row, wide past) {
+    if (!left->valid[row] || !right->valid[row]) return (answer){0, true, true};
+    const wide a = left->numbers[row], b = right->numbers[row];
+    wide number = 0;
+    const bool is_wide = by == HV_ADD        ? __builtin_add_overflow(a, b, &number)
+                         : by == HV_SUBTRACT ? __builtin_sub_overflow(a, b, &number)
+                                             : __builtin_mul_overflow(a, b, &number);
+    return (answer){number, false, !is_wide && number < past && number > -past};
+}
+
+static wide power_of_ten(int digits) {
+    wide power = 1;
+    while (digits-- > 0) power *= 10;
+    return power;
+}
+
+/* Rows as many as given, often the same as before; past a precision only some times. */
+static rows rows_within(size_t count, int digits) {
+    rows it = {.count = count};
+    for (size_t row = 0; row < count; row++) {
+        const bool anew = !row || next() % 3 == 0;
+        const wide number = next() % 60 ? some_number() % power_of_ten(digits) : some_number();
+        it.valid[row] = anew ? next() % 4 > 0 : it.valid[row - 1];
+        it.numbers[row] = anew ? number : it.numbers[row - 1];
+    }
+    return it;
+}
+
+/* Rows of a precision and a scale: flat, in runs, in runs between others that are hidden, or a constant. */
+static hv_column column_in(int form, rows *it, uint8_t precision, int8_t scale) {
+    uint8_t flags[MOST / 8 + 2] = {0};
+    hv_pair pairs[MOST + 2];
+    hv_column flat = HV_EMPTY, runs = HV_EMPTY, part = HV_EMPTY;
+    const hv_session plain = {0};
+    for (size_t row = 0; form == 3 && row < it->count; row++) it->valid[row] = true, it->numbers[row] = it->numbers[0];
+    if (form == 3 && it->count) {
+        const hv_pair pair = pair_of(it->numbers[0]);
+        const hv_value value = {pair.low, pair.high, HV_DECIMAL_VALUE, 0};
+        const hv_kind kind = {HV_DECIMAL, 1, precision, scale};
+        CHECK(!hv_constant(&kind, &value, NO_TEXT, it->count, &flat, &error));
+        return flat;
+    }
+    const size_t before = form == 2;
+    pairs[0] = pair_of(GREATEST), flags[0] = 1, pairs[it->count + before] = pair_of(-GREATEST);
+    for (size_t row = 0; row < it->count; row++) {
+        const size_t at = row + before;
+        flags[at / 8] = (uint8_t)((flags[at / 8] & ~(1 << (at % 8))) | (it->valid[row] << (at % 8)));
+        pairs[at] = pair_of(it->numbers[row]);
+    }
+    const size_t count = it->count + 2 * before;
+    CHECK(!hv_decimals(pairs, count, precision, scale, NULLS_BY(flags, 0), &flat, &error));
+    if (form == 0) return flat;
+    CHECK(!hv_encode_rows(&flat, &runs, &error));
+    hv_free(&flat);
+    if (form != 2) return runs;
+    CHECK(!hv_slice(&plain, &runs, 1, it->count + 1, &part, &error));
+    hv_free(&runs);
+    return part;
+}
+
+/* The row that has no answer, or the number of rows, and the runs that the answers before it need. */
+static size_t first_without(uint8_t by, const rows *left, const rows *right, wide past, size_t *runs) {
+    answer before = {0};
+    *runs = 0;
+    for (size_t row = 0; row < left->count; row++) {
+        const answer it = answer_of(by, left, right, row, past);
+        if (!it.is_had) return row;
+        *runs += !row || it.is_null != before.is_null || (!it.is_null && it.number != before.number);
+        before = it;
+    }
+    return left->count;
+}
+
+static void check_rows_given(const hv_column *found, uint8_t by, const rows *left, const rows *right, wide past) {
+    for (size_t row = 0; row < left->count; row++) {
+        const answer due = answer_of(by, left, right, row, past);
+        hv_value value;
+        CHECK(!hv_at(found, row, &value, NO_TEXT_ROOM, &error));
+        CHECK(value.kind == (due.is_null ? HV_NULL : HV_DECIMAL_VALUE));
+        CHECK(due.is_null || number_of((hv_pair){value.as_unsigned, value.as_signed}) == due.number);
+    }
+}
+
+/* Two columns of random rows, precisions and forms. */
+static bool check_pair(void) {
+    static const uint8_t operators[] = {HV_ADD, HV_SUBTRACT, HV_MULTIPLY};
+    const uint8_t by = operators[next() % 3];
+    const uint8_t one = (uint8_t)(1 + next() % 38), other = (uint8_t)(1 + next() % 38);
+    const size_t count = (size_t)(next() % MOST);
+    rows left = rows_within(count, one), right = rows_within(count, other);
+    const int8_t scale = by == HV_MULTIPLY ? OTHER_SCALE : SCALE;
+    hv_column a = column_in((int)(next() % FORMS), &left, one, SCALE), found = HV_EMPTY;
+    hv_column b = column_in((int)(next() % FORMS), &right, other, scale);
+    const int digits = by == HV_MULTIPLY ? one + other + 1 : (one > other ? one : other) + 1;
+    const wide past = power_of_ten(digits < 38 ? digits : 38);
+    size_t due_runs, runs = 1;
+    const size_t row = first_without(by, &left, &right, past, &due_runs);
+    const bool is_had = row == count;
+    if (!is_had) CHECK_REFUSED(hv_decimal_combine(&a, by, &b, &found, &error), HV_CAST_OUT_OF_RANGE, row, 0, 0);
+    else {
+        const bool are_constants = hv_form(&a) == FORM_CONSTANT && hv_form(&b) == FORM_CONSTANT;
+        CHECK(!hv_decimal_combine(&a, by, &b, &found, &error));
+        check_rows_given(&found, by, &left, &right, past);
+        const hv_kind kind = hv_kind_of(&found);
+        CHECK(kind.number == HV_DECIMAL && kind.nullable == 1 && kind.precision == (digits < 38 ? digits : 38));
+        CHECK(kind.scale == (by == HV_MULTIPLY ? SCALE + OTHER_SCALE : SCALE) && hv_length(&found) == count);
+        CHECK(hv_form(&found) == (are_constants ? FORM_CONSTANT : FORM_RUNS));
+        CHECK((are_constants || !hv_run_count(&found, &runs, &error)) && runs == due_runs);
+    }
+    CHECK((hv_form(&found) == FORM_NONE) == !is_had);
+    hv_free(&a), hv_free(&b), hv_free(&found);
+    return is_had;
+}
+
+/* A column of one row of a precision and a scale. */
+static hv_column one_row(wide number, uint8_t precision, int8_t scale) {
+    const hv_pair pair = pair_of(number);
+    hv_column made = HV_EMPTY;
+    CHECK(!hv_decimals(&pair, 1, precision, scale, NOT_NULLABLE, &made, &error));
+    return made;
+}
+
+/* Scales that do not go together, digits at their ends, and columns that are not served. */
+static void check_pairs_refused(void) {
+    const int64_t numbers[2] = {4, 5};
+    hv_column cents = one_row(GREATEST, 38, 2), mills = one_row(1, 38, 3), far = one_row(1, 38, 126), found = HV_EMPTY;
+    hv_column wrong = HV_EMPTY, two = HV_EMPTY, near = one_row(-1, 38, -128), small = one_row(9, 1, 2);
+    hv_column large = one_row(-GREATEST, 38, 0);
+    const hv_pair pairs[2] = {{1, 0}, {2, 0}};
+    CHECK(!hv_i64(numbers, 2, NOT_NULLABLE, &wrong, &error));
+    CHECK(!hv_decimals(pairs, 2, 38, 2, NOT_NULLABLE, &two, &error));
+    CHECK_REFUSED(hv_decimal_combine(&cents, HV_ADD, &mills, &found, &error), HV_TYPE_MISMATCH, 0, 0, 0);
+    CHECK_REFUSED(hv_decimal_combine(&mills, HV_SUBTRACT, &two, &found, &error), HV_TYPE_MISMATCH, 0, 0, 0);
+    CHECK_REFUSED(hv_decimal_combine(&far, HV_MULTIPLY, &two, &found, &error), HV_TYPE_MISMATCH, 0, 0, 0);
+    CHECK_REFUSED(hv_decimal_combine(&two, HV_ADD, &cents, &found, &error), HV_COLUMN_LENGTH, 2, 1, 0);
+    CHECK_REFUSED(hv_decimal_combine(&two, HV_ADD, &wrong, &found, &error), HV_UNSUPPORTED, 0, 0, 0);
+    CHECK_REFUSED(hv_decimal_combine(&wrong, HV_MULTIPLY, &cents, &found, &error), HV_UNSUPPORTED, 0, 0, 0);
+    CHECK_REFUSED(hv_decimal_combine(&cents, HV_ADD, &small, &found, &error), HV_CAST_OUT_OF_RANGE, 0, 0, 0);
+    CHECK_REFUSED(hv_decimal_combine(&cents, HV_MULTIPLY, &large, &found, &error), HV_CAST_OUT_OF_RANGE, 0, 0, 0);
+    for (int number = 0; number < 256; number++)
+        if (number < HV_ADD || number > HV_MULTIPLY)
+            CHECK(hv_decimal_combine(&cents, (uint8_t)number, &small, &found, &error) == HV_BAD_NUMBER);
+    hv_column none = HV_EMPTY;
+    CHECK(hv_decimal_combine(&none, HV_ADD, &cents, &found, &error) == HV_NO_COLUMN);
+    CHECK(hv_decimal_combine(&cents, HV_ADD, &none, &found, NULL) == HV_NO_COLUMN && hv_form(&found) == FORM_NONE);
+    CHECK(!hv_decimal_combine(&far, HV_MULTIPLY, &near, &found, &error) && hv_kind_of(&found).scale == -2);
+    CHECK(!hv_decimal_combine(&cents, HV_SUBTRACT, &small, &found, &error) && hv_kind_of(&found).nullable == 0);
+    CHECK(hv_kind_of(&found).precision == 38);
+    hv_free(&cents), hv_free(&mills), hv_free(&far), hv_free(&near), hv_free(&small), hv_free(&two);
+    hv_free(&wrong), hv_free(&large), hv_free(&found);
+}
+
 int main(void) {
-    int summed = 0;
+    int summed = 0, paired = 0;
     for (int i = 0; i < TRIALS; i++) summed += check_trial();
     CHECK(summed > TRIALS / 8 && summed < TRIALS - TRIALS / 8);
     check_constants();
     check_the_way();
     check_refusals();
-    printf("%d columns of decimals add up as integers of 128 bits do\n", TRIALS);
+    for (int i = 0; i < TRIALS * 10; i++) paired += check_pair();
+    CHECK(paired > TRIALS && paired < TRIALS * 9);
+    check_pairs_refused();
+    printf("%d columns of decimals, and pairs of them, give what integers of 128 bits do\n", TRIALS);
     return 0;
 }

@@ -9,13 +9,13 @@
 static hv_session session;
 static hv_error error;
 static hv_column flat = HV_EMPTY, runs = HV_EMPTY, part = HV_EMPTY, texts = HV_EMPTY, truths = HV_EMPTY,
-                 decimals = HV_EMPTY, whole_decimals = HV_EMPTY;
+                 decimals = HV_EMPTY, whole_decimals = HV_EMPTY, decimal_runs = HV_EMPTY;
 static hv_column ends = HV_EMPTY, values = HV_EMPTY, places = HV_EMPTY, constant = HV_EMPTY, large_texts = HV_EMPTY;
 static hv_column whole_floats = HV_EMPTY, truth_runs = HV_EMPTY, place_runs = HV_EMPTY, text_runs = HV_EMPTY;
 static hv_column lists = HV_EMPTY, list_runs = HV_EMPTY, decoded_lists = HV_EMPTY;
 static hv_column *const lent[] = {&flat, &runs,   &part,   &texts,    &truths,     &decimals,
                                   &ends, &values, &places, &constant, &large_texts, &truth_runs, &place_runs, &text_runs,
-                                  &whole_floats, &whole_decimals, &lists, &list_runs, &decoded_lists};
+                                  &whole_floats, &whole_decimals, &lists, &list_runs, &decoded_lists, &decimal_runs};
 static char rows_before[COUNT(lent)][8192];
 /* constants of 2^60 rows, and a mask of as many in two runs; their rows are not shown */
 #define MANY (UINT64_C(1) << 60)
@@ -100,6 +100,7 @@ static void make_lent(void) {
     CHECK(!hv_large_texts(1, large_offsets, ROWS + 1, letters, BYTES, NO_NULLS, &large_texts, &error));
     CHECK(!hv_bools(bits, sizeof bits, 0, ROWS, NULLS_BY(bits, 0), &truths, &error));
     CHECK(!hv_decimals(pairs, 2, 10, 2, NO_NULLS, &decimals, &error));
+    CHECK(!hv_encode_rows(&decimals, &decimal_runs, &error));
     CHECK(!hv_ends(&part, &ends, &error) && !hv_values(&part, &values, &error));
     CHECK(!hv_u16(some_places, 5, NOT_NULLABLE, &places, &error));
     CHECK(!hv_float_of_integers(&part, HV_I64, 0, &whole_floats, &error));
@@ -210,6 +211,7 @@ STEP(sum_decimals, hv_decimal_sum(&decimals, &decimal_sum, &truth, &error))
 STEP(cast_decimals, hv_decimal_cast(&decimals, 12, 4, &out, &error))
 STEP(cast_to_decimals, hv_decimal_cast(&part, 12, 4, &out, &error))
 STEP(cast_decimals_to_integers, hv_decimal_to_integers(&whole_decimals, HV_I16, &out, &error))
+STEP(multiply_decimals, hv_decimal_combine(&decimals, HV_MULTIPLY, &decimal_runs, &out, &error))
 STEP(is_constant, hv_is_constant(&session, &runs, &truth, &error))
 STEP(is_sorted, hv_is_sorted(&session, &runs, 0, &truth, &error))
 STEP(extreme, hv_extreme(&session, &runs, 1, &value, text, sizeof text, &error))
@@ -437,7 +439,7 @@ static const step steps[] = {
     NAMED(sort_runs), NAMED(sort_texts), NAMED(sort_constant), NAMED(count_runs), NAMED(count_texts),
     NAMED(cast_constant), NAMED(compare_constants),
     NAMED(compare_constant), NAMED(fill_constant), NAMED(filter_constant), NAMED(sum), NAMED(sum_decimals), NAMED(cast_decimals),
-    NAMED(cast_to_decimals), NAMED(cast_decimals_to_integers),
+    NAMED(cast_to_decimals), NAMED(cast_decimals_to_integers), NAMED(multiply_decimals),
     NAMED(is_constant), NAMED(is_sorted), NAMED(extreme), NAMED(extreme_text),
     NAMED(min_max_numbers),
     NAMED(min_max), NAMED(at), NAMED(read_i64), NAMED(read_decimals), NAMED(read_bools), NAMED(read_validity), NAMED(read_no_nulls),

@@ -518,6 +518,44 @@ static void check_decimal_sums() {
     CHECK(many.decimal_sum().total.digits() == hv::detail::Wide(1050) * (int64_t{1} << 60));
 }
 
+// ---- Two columns of decimals ----
+
+static void check_decimal_pairs() {
+    const auto none = std::nullopt;
+    using Decimals = std::vector<std::optional<Decimal>>;
+    const std::vector<bool> valid{true, true, false, true};
+    const std::vector<Decimal> of_prices{Decimal::of(1050, 2), Decimal::of(1050, 2), Decimal(), Decimal::of(-1, 2)};
+    const std::vector<Decimal> of_amounts{Decimal::of(3, 0), Decimal::of(3, 0), Decimal::of(7, 0), Decimal::of(12, 0)};
+    const Column prices = Column::decimals(of_prices, 6, 2, &valid), runs = prices.encode_rows();
+    const Column amounts = Column::decimals(of_amounts, 2, 0), fees = Column::decimals(of_prices, 9, 2, &valid);
+    const auto are = [](const Column &found, const Decimals &due, uint8_t precision, int8_t scale) {
+        bool same = found.size() == due.size() && found.form() == hv::Form::runs;
+        for (size_t row = 0; same && row < due.size(); row++) {
+            const std::optional<Decimal> item = found.get<Decimal>(row);
+            same = item.has_value() == due[row].has_value() && (!item || (*item == *due[row] && item->scale == scale));
+        }
+        return same && found.kind().precision == precision && found.kind().scale == scale;
+    };
+    for (const Column *left : {&prices, &runs}) {
+        const Decimal product = Decimal::of(3150, 2);
+        CHECK(are(*left * amounts, {product, product, none, Decimal::of(-12, 2)}, 9, 2));
+        CHECK(are(*left + fees, {Decimal::of(21, 0), Decimal::of(21, 0), none, Decimal::of(-2, 2)}, 10, 2));
+        CHECK(are(fees - *left, {Decimal(), Decimal(), none, Decimal()}, 10, 2));
+        CHECK(are(*left * 3, {product, product, none, Decimal::of(-3, 2)}, 8, 2));
+        CHECK(are(Decimal::of(15, 1) * *left, {Decimal::of(1575, 2), Decimal::of(1575, 2), none, Decimal::of(-15, 3)}, 9, 3));
+        CHECK(are(1 - *left, {Decimal::of(-950, 2), Decimal::of(-950, 2), none, Decimal::of(101, 2)}, 7, 2));
+        check_refused(HV_TYPE_MISMATCH, "decimal(6, 2) and decimal(2, 0) are not added", [&] { (void)(*left + amounts); });
+    }
+    const Column large = Column::constant(hv::kinds::decimal(38, 1), Decimal{68739955140067328u, 542101086242752217, 1}, 4);
+    check_refused(HV_CAST_OUT_OF_RANGE,
+                  "decimal overflow: row 0 is 10.50 * 1" + std::string(36, '0') + ".0, which does not fit decimal(38, 3)",
+                  [&] { (void)(prices * large); });
+    const Column whole = Column::of(std::vector<int64_t>{4, 4, 4, 4});
+    check_refused(HV_UNSUPPORTED, "decimal(6, 2) and i64 are not multiplied", [&] { (void)(prices * whole); });
+    check_refused(HV_CAST_OUT_OF_RANGE, "0.005 does not fit decimal(38, 2)",
+                  [&] { (void)(prices + Decimal::of(5, 3)); });
+}
+
 // ---- Rows in another order ----
 
 static void check_sorts() {
@@ -556,6 +594,7 @@ int main() {
     check_pairs();
     check_sorts();
     check_decimal_sums();
+    check_decimal_pairs();
     check_rows_in_words();
     check_values_in_words();
     std::cout << "numbers of every type are read, shown, compared and refused by their values\n";

@@ -112,6 +112,7 @@ CALLS: dict[str, tuple[list[Any], Any]] = {
     "hv_decimal_sum": ([POINTER(Handle), POINTER(Pair), POINTER(c_uint8), POINTER(Fields)], c_int32),
     "hv_decimal_cast": ([POINTER(Handle), c_uint8, c_int8, POINTER(Handle), POINTER(Fields)], c_int32),
     "hv_decimal_to_integers": ([POINTER(Handle), c_uint8, POINTER(Handle), POINTER(Fields)], c_int32),
+    "hv_decimal_combine": ([POINTER(Handle), c_uint8, POINTER(Handle), POINTER(Handle), POINTER(Fields)], c_int32),
     "hv_float_encode": ([POINTER(Handle), c_uint8, POINTER(Handle), POINTER(Fields)], c_int32),
     "hv_float_decode": ([POINTER(Handle), POINTER(Handle), POINTER(Fields)], c_int32),
     "hv_float_compare": ([POINTER(Handle), c_uint8, c_uint64, c_uint8, POINTER(Handle), POINTER(Fields)], c_int32),

@@ -1,4 +1,4 @@
-"""The exact sum of a column of decimals, and the same numbers at other scales."""
+"""Columns of decimals: their exact sum, the same numbers at other scales, and two of them worked row by row."""
 from __future__ import annotations
 
 import ctypes
@@ -10,8 +10,8 @@ from typing import TYPE_CHECKING, Any, Callable, Optional
 from . import _runs
 from ._library import Kind, Pair, ask, calls
 from ._types import GREATEST_PRECISION, TYPES, WHOLE_NUMBERS, text_of
-from ._values import decimal_of
-from .errors import CastOutOfRange
+from ._values import decimal_of, is_missing, unscaled
+from .errors import CastOutOfRange, TypeMismatch
 
 if TYPE_CHECKING:
     from .column import Column
@@ -101,3 +101,49 @@ def compared(column: Column, sign: str, right: Column) -> Column:
     is_nullable = column._kind.nullable or right._kind.nullable
     mask = column.from_runs(column.of(stops, "u64"), column.of(truths, "bool?" if is_nullable else "bool"))
     return mask.to_runs()
+def beside(column: Column, sign: str, value: Any) -> Column:
+    """A Decimal or an integer in each row of a column: at the scale of the column, and of a product at its own. In as
+    few digits as it has."""
+    scale = column._kind.scale if sign != "*" else _scale_of(value)
+    number = 0 if is_missing(value) else unscaled(value, GREATEST_PRECISION, scale)
+    nullable = "?" if is_missing(value) else ""
+    return column.constant(value, column._length, f"decimal({len(str(abs(number)))}, {scale}){nullable}")
+
+
+def worked(left: Column, sign: str, number: int, done: str, right: Column) -> Column:
+    """What the sign of this number gives of the decimals at each place; a sentence says what was not done."""
+    try:
+        return left._made(calls.hv_decimal_combine, left, number, left._beside(right))
+    except CastOutOfRange as past:
+        row = past.fields[0]
+        said = f"row {row} is {left.at(row)} {sign} {right.at(row)}, which does not fit {_answers(left, sign, right)}"
+        raise past.saying(said) from None
+    except TypeMismatch as refused:
+        raise refused.saying(f"{_named(left)} and {_named(right)} are not {done}: {_why(left, sign, right)}") from None
+
+
+def _scale_of(value: Any) -> int:
+    """How many places a Decimal has. It may be negative; one that is not a number has none."""
+    exponent = value.as_tuple().exponent if isinstance(value, Decimal) else 0
+    return -exponent if isinstance(exponent, int) else 0
+
+
+def _answers(left: Column, sign: str, right: Column) -> str:
+    """The type of the answers, without null."""
+    one, other = left._kind, right._kind
+    digits = one.precision + other.precision if sign == "*" else max(one.precision, other.precision)
+    scale = one.scale + other.scale if sign == "*" else one.scale
+    return f"decimal({min(digits + 1, GREATEST_PRECISION)}, {scale})"
+
+
+def _named(column: Column) -> str:
+    return str(column.type.rstrip("?"))
+
+
+def _why(left: Column, sign: str, right: Column) -> str:
+    """Why the scales of two columns do not go together, and what to do."""
+    one, other = left._kind.scale, right._kind.scale
+    if sign == "*":
+        return f"no column has the scale {one + other}"
+    side, more = ("left", other - one) if one < other else ("right", one - other)
+    return f"the scales differ; the {side} column times Decimal('{decimal_of(10**more, more)}') has scale {max(one, other)}"

@@ -6,7 +6,7 @@ from __future__ import annotations
 
 from typing import TYPE_CHECKING, Any
 
-from . import _float_pairs, _floats
+from . import _decimals, _float_pairs, _floats
 from ._library import calls
 from ._making import is_array
 from ._rows import constant_of
@@ -26,9 +26,11 @@ class Pairs:
     """What a column answers to Python's operators that give a value for two rows.
 
     Integers of one type give integers of that type, null where either row is null; OverflowError names the first row
-    whose answer the type does not have. Floats give what IEEE 754 says in the type with more bits, and no row is
-    refused; integers next to floats, and those that are divided, count as float64, exactly. Booleans are connected as
-    SQL's AND and OR have it, where null is unknown: `False & None` is False, `True | None` is True.
+    whose answer the type does not have. Decimals give decimals, exactly: sums of one scale, in a digit more than either
+    side, and products at the sum of the scales, in all digits of both and one more, of 38 at most. Floats give what
+    IEEE 754 says in the type with more bits, and no row is refused; integers next to floats, and those that are
+    divided, count as float64, exactly. Booleans are connected as SQL's AND and OR have it, where null is unknown:
+    `False & None` is False, `True | None` is True.
     """
 
     __slots__ = ()
@@ -86,7 +88,7 @@ def worked(column: Any, sign: str, other: Any, is_left: bool = True) -> Column:
     """What the sign gives of each row and the row of another column at its place, or one value."""
     if not isinstance(other, Pairs):
         column = _float_pairs.as_floats(column, sign, other)
-    beside = other if isinstance(other, Pairs) else _constant(column, other)
+    beside = other if isinstance(other, Pairs) else _constant(column, sign, other)
     left, right = (column, beside) if is_left else (beside, column)
     number, done = SIGNS[sign]
     is_of_floats = sign == "/" or any(_floats.is_float(each._logical) for each in (left, right))
@@ -94,6 +96,8 @@ def worked(column: Any, sign: str, other: Any, is_left: bool = True) -> Column:
         return _float_pairs.worked(left, sign, right)
     if is_of_floats:  # keys of floats are not integers to be worked with
         raise TypeMismatch().saying(f"{_type_of(left)} and {_type_of(right)} are not {done}")
+    if sign in "+-*" and all(_decimals.is_decimal(each) for each in (left, right)):
+        return _decimals.worked(left, sign, number, done, right)
     try:
         return column._made(calls.hv_combine, left, number, left._beside(right))  # type: ignore[no-any-return]
     except CastOutOfRange as past:
@@ -108,11 +112,13 @@ def _type_of(column: Any) -> str:
     return str(column._logical) if _floats.is_float(column._logical) else str(column.type.rstrip("?"))
 
 
-def _constant(column: Any, value: Any) -> Column:
-    """A value in each row of a column, of its type."""
+def _constant(column: Any, sign: str, value: Any) -> Column:
+    """A value in each row of a column, of its type; of decimals at its scale, or for a product at that of the value."""
     if isinstance(value, (list, tuple, range)) or is_array(value) and getattr(value, "ndim", 1) > 0:
         made = f"Column.of(..) makes one of {in_words(value)}"
         raise TypeError(f"a column is worked with a column or one value: {made}")
     if column._logical is not None and not _floats.is_float(column._logical):  # work is on the integers
         column = column.storage()
+    if sign in "+-*" and _decimals.is_decimal(column):
+        return _decimals.beside(column, sign, value)
     return constant_of(column, value)

@@ -1,4 +1,5 @@
 """Sums and means of decimals are those of Python's integers and fractions, row by row, in every form."""
+import operator
 from decimal import Decimal
 from fractions import Fraction
 
@@ -97,3 +98,103 @@ def test_what_the_refusals_say():
     assert Column.of([Decimal(GREATEST), Decimal(1)]).mean() == float(Fraction(10**38, 2))
     with pytest.raises(errors.Unsupported):
         Column.of(["a"]).sum()
+
+
+GIVE = {"+": operator.add, "-": operator.sub, "*": operator.mul}
+
+
+def digits_of(row, scale):
+    """The integer of a decimal at a scale, None for null."""
+    return None if row is None else int(Fraction(row) * Fraction(10) ** scale)
+
+
+def decimals_of(rows, precision, scale, form):
+    """A column of decimals of a precision, the last digits of which are these."""
+    within = [None if row is None else decimal_of(row % 10**precision * (1 if row < 0 else -1), scale) for row in rows]
+    column = Column.of(within, f"decimal({precision}, {scale})?")
+    return column if form == "flat" else column.to_runs()
+
+
+def decimal_of(digits, scale):
+    return Decimal((int(digits < 0), tuple(map(int, str(abs(digits)))), -scale))
+
+
+@st.composite
+def two_columns(draw, scales):
+    """Two columns of as many rows, each of a precision and a scale, in a form."""
+    lefts, rights = rows_of(draw(RUNS)), rows_of(draw(RUNS))
+    count = min(len(lefts), len(rights))
+    made = []
+    for rows, scale in ((lefts, scales[0]), (rights, scales[1])):
+        precision = draw(st.integers(1, 38))
+        column = decimals_of(rows[:count], precision, scale, draw(st.sampled_from(["flat", "runs"])))
+        made.append((column, [digits_of(row, scale) for row in column.to_list()], precision, scale))
+    return made
+
+
+def check_given(found, sign, lefts, rights, precision, scale):
+    """What `found` makes has the decimals of these digits, or names the first row that the type does not have."""
+    due = [None if None in pair else GIVE[sign](*pair) for pair in zip(lefts, rights)]
+    past = [row for row, digits in enumerate(due) if digits is not None and abs(digits) >= 10**precision]
+    if past:
+        with pytest.raises(OverflowError) as refused:
+            found()
+        assert refused.value.fields == (past[0], 0, 0)
+        said = str(refused.value)
+        assert said.startswith(f"row {past[0]} is ") and said.endswith(f", which does not fit decimal({precision}, {scale})")
+        return
+    column = found()
+    assert column.type.rstrip("?") == f"decimal({precision}, {scale})" and column.form in ("runs", "constant")
+    assert [digits_of(row, scale) for row in column.to_list()] == due
+    runs = sum(not at or due[at - 1] != digits for at, digits in enumerate(due))
+    assert column.form == "constant" or column.run_count() == runs
+
+
+@given(SCALES.flatmap(lambda scale: two_columns((scale, scale))), st.sampled_from("+-"))
+def test_sums_of_two(sides, sign):
+    (left, lefts, one, scale), (right, rights, other, _) = sides
+    check_given(lambda: GIVE[sign](left, right), sign, lefts, rights, min(max(one, other) + 1, 38), scale)
+
+
+@given(st.tuples(SCALES, SCALES).flatmap(two_columns))
+def test_products_of_two(sides):
+    (left, lefts, one, scale), (right, rights, other, other_scale) = sides
+    check_given(lambda: left * right, "*", lefts, rights, min(one + other + 1, 38), scale + other_scale)
+
+
+@given(two_columns((2, 2)), st.sampled_from(list(GIVE)), st.integers(-(10**12), 10**12), st.integers(0, 4), st.booleans())
+def test_one_value(sides, sign, digits, places, is_left):
+    column, rows, precision, scale = sides[0]
+    value = decimal_of(digits, places) if places else digits
+    if sign != "*" and places > scale and digits % 10 ** (places - scale):
+        with pytest.raises(ValueError, match="and nothing is rounded$"):
+            GIVE[sign](column, value)
+        return
+    at = places if sign == "*" else scale
+    number = digits_of(value, at)
+    width = len(str(abs(number)))
+    due = min(precision + width + 1 if sign == "*" else max(precision, width) + 1, 38)
+    sides = ([number] * len(rows), rows) if is_left else (rows, [number] * len(rows))
+    work = (lambda: GIVE[sign](value, column)) if is_left else (lambda: GIVE[sign](column, value))
+    check_given(work, sign, *sides, due, scale + at if sign == "*" else scale)
+
+
+def test_pairs_that_do_not_go_together():
+    cents, mills = Column.of([5], "decimal(4, 2)"), Column.of([5], "decimal(6, 3)")
+    with pytest.raises(TypeError) as refused:
+        cents + mills
+    assert str(refused.value) == (
+        "decimal(4, 2) and decimal(6, 3) are not added: the scales differ; the left column times Decimal('1.0') has scale 3"
+    )
+    assert (cents * Decimal("1.0") + mills).to_list() == [Decimal("10.000")]
+    far = Column.of([0], "decimal(4, 126)")
+    with pytest.raises(TypeError, match=r"are not multiplied: no column has the scale 128$"):
+        cents * far
+    with pytest.raises(errors.Unsupported, match=r"^decimal\(4, 2\) and i64 are not added$"):
+        cents + Column.of([5], "i64")
+    with pytest.raises(TypeError, match="a decimal is a decimal.Decimal or an integer"):
+        cents * 1.5
+    with pytest.raises(errors.ColumnLength):
+        cents - Column.of([5, 6], "decimal(4, 2)")
+    assert (cents - None).to_list() == (None * cents).to_list() == [None]
+    assert (-cents).to_list() == [Decimal("-5.00")] and (cents * cents).to_list() == [Decimal("25.0000")]

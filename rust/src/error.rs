@@ -72,8 +72,8 @@ enum Detail {
     DigitsOverflow(u64),
     /// Has words about two types.
     Pair(Kind, Kind, &'static str),
-    /// Says that what two integers give does not fit their type.
-    PairOverflow(i128, &'static str, i128, Kind),
+    /// Says that what two numbers give does not fit the type of the answers.
+    PairOverflow(Decimal, &'static str, Decimal, Kind),
 }
 
 #[derive(Clone, Copy)]
@@ -265,12 +265,12 @@ impl Error {
         }
     }
 
-    /// Names the two integers of the row, which is the first field, that give none of their type.
+    /// Names the two numbers of the row, which is the first field, that give none of the type of the answers.
     pub(crate) fn of_pair_overflow(
         self,
-        left: i128,
+        left: Decimal,
         sign: &'static str,
-        right: i128,
+        right: Decimal,
         kind: Kind,
     ) -> Error {
         self.with(Detail::PairOverflow(left, sign, right, kind.not_nullable()))
@@ -393,7 +393,12 @@ impl fmt::Display for Error {
             Detail::Pair(left, right, words) => write!(formatter, "{left} and {right} {words}"),
             Detail::PairOverflow(left, sign, right, kind) => write!(
                 formatter,
-                "integer overflow: row {} is {left} {sign} {right}, which does not fit {kind}",
+                "{} overflow: row {} is {left} {sign} {right}, which does not fit {kind}",
+                if kind.is_decimal() {
+                    "decimal"
+                } else {
+                    "integer"
+                },
                 self.fields.first
             ),
         }

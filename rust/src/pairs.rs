@@ -1,6 +1,6 @@
 //! The rows of two columns worked place by place.
 use crate::column::turn_of;
-use crate::{raw, Column, Error, ErrorKind, Operator, Value};
+use crate::{raw, Column, Decimal, Error, ErrorKind, Kind, Operator, Value};
 use std::ptr;
 
 /// Says what the two rows at a place give, by the numbers of `hivevigil.h`.
@@ -35,14 +35,34 @@ impl Pairing {
             _ => "+",
         }
     }
+
+    /// Returns whether it adds, subtracts or multiplies columns of decimals.
+    fn is_of_decimals(self, left: Kind, right: Kind) -> bool {
+        self as u8 <= Pairing::Multiply as u8 && left.is_decimal() && right.is_decimal()
+    }
+
+    /// Returns the type of the answers, without null.
+    fn answers(self, left: Kind, right: Kind) -> Kind {
+        let digits = match self {
+            _ if !left.is_decimal() => return left.not_nullable(),
+            Pairing::Multiply => u16::from(left.precision) + u16::from(right.precision),
+            _ => u16::from(left.precision.max(right.precision)),
+        };
+        let scale = match self {
+            Pairing::Multiply => left.scale + right.scale,
+            _ => left.scale,
+        };
+        Kind::decimal((digits + 1).min(38) as u8, scale)
+    }
 }
 
 /// Works two columns place by place, at the cost of the runs of both. The answers are in runs, as few as possible, or
 /// in a constant where both columns are constants that have a row. Refused as `ColumnLength` where they differ in rows.
 impl Column {
-    /// Adds the two integers at each place, in their type, null where either is null. Refused as `Unsupported` unless
-    /// both columns are of integers, as `TypeMismatch` for two types, and as `CastOutOfRange` where the type does not
-    /// have a sum: the first field is the first such row.
+    /// Adds the two integers at each place, in their type, null where either is null; decimals of one scale exactly, in
+    /// one digit more than either side has, of 38 at most. Refused as `Unsupported` unless both columns are of integers
+    /// or both of decimals, as `TypeMismatch` for two types of integers or two scales, and as `CastOutOfRange` where the
+    /// type does not have a sum: the first field is the first such row.
     ///
     /// ```
     /// use hivevigil::{Column, Kind};
@@ -58,12 +78,23 @@ impl Column {
         self.paired(Pairing::Add, right)
     }
 
-    /// Subtracts the right integer at each place from the left one, as [`Column::checked_add`] adds them.
+    /// Subtracts the right number at each place from the left one, as [`Column::checked_add`] adds them.
     pub fn checked_sub(&self, right: &Column) -> Result<Column, Error> {
         self.paired(Pairing::Subtract, right)
     }
 
-    /// Multiplies the two integers at each place, as [`Column::checked_add`] adds them.
+    /// Multiplies the two integers at each place, as [`Column::checked_add`] adds them; decimals exactly, at the sum of
+    /// the two scales and in all digits of both and one more, of 38 at most. Refused as `TypeMismatch` where no scale is
+    /// that sum.
+    ///
+    /// ```
+    /// use hivevigil::{Column, Decimal, Kind, Value};
+    /// let prices = Column::constant(Kind::decimal(4, 2), Decimal::new(1050, 2), 3)?;
+    /// let taxed = prices.checked_mul(&Column::constant(Kind::decimal(3, 2), Decimal::new(119, 2), 3)?)?;
+    /// assert_eq!(taxed.kind(), Kind::decimal(8, 4));
+    /// assert_eq!(taxed.at(2)?, Value::Decimal(Decimal::new(124_950, 4)));
+    /// # Ok::<(), hivevigil::Error>(())
+    /// ```
     pub fn checked_mul(&self, right: &Column) -> Result<Column, Error> {
         self.paired(Pairing::Multiply, right)
     }
@@ -220,6 +251,13 @@ impl Column {
         })
     }
 
+    fn decimals_combined(&self, operator: u8, right: &Column) -> Result<Column, Error> {
+        let left = self.handle.get();
+        self.beside(right, |right, out, fields| unsafe {
+            raw::hv_decimal_combine(left, operator, right, out, fields)
+        })
+    }
+
     fn compared(&self, operator: Operator, right: &Column) -> Result<Column, Error> {
         self.combined(operator as u8, right).map_err(|error| {
             let words = "is not compared with";
@@ -233,7 +271,11 @@ impl Column {
     }
 
     fn paired(&self, by: Pairing, right: &Column) -> Result<Column, Error> {
-        self.combined(by as u8, right).map_err(|error| {
+        let made = match by.is_of_decimals(self.kind(), right.kind()) {
+            true => self.decimals_combined(by as u8, right),
+            false => self.combined(by as u8, right),
+        };
+        made.map_err(|error| {
             if error.kind() == Some(ErrorKind::CastOutOfRange) {
                 return self.past_type(by, right, error);
             }
@@ -241,21 +283,21 @@ impl Column {
         })
     }
 
-    /// Names the two integers whose answer the type does not have.
+    /// Names the two numbers whose answer the type does not have.
     fn past_type(&self, by: Pairing, right: &Column, error: Error) -> Error {
         let row = error.fields.first as usize;
-        match (self.integer(row), right.integer(row)) {
-            (Some(left), Some(right)) => {
-                error.of_pair_overflow(left, by.sign(), right, self.kind())
-            }
+        let kind = by.answers(self.kind(), right.kind());
+        match (self.number(row), right.number(row)) {
+            (Some(left), Some(right)) => error.of_pair_overflow(left, by.sign(), right, kind),
             _ => error,
         }
     }
 
-    fn integer(&self, row: usize) -> Option<i128> {
+    fn number(&self, row: usize) -> Option<Decimal> {
         match self.at(row) {
-            Ok(Value::Unsigned(item)) => Some(item.into()),
-            Ok(Value::Signed(item)) => Some(item.into()),
+            Ok(Value::Unsigned(item)) => Some(Decimal::new(item.into(), 0)),
+            Ok(Value::Signed(item)) => Some(Decimal::new(item.into(), 0)),
+            Ok(Value::Decimal(item)) => Some(item),
             _ => None,
         }
     }

@@ -405,6 +405,13 @@ extern "C" {
         out: *mut Handle,
         error: *mut Fields,
     ) -> i32;
+    pub fn hv_decimal_combine(
+        left: *mut Handle,
+        operator: u8,
+        right: *mut Handle,
+        out: *mut Handle,
+        error: *mut Fields,
+    ) -> i32;
     pub fn hv_float_encode(
         bits: *mut Handle,
         is_canonical: u8,

@@ -1,5 +1,5 @@
-//! Sums of decimals, in every form, against integers of 128 bits that are added row by row.
-use hivevigil::{Column, Decimal, DecimalSum, ErrorKind, Kind};
+//! Sums of decimals, and what two columns of them give, in every form, against integers of 128 bits.
+use hivevigil::{Column, Decimal, DecimalSum, ErrorKind, Kind, Value};
 
 const LIMIT: i128 = 10i128.pow(38);
 const SCALE: i8 = 2;
@@ -77,4 +77,140 @@ fn other_columns_have_no_sum_of_decimals() {
     let refused = Column::new(&[4i64]).unwrap().decimal_sum().unwrap_err();
     assert_eq!(refused.kind(), Some(ErrorKind::Unsupported));
     assert_eq!(refused.to_string(), "i64 has no sum of decimals");
+}
+
+/// Works two columns row by row, or finds the first row that has no answer of this many digits.
+fn paired(
+    left: &[Option<i128>],
+    right: &[Option<i128>],
+    give: fn(i128, i128) -> Option<i128>,
+    digits: u32,
+) -> Result<Vec<Option<i128>>, usize> {
+    let limit = 10i128.pow(digits);
+    let pairs = left.iter().zip(right).enumerate();
+    pairs
+        .map(|(row, pair)| match pair {
+            (Some(one), Some(other)) => {
+                let number = give(*one, *other).filter(|number| number.abs() < limit);
+                number.map(Some).ok_or(row)
+            }
+            _ => Ok(None),
+        })
+        .collect()
+}
+
+fn column_of(rows: &[Option<i128>], precision: u8, scale: i8) -> Column {
+    let valid: Vec<bool> = rows.iter().map(Option::is_some).collect();
+    let digits: Vec<i128> = rows.iter().map(|row| row.unwrap_or(0)).collect();
+    Column::decimals(&digits, precision, scale, Some(&valid)).unwrap()
+}
+
+fn check_paired(
+    found: Result<Column, hivevigil::Error>,
+    due: Result<Vec<Option<i128>>, usize>,
+    kind: Kind,
+) {
+    match due {
+        Ok(rows) => {
+            let found = found.unwrap();
+            assert_eq!(found.kind(), kind.nullable());
+            for (row, due) in rows.into_iter().enumerate() {
+                let due = due.map_or(Value::Null, |digits| {
+                    Value::Decimal(Decimal::new(digits, kind.scale))
+                });
+                assert_eq!(found.at(row).unwrap(), due);
+            }
+        }
+        Err(row) => {
+            let refused = found.unwrap_err();
+            assert_eq!(
+                (refused.kind(), refused.fields.first),
+                (Some(ErrorKind::CastOutOfRange), row as u64)
+            );
+            let (start, end) = (
+                format!("decimal overflow: row {row} is "),
+                format!(", which does not fit {kind}"),
+            );
+            let sentence = refused.to_string();
+            assert!(
+                sentence.starts_with(&start) && sentence.ends_with(&end),
+                "{sentence}"
+            );
+        }
+    }
+}
+
+#[test]
+fn two_columns_give_what_integers_do() {
+    let numbers = [
+        0,
+        7,
+        -7,
+        12,
+        LIMIT - 1,
+        1 - LIMIT,
+        10i128.pow(19),
+        -10i128.pow(19),
+        10i128.pow(37),
+    ];
+    let mut seed = 17u64;
+    let mut next = |most: usize| {
+        seed = seed
+            .wrapping_mul(6364136223846793005)
+            .wrapping_add(1442695040888963407);
+        (seed >> 33) as usize % most
+    };
+    for trial in 0..300 {
+        let most = [4, numbers.len()][trial % 2];
+        let mut rows = |count: usize| -> Vec<Option<i128>> {
+            (0..count)
+                .map(|_| (next(4) > 0).then(|| numbers[next(most)]))
+                .collect()
+        };
+        let (left, right) = (rows(1 + trial % 9), rows(1 + trial % 9));
+        let (prices, fees) = (column_of(&left, 5, SCALE), column_of(&right, 7, SCALE));
+        let factors = column_of(&right, 31, -3);
+        for prices in [prices.encode_rows().unwrap(), prices] {
+            let due = |give, digits| paired(&left, &right, give, digits);
+            check_paired(
+                prices.checked_add(&fees),
+                due(i128::checked_add, 8),
+                Kind::decimal(8, SCALE),
+            );
+            check_paired(
+                prices.checked_sub(&fees),
+                due(i128::checked_sub, 8),
+                Kind::decimal(8, SCALE),
+            );
+            check_paired(
+                prices.checked_mul(&factors),
+                due(i128::checked_mul, 37),
+                Kind::decimal(37, SCALE - 3),
+            );
+        }
+    }
+}
+
+#[test]
+fn scales_that_do_not_go_together_are_refused() {
+    let (cents, mills) = (column_of(&[Some(5)], 4, 2), column_of(&[Some(5)], 4, 3));
+    let refused = cents.checked_add(&mills).unwrap_err();
+    assert_eq!(refused.kind(), Some(ErrorKind::TypeMismatch));
+    assert_eq!(
+        refused.to_string(),
+        "decimal(4, 2) and decimal(4, 3) are not added"
+    );
+    let far = column_of(&[Some(5)], 4, 126);
+    assert_eq!(
+        cents.checked_mul(&far).unwrap_err().kind(),
+        Some(ErrorKind::TypeMismatch)
+    );
+    let refused = cents
+        .checked_mul(&Column::new(&[4i64]).unwrap())
+        .unwrap_err();
+    assert_eq!(
+        refused.to_string(),
+        "decimal(4, 2) and i64 are not multiplied"
+    );
+    assert_eq!(refused.kind(), Some(ErrorKind::Unsupported));
 }

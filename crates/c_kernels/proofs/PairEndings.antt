@@ -16,7 +16,7 @@ abbrev Held : Type 0
 Held = Option (ArrayRef Global)
 
 -- a call that is not refused had no fault
-no_fault : {B : Type 0} (made : B) (fault : Option VortexError) (code : ℤ) (fields : ErrorFields) → ((error : VortexError) → fault ≡ Some error → Ok made ≡ Err (Refused error)) → code ≡ pos 0
+pub no_fault : {B : Type 0} (made : B) (fault : Option VortexError) (code : ℤ) (fields : ErrorFields) → ((error : VortexError) → fault ≡ Some error → Ok made ≡ Err (Refused error)) → code ≡ pos 0
     → EndsBy fault code fields
 no_fault made None code fields first is = inl is
 no_fault made (Some error) code fields first is = let other = first error refl in absurd (cc other)

@@ -8,6 +8,7 @@ pub mod Floats
 pub mod FloatPairs
 pub mod Ordered
 pub mod Decimals
+pub mod DecimalPairs
 pub mod SumParts
 pub mod FloatCasts
 pub mod Totals

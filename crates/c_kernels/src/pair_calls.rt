@@ -67,8 +67,12 @@ fn combine_held(
     answer(outcome, out, error)
 }
 
-// Puts the column into its handle and returns 0, or returns the number of a refusal and writes its fields.
-fn answer(outcome: Result<Boxed, ZipError>, out: &mut Handle, error: &mut ErrorFields) -> i32
+/// Puts the column into its handle and returns 0, or returns the number of a refusal and writes its fields.
+pub(crate) fn answer(
+    outcome: Result<Boxed, ZipError>,
+    out: &mut Handle,
+    error: &mut ErrorFields,
+) -> i32
     ensures ok { IfOk outcome (λ made. (result ≡ pos 0) × (out.new.column ≡ Some made.value)) }
     ensures err { IfErr outcome (λ why. (result ≢ pos 0) × (out.new.column ≡ out.old.column)
         × IsToldAs why result error.new) }

@@ -1,0 +1,37 @@
+-- How the call on two columns of decimals ends.
+use Rattle.std.proofs.Common.{◌≡◌, ◌≢◌, ℤ, pos, refl, sym, subst, Result, Ok, Err, Option, None, Some, inl, inr}
+use Rattle.std.specs.Prelude.{IfErr, IfOk}
+use Rattle.std.specs.Global.{Global}
+use Rattle.column_base.specs.declared.error.VortexError.{VortexError}
+use Rattle.runend_array.specs.declared.array_ref.ArrayRef.{ArrayRef}
+use Rattle.runend_pairs.specs.declared.fault.ZipError.{ZipError}
+use Rattle.runend_pairs.specs.declared.fault.ZipError.TheVariants.{Refused, Overflow}
+use Rattle.runend_pairs.specs.declared.numerics.NumericOperator.{NumericOperator}
+use Rattle.c_columns.specs.Ending.{EndsBy}
+use Rattle.c_columns.specs.declared.error_fields.ErrorFields.{ErrorFields}
+use Rattle.c_columns.proofs.Endings.{ends_refused}
+use Rattle.c_kernels.specs.Combined.{IsPairRefusal, IsToldAs}
+use Rattle.c_kernels.specs.DecimalPairs.{decimal_pair_fault, EndsOnDecimalPairs, IsFirstPast}
+use Rattle.c_kernels.proofs.PairEndings.{no_fault}
+
+abbrev Held : Type 0
+Held = Option (ArrayRef Global)
+
+module _ {B : Type 0} (operator : NumericOperator) (a b : ArrayRef Global) (value : B → ArrayRef Global) where
+  -- what came of two columns ends so
+  ends_so : (outcome : Result B ZipError) (code : ℤ) (fields : ErrorFields) (out old : Held)
+      → IfErr outcome (IsPairRefusal (decimal_pair_fault operator a b) (IsFirstPast operator a b)) → ((error : VortexError) → decimal_pair_fault operator a b ≡ Some error → outcome ≡ Err (Refused error))
+      → IfOk outcome (λ made. (code ≡ pos 0) × (out ≡ Some (value made))) → IfErr outcome (λ why. (code ≢ pos 0) × (out ≡ old) × IsToldAs why code fields)
+      → EndsOnDecimalPairs operator (Some a) (Some b) code fields
+  ends_so (Ok made) code fields out old refused first done told = inl (no_fault made (decimal_pair_fault operator a b) code fields first done.0)
+  ends_so (Err (Refused error)) code fields out old refused first done told = inl (ends_refused (decimal_pair_fault operator a b) error code fields refused told.2.0 told.2.1)
+  ends_so (Err (Overflow row)) code fields out old refused first done told = inr (record { row = row; none = refused.0; past = refused.1; told = told.2 })
+
+  -- the same of columns that handles hold
+  pub outcome_ends : (c d : Held) (outcome : Result B ZipError) (code : ℤ) (fields : ErrorFields) (out old : Held) → c ≡ Some a → d ≡ Some b
+      → IfErr outcome (IsPairRefusal (decimal_pair_fault operator a b) (IsFirstPast operator a b)) → ((error : VortexError) → decimal_pair_fault operator a b ≡ Some error → outcome ≡ Err (Refused error))
+      → IfOk outcome (λ made. (code ≡ pos 0) × (out ≡ Some (value made))) → IfErr outcome (λ why. (code ≢ pos 0) × (out ≡ old) × IsToldAs why code fields)
+      → EndsOnDecimalPairs operator c d code fields
+  outcome_ends c d outcome code fields out old some other refused first done told =
+      subst (λ (h : Held). EndsOnDecimalPairs operator h d code fields) (sym some)
+      (subst (λ (h : Held). EndsOnDecimalPairs operator (Some a) h code fields) (sym other) (ends_so outcome code fields out old refused first done told))
