@@ -28,9 +28,11 @@ pub fn counts_line<A: Allocator + Copy>(
 ) -> VortexResult<String<A>>
     ensures session { ctx.new ≡ ctx.old }
 {
-    let ValueCounts { values, counts } = value_counts(array, ctx)?;
     let mut line = String::from_str(*ctx.allocator(), "counts")?;
-    push_counts(&mut line, &values, &counts)?;
+    let counts = value_counts(array, ctx)?;
+    let pushed = push_counts(&mut line, &counts);
+    drop(counts);
+    pushed?;
     Ok(line)
 }
 
@@ -99,12 +101,11 @@ fn push_rows<A: Allocator + Copy>(line: &mut String<A>, array: &ArrayRef<A>) -> 
 // A word for each value, and one for its count.
 fn push_counts<A: Allocator + Copy>(
     line: &mut String<A>,
-    values: &ArrayRef<A>,
-    counts: &ArrayRef<A>,
+    counts: &ValueCounts<A>,
 ) -> VortexResult<()> {
-    for index in 0..values.len() {
-        push_row(line, values.scalar_at(index)?)?;
-        push_row(line, counts.scalar_at(index)?)?;
+    for index in 0..counts.values.len() {
+        push_row(line, counts.values.scalar_at(index)?)?;
+        push_row(line, counts.counts.scalar_at(index)?)?;
     }
     Ok(())
 }
