@@ -193,15 +193,16 @@ static void check_refusals(void) {
     const uint32_t narrow[2] = {4, 4};
     const uint16_t halves[2] = {4, 4};
     hv_column bits = HV_EMPTY, doubles = HV_EMPTY, singles = HV_EMPTY, short_floats = HV_EMPTY;
-    hv_column none = HV_EMPTY, one = HV_EMPTY;
+    hv_column none = HV_EMPTY, one = HV_EMPTY, other_bits = HV_EMPTY, other_floats = HV_EMPTY;
     CHECK(!hv_u64(words, 2, NOT_NULLABLE, &bits, &error) && !hv_float_encode(&bits, 0, &doubles, &error));
     CHECK(!hv_u32(narrow, 2, NOT_NULLABLE, &bits, &error) && !hv_float_encode(&bits, 0, &singles, &error));
     CHECK(!hv_u16(halves, 2, NOT_NULLABLE, &bits, &error) && !hv_float_encode(&bits, 0, &short_floats, &error));
     CHECK(!hv_slice(&session, &doubles, 0, 1, &one, &error) && !hv_clone(&bits, &out, &error));
-    CHECK_REFUSED(hv_float_combine(&bits, HV_ADD, &bits, &out, &error), HV_TYPE_MISMATCH, 0, 0, 0);
+    CHECK(!hv_clone(&bits, &other_bits, &error) && !hv_clone(&short_floats, &other_floats, &error));
+    CHECK_REFUSED(hv_float_combine(&bits, HV_ADD, &other_bits, &out, &error), HV_TYPE_MISMATCH, 0, 0, 0);
     CHECK_REFUSED(hv_float_combine(&doubles, HV_ADD, &singles, &out, &error), HV_TYPE_MISMATCH, 0, 0, 0);
     CHECK_REFUSED(hv_float_combine(&short_floats, HV_ADD, &one, &out, &error), HV_TYPE_MISMATCH, 0, 0, 0);
-    CHECK_REFUSED(hv_float_combine(&short_floats, HV_DIVIDE, &short_floats, &out, &error), HV_UNSUPPORTED, 0, 0, 0);
+    CHECK_REFUSED(hv_float_combine(&short_floats, HV_DIVIDE, &other_floats, &out, &error), HV_UNSUPPORTED, 0, 0, 0);
     CHECK_REFUSED(hv_float_combine(&doubles, HV_DIVIDE, &one, &out, &error), HV_COLUMN_LENGTH, 2, 1, 0);
     for (int number = 0; number < 256; number++) {
         const bool is_served = (number >= HV_ADD && number <= HV_MULTIPLY) || number == HV_DIVIDE;
@@ -210,7 +211,7 @@ static void check_refusals(void) {
         CHECK(hv_float_combine(&doubles, (uint8_t)number, &none, &out, &error) == due);
     }
     CHECK_ROWS(&out, "4 4");
-    hv_column *const all[] = {&bits, &doubles, &singles, &short_floats, &one};
+    hv_column *const all[] = {&bits, &doubles, &singles, &short_floats, &one, &other_bits, &other_floats};
     for (size_t i = 0; i < COUNT(all); i++) hv_free(all[i]);
 }
 
