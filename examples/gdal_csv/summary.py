@@ -10,7 +10,7 @@ import argparse
 import sys
 import time
 from dataclasses import dataclass, field
-from datetime import date, timedelta
+from datetime import date
 from pathlib import Path
 
 sys.path.insert(0, str(Path(__file__).resolve().parents[2] / "python"))
@@ -144,9 +144,7 @@ def rows_in(path):
 
 def as_written(summary, value):
     """A value as the CSV has it: a day by its date."""
-    if summary.what == DAYS and value is not None:
-        return (date(1970, 1, 1) + timedelta(days=value)).isoformat()
-    return value
+    return value.isoformat() if summary.what == DAYS and value is not None else value
 
 
 def shown(summary, value):
@@ -207,17 +205,14 @@ class Where:
     value: object = None
 
     def find(self, served):
-        """Reads the value as the column's type wants it: a number, a text, or the days from 1970 to a date."""
+        """Reads the value as the column's type wants it: a number, a text, or a date."""
         if self.operator not in OPERATORS or self.column not in served:
             raise BadFile(f"--where takes a column of {', '.join(served)} and one of {' '.join(OPERATORS)}")
         what = served[self.column].what
         try:
-            self.value = self.text if what == TEXTS else int(self.text) if what == NUMBERS else self.days()
+            self.value = {TEXTS: str, NUMBERS: int, DAYS: date.fromisoformat}[what](self.text)
         except ValueError as error:
             raise BadFile(f"--where: {self.column} is no such {what}: {error}") from None
-
-    def days(self):
-        return (date.fromisoformat(self.text) - date(1970, 1, 1)).days
 
 
 def arguments():

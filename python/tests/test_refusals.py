@@ -239,7 +239,8 @@ ARGUMENTS = {
     "compare": ("==", 1), "fill": (1,), "at": (0,), "__getitem__": (0,), "__deepcopy__": ({},),
     "save": ("none",), "split": (2,), "group_by": ([1],), "where": ([True] * 4, 1), "isin": ([1],),
     "equals": (Column.of([1]),), "coalesce": (1,), "lesser": (1,), "greater": (1,), "nlargest": (1,), "nsmallest": (1,),
-    **{f"__{name}__": (1,) for name in ("add", "radd", "sub", "rsub", "mul", "rmul", "and", "rand", "or", "ror")},
+    **{f"__{name}__": (1,) for name in ("add", "radd", "sub", "rsub", "mul", "rmul", "truediv", "rtruediv", "and", "rand", "or",
+                                          "ror")},
     **{name: (1,) for name in ("eq", "ne", "gt", "ge", "lt", "le", "__lt__", "__le__", "__gt__", "__ge__")},
     **{name: (1,) for name in ("__eq__", "__ne__", "__contains__")},
 }
