@@ -1,16 +1,17 @@
 """A file of six columns, as sensors write it: times with a zone and gaps between them, floats with NaN, -0.0 and nulls, a
 price, a count with nulls, a status and a flag. It goes from CSV and from pandas into runs, to a file and back, and every
-row is compared, floats by their bits. Then what it takes, and how long questions take, in pandas, SQLite and here.
+row is compared, floats by their bits. Then what it takes, and how long questions take, in pandas, SQLite, PostgreSQL
+and here.
 
     python3 bench/readings.py [--rows 1000000] [--turns 5] >table.md
 
-The library is that of `lib/`, or of HIVEVIGIL_SO. Needs pandas. The status is 1 where a row or an answer differs, and
-never by time or size."""
+The library is that of `lib/`, or of HIVEVIGIL_SO. Needs pandas, and NumPy; without the programs of PostgreSQL its
+columns are left out, and a line says so. The status is 1 where a row or an answer differs, and never by time or
+size."""
 import argparse
 import csv
 import os
 import random
-import sqlite3
 import statistics
 import struct
 import sys
@@ -24,6 +25,7 @@ sys.path.insert(0, str(Path(__file__).parents[1] / "python"))
 import hivevigil  # noqa: E402
 import pandas  # noqa: E402
 from hivevigil import Table  # noqa: E402
+from readings_databases import loaded  # noqa: E402
 
 NAMES = ("at", "level", "price", "visits", "status", "open")
 STATUSES = ("ok", "low battery", "no signal", 'said "offline", then left')
@@ -77,13 +79,13 @@ def check(what, found, due):
             raise Differs(f"{what}: column {name}: row {place} of {len(given)} differs")
 
 
-def median_of(turns, call):
+def median_of(turns, call, clock=time.process_time):
     """The median of processor milliseconds, and the answer."""
     spent = []
     for _ in range(turns):
-        begin = time.process_time()
+        begin = clock()
         answer = call()
-        spent.append((time.process_time() - begin) * 1000)
+        spent.append((clock() - begin) * 1000)
     return statistics.median(spent), answer
 
 
@@ -97,20 +99,6 @@ def table_of(title, columns, rows):
     line("---", *["---"] * len(columns))
     for name, *cells in rows:
         line(name, *[f"{cell:,.1f}" if isinstance(cell, float) else f"{cell:,}" if cell is not None else "" for cell in cells])
-
-
-def loaded_database(path, rows):
-    """The rows as a table of SQLite: times as integers, since it has none, prices in cents."""
-    database = sqlite3.connect(path)
-    database.execute("create table readings (at integer, level real, price integer, visits integer, status text, open)")
-    epoch = datetime(1970, 1, 1, tzinfo=timezone.utc)
-    database.executemany(
-        "insert into readings values (?, ?, ?, ?, ?, ?)",
-        (((at - epoch) // timedelta(microseconds=1), level, int(price * 100), visits, status, is_open)
-         for at, level, price, visits, status, is_open in rows),
-    )  # fmt: skip
-    database.commit()
-    return database
 
 
 def as_pandas_has_them(due):
@@ -136,28 +124,29 @@ def trues(mask):
     return counts(mask).get(True, 0)
 
 
-def asked(turns, table, frame, database):
-    """Each question to all three: its name, then milliseconds."""
-    one = lambda text: database.execute(text).fetchone()[0]  # noqa: E731
+def asked(turns, table, frame, databases):
+    """Each question to all of them: its name, then milliseconds. A database is asked by one statement each."""
     noon = datetime(2026, 1, 5, 12, tzinfo=timezone.utc)
-    micros = int(noon.timestamp()) * 10**6
     questions = (
         ("greatest level, NaN left out", lambda: table["level"].max(), lambda: frame["level"].max(),
-         lambda: one("select max(level) from readings")),
-        ("rows with a level above 20", lambda: trues(table["level"].gt(20)),
-         lambda: int((frame["level"] > 20).sum()), lambda: one("select count(*) from readings where level > 20")),
+         "select max(level) from readings where true{no_nan}"),
+        ("rows with a level above 20", lambda: trues(table["level"].gt(20)), lambda: int((frame["level"] > 20).sum()),
+         "select count(*) from readings where level > 20{no_nan}"),
         ("sum of visits", lambda: table["visits"].sum(), lambda: int(frame["visits"].sum()),
-         lambda: one("select sum(visits) from readings")),
+         "select sum(visits) from readings"),
         ("sum of visits where open", lambda: table["visits"].filter(table["open"]).sum(),
-         lambda: int(frame["visits"][frame["open"]].sum()), lambda: one("select sum(visits) from readings where open")),
-        ("rows of each status", lambda: counts(table["status"]),
-         lambda: dict(frame["status"].value_counts()),
-         lambda: dict(database.execute("select status, count(*) from readings group by status"))),
-        ("rows before a time", lambda: trues(table["at"].lt(noon)),
-         lambda: int((frame["at"] < noon).sum()), lambda: one(f"select count(*) from readings where at < {micros}")),
+         lambda: int(frame["visits"][frame["open"]].sum()), "select sum(visits) from readings where open"),
+        ("rows of each status", lambda: counts(table["status"]), lambda: dict(frame["status"].value_counts()),
+         "select status, count(*) from readings group by status"),
+        ("rows before a time", lambda: trues(table["at"].lt(noon)), lambda: int((frame["at"] < noon).sum()),
+         "select count(*) from readings where at < {noon}"),
     )  # fmt: skip
-    for name, *calls in questions:
-        found = [median_of(turns, call) for call in calls]
+    for name, ours, pandas_has, sql in questions:
+        found = [median_of(turns, call) for call in (ours, pandas_has)]
+        for database in databases:
+            statement = sql.format(no_nan=database.no_nan, noon=database.literal(noon))
+            spent, rows = median_of(turns, lambda: database.rows(statement), database.clock)
+            found.append((spent, dict(rows) if len(rows[0]) == 2 else rows[0][0]))
         if any(answer != found[0][1] for _, answer in found):
             raise Differs(f"{name}: {[answer for _, answer in found]}")
         yield (name, *(spent for spent, _ in found))
@@ -170,8 +159,6 @@ def main():
     chosen = given.parse_args()
     rows = list(made_rows(chosen.rows))
     due = {name: [compared(value) for value in column] for name, column in zip(NAMES, zip(*rows))}
-    print(f"{chosen.rows:,} rows; hivevigil {hivevigil.__version__}, pandas {pandas.__version__}, "
-          f"SQLite {sqlite3.sqlite_version}; processor milliseconds, the median of {chosen.turns}")  # fmt: skip
     with tempfile.TemporaryDirectory() as work:
         at = Path(work)
         with open(at / "rows.csv", "w", newline="", encoding="utf-8") as file:
@@ -194,19 +181,29 @@ def main():
         check("from the CSV file that was written", Table.from_csv(at / "again.csv"), due)
         pickled, _ = median_of(1, lambda: frame.to_pickle(at / "rows.pickle"))
         unpickled, _ = median_of(chosen.turns, lambda: pandas.read_pickle(at / "rows.pickle"))
-        stored, database = median_of(1, lambda: loaded_database(at / "rows.db", rows))
+        databases, skipped = loaded(at, rows)
+        names = ", ".join(database.name for database in databases)
+        print(f"{chosen.rows:,} rows; hivevigil {hivevigil.__version__}, pandas {pandas.__version__}, {names}; "
+              f"processor milliseconds, the median of {chosen.turns}")  # fmt: skip
+        for name, lack in skipped.items():
+            print(f"\nSkipped: {name}, no {lack}.")
+        heads = tuple(database.head for database in databases)
         size = lambda name: os.path.getsize(at / name)  # noqa: E731
-        table_of("Bytes", ("hivevigil", "with differences", "pandas", "SQLite", "CSV"), [
-            ("in a file", size("rows.hv"), size("apart.hv"), size("rows.pickle"), size("rows.db"), size("rows.csv")),
-            ("in memory", table.nbytes, None, int(frame.memory_usage(deep=True).sum()), None, None),
+        table_of("Bytes", ("hivevigil", "with differences", "pandas", *heads, "CSV"), [
+            ("in a file", size("rows.hv"), size("apart.hv"), size("rows.pickle"),
+             *(database.size() for database in databases), size("rows.csv")),
+            ("in memory", table.nbytes, None, int(frame.memory_usage(deep=True).sum()), *[None] * len(heads), None),
         ])  # fmt: skip
-        table_of("Time", ("hivevigil", "with differences", "pandas", "SQLite"), [
-            ("the CSV file read (SQLite: rows inserted)", from_csv, None, by_pandas, stored),
-            ("the file written (pandas: pickled)", saved, apart, pickled, None),
-            ("the file read", read, read_apart, unpickled, None),
+        none = [None] * len(heads)
+        table_of("Time", ("hivevigil", "with differences", "pandas", *heads), [
+            ("the CSV file read (SQLite: rows inserted)", from_csv, None, by_pandas,
+             *(database.load_seconds * 1000 for database in databases)),
+            ("the file written (pandas: pickled)", saved, apart, pickled, *none),
+            ("the file read", read, read_apart, unpickled, *none),
         ])  # fmt: skip
-        table_of("Questions", ("hivevigil", "pandas", "SQLite"), asked(chosen.turns, table.to_runs(), frame, database))
-        database.close()
+        table_of("Questions", ("hivevigil", "pandas", *heads), asked(chosen.turns, table.to_runs(), frame, databases))
+        for database in databases:
+            database.close()
     return 0
 
 

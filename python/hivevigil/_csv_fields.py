@@ -64,7 +64,7 @@ class Guess:
         could_be_instants = self.could_be & _TIMESTAMPS
         self.could_be = {sort for sort in self.could_be - _TIMESTAMPS if all(map(_TESTS[sort], texts))}
         if could_be_instants:
-            self._add_instants(list(map(_iso.instant, texts)), could_be_instants)
+            self._add_instants(texts, could_be_instants)
         if "whole" in self.could_be:
             self.least = min(self.least, *map(int, texts), 0)
             self.greatest = max(self.greatest, *map(int, texts), 0)
@@ -75,16 +75,19 @@ class Guess:
         if "time" in self.could_be:
             self.places = max([self.places, *(places for _, places in filter(None, map(_iso.time_of_day, texts)))])
 
-    def _add_instants(self, instants: list[Optional[_iso.Instant]], could_be: set[str]) -> None:
+    def _add_instants(self, texts: set[str], could_be: set[str]) -> None:
         """Timestamps, each without an offset or each with one; nothing changes where one of the texts is another."""
-        found = [each for each in instants if each is not None]
-        offsets = {each.has_offset for each in found}
-        if len(found) < len(instants) or len(offsets) > 1:
-            return
-        self.could_be |= could_be - {"timestamp" if has_offset else "instant" for has_offset in offsets}
-        self.places = max([self.places, *(each.places for each in found)])
-        self.least = min([self.least, *(each.nanoseconds for each in found)])
-        self.greatest = max([self.greatest, *(each.nanoseconds for each in found)])
+        least, greatest, places = self.least, self.greatest, self.places
+        for text in texts:
+            found = _iso.instant(text)
+            if found is None:
+                return
+            could_be = could_be - {"timestamp" if found.has_offset else "instant"}
+            least, greatest = min(least, found.nanoseconds), max(greatest, found.nanoseconds)
+            places = max(places, found.places)
+        if could_be:
+            self.could_be |= could_be
+            self.least, self.greatest, self.places = least, greatest, places
 
     def type(self) -> str:
         """The type of the column; texts where no row says more."""

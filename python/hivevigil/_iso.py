@@ -2,20 +2,19 @@
 from __future__ import annotations
 
 import re
-from dataclasses import dataclass
 from datetime import date
-from typing import Optional
+from functools import lru_cache
+from typing import NamedTuple, Optional
 
 _TIME = re.compile(r"(\d\d):(\d\d)(?::(\d\d)(?:\.(\d{1,9}))?)?", re.ASCII)
 _DATE = re.compile(r"\d{4}-\d\d-\d\d", re.ASCII)
-_INSTANT = re.compile(rf"({_DATE.pattern})[T ]({_TIME.pattern})(?:(Z)|([+-])(\d\d):(\d\d))?", re.ASCII)
+_CLOCK = re.compile(rf"[T ]{_TIME.pattern}(?:(Z)|([+-])(\d\d):(\d\d))?", re.ASCII)
 _FIRST_DAY = date(1970, 1, 1).toordinal()
 _SECOND, _DAY = 10**9, 86_400 * 10**9
 UNITS = ("s", "ms", "us", "ns")
 
 
-@dataclass(frozen=True)
-class Instant:
+class Instant(NamedTuple):
     """A date and a time: nanoseconds from 1970-01-01 00:00, in UTC where it has an offset; digits after the second."""
 
     nanoseconds: int
@@ -23,13 +22,11 @@ class Instant:
     places: int
 
 
+@lru_cache(maxsize=4096)
 def day(text: str) -> Optional[int]:
-    """The days from 1970-01-01 to a date."""
-    return _days(text) if _DATE.fullmatch(text) else None
-
-
-def _days(text: str) -> Optional[int]:
-    """The same of a text that is spelled as a date."""
+    """The days from 1970-01-01 to a date. Rows that follow each other have few dates."""
+    if not _DATE.fullmatch(text):
+        return None
     try:
         return date.fromisoformat(text).toordinal() - _FIRST_DAY
     except ValueError:
@@ -52,14 +49,24 @@ def _time(hour: str, minute: str, second: Optional[str], fraction: Optional[str]
 
 def instant(text: str) -> Optional[Instant]:
     """A date, a T or a space, a time, and perhaps Z or an offset."""
-    found = _INSTANT.fullmatch(text)
+    days, clock = day(text[:10]), _clock(text[10:])
+    if days is None or clock is None:
+        return None
+    nanoseconds, has_offset, places = clock
+    return Instant(days * _DAY + nanoseconds, has_offset, places)
+
+
+@lru_cache(maxsize=1 << 17)  # each second of a day, and some
+def _clock(text: str) -> Optional[Instant]:
+    """What follows a date: the nanoseconds are from its midnight."""
+    found = _CLOCK.fullmatch(text)
     if not found:
         return None
-    _, _, hour, minute, second, fraction, zulu, *offset = found.groups()
-    days, time, before = _days(text[:10]), _time(hour, minute, second, fraction), _minutes(*offset)
-    if days is None or time is None or before is None:
+    hour, minute, second, fraction, zulu, *offset = found.groups()
+    time, before = _time(hour, minute, second, fraction), _minutes(*offset)
+    if time is None or before is None:
         return None
-    return Instant(days * _DAY + time[0] - before * 60 * _SECOND, bool(zulu or offset[0]), time[1])
+    return Instant(time[0] - before * 60 * _SECOND, bool(zulu or offset[0]), time[1])
 
 
 def _minutes(sign: Optional[str], hours: Optional[str], minutes: Optional[str]) -> Optional[int]:

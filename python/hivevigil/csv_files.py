@@ -8,7 +8,8 @@ from __future__ import annotations
 import csv
 import re
 from collections.abc import Callable, Iterator, Mapping
-from itertools import chain, islice, repeat
+from itertools import chain, compress, count, islice, repeat
+from operator import ne
 from typing import Any, Optional
 
 from . import _runs
@@ -17,6 +18,10 @@ from ._lists import is_list
 from .column import Column
 from .errors import HivevigilError, Unsupported, in_words
 from .logical import LogicalType
+
+_ROWS_AS_LISTS = 256
+_ROWS_OF_A_RUN = 4  # on average, from which on a batch is made as runs
+
 
 class BadFile(Exception):
     """A file that is not a CSV, in a sentence."""
@@ -78,10 +83,22 @@ class CsvFile:
         self.passes = 2
 
     def _batches(self) -> Iterator[list[list[str]]]:
-        """The fields of each kept column, batch by batch."""
+        """The fields of each kept column, batch by batch. Few rows at a time are lists, since Python's search for
+        unused memory looks through all lists that there are."""
+        if not self.kept:
+            return
         rows = islice(lines_of(self.path), 1, None)
-        while batch := list(islice(rows, self.batch_rows)):
-            yield [[row[place] for row in batch] for place in self.kept]
+        at_once = min(_ROWS_AS_LISTS, self.batch_rows)
+        fields: list[list[str]] = [[] for _ in self.kept]
+        while some := list(islice(rows, min(at_once, self.batch_rows - len(fields[0])))):
+            columns = list(zip(*some))
+            for texts, place in zip(fields, self.kept):
+                texts.extend(columns[place])
+            if len(fields[0]) == self.batch_rows:
+                yield fields
+                fields = [[] for _ in self.kept]
+        if fields[0]:
+            yield fields
 
     def batches(self, advance: Callable[[int], None]) -> Iterator[dict[str, Column]]:
         """The columns of each batch; `advance` is called with the number of rows that were read, in each of the two
@@ -102,19 +119,23 @@ class CsvFile:
             before += len(fields[0])
 
     def _column(self, name: str, type: FieldType, texts: list[str], before: int) -> Column:
-        """The fields of a batch, after as many rows; each text is read once."""
+        """The fields of a batch, after as many rows; each text is read once, and one that comes again and again is one
+        run."""
         values: dict[str, Any] = {}
         for text in dict.fromkeys(texts):
             try:
                 values[text] = type.value(text) if text else None
             except (ValueError, KeyError):
                 raise self._refused(name, type, text, before + texts.index(text)) from None
-        rows = [values[text] for text in texts]
+        stops = [*compress(count(1), map(ne, texts, islice(texts, 1, None))), len(texts)]
+        is_in_runs = len(stops) * _ROWS_OF_A_RUN <= len(texts)
+        rows = [values[texts[stop - 1]] for stop in stops] if is_in_runs else [values[text] for text in texts]
         try:
-            return Column.of(rows, f"{type.storage}?").cast(type.asked) if type.is_counted else Column.of(rows, type.asked)
+            column = Column.of(rows, f"{type.storage}?").cast(type.asked) if type.is_counted else Column.of(rows, type.asked)
         except (HivevigilError, OverflowError, ValueError) as error:
-            where = f"a row from {before} to {before + len(rows) - 1}"
+            where = f"a row from {before} to {before + len(texts) - 1}"
             raise BadFile(f"{self.path}: column {in_words(name)}, {where}: {error}") from None
+        return Column.from_runs(stops, column) if is_in_runs else column
 
     def _refused(self, name: str, type: FieldType, text: str, row: int) -> BadFile:
         return BadFile(f"{self.path}: column {in_words(name)}: row {row} is {in_words(text)}, which is not of {type.asked}")
