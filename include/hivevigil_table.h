@@ -1,0 +1,283 @@
+/* Tables in C: named columns of one number of rows, each with what its numbers are. A header only, C11 and C++17, over
+ * hivevigil.h; nothing here is proved.
+ *
+ *     hv_table table = HV_TABLE_EMPTY, high = HV_TABLE_EMPTY;
+ *     const char *const names[] = {"station", "level"};
+ *     int32_t answer = hv_table_new(names, NULL, columns, 2, &table, &error);
+ *     if (!answer) answer = hv_table_filter(&session, &table, &mask, &high, &error);
+ *     hv_table_free(&high);
+ *     hv_table_free(&table);
+ *
+ * A call answers 0, a number of hivevigil.h, or one of hivevigil_table_errors.h, which has the sentences of all; `error`
+ * is not null. After a refusal every table and column is as it was, `out` too. After 0 `out` has the table that was made,
+ * whose columns share buffers with those of the first, and the one that it had before is freed: `out` may be the table
+ * that is lent. */
+#ifndef HIVEVIGIL_TABLE_H
+#define HIVEVIGIL_TABLE_H
+#include "hivevigil_arrow.h"
+#include "hivevigil_helpers.h"
+#include "hivevigil_table_errors.h"
+#ifdef __cplusplus
+extern "C" {
+#endif
+
+/* Only these calls write it. Texts are of malloc's memory, end in a zero byte, and are UTF-8; a logical type is a
+ * format of Arrow, as "tsu:UTC", or empty. */
+typedef struct hv_table {
+    size_t rows, count; /* of each column; of columns */
+    hv_column *columns;
+    char **names, **logical_types;
+} hv_table;
+#define HV_TABLE_EMPTY {0, 0, NULL, NULL, NULL}
+
+/* Frees the columns and the texts, after which the table has none; nothing is done where it is null. */
+static inline void hv_table_free(hv_table *table) {
+    if (!table) return;
+    for (size_t i = 0; i < table->count; i++) {
+        hv_free(&table->columns[i]);
+        free(table->names[i]);
+        free(table->logical_types[i]);
+    }
+    free(table->columns);
+    free(table->names);
+    free(table->logical_types);
+    memset(table, 0, sizeof *table);
+}
+
+/* The place of the column of a name; 201 where there is none. */
+HV_ANSWER hv_table_find(const hv_table *table, const char *name, size_t *place, hv_error *error) {
+    for (size_t i = 0; i < table->count; i++) {
+        if (strcmp(table->names[i], name) != 0) continue;
+        *place = i;
+        return HV_OK;
+    }
+    hv_arrow_refuse(HV_OK, 0, 0, error);
+    return HV_TABLE_NO_COLUMN;
+}
+
+/* ---- What the calls below are made of ---- */
+
+/* Room for this number of columns, of which none is there yet. */
+static inline int32_t hv_table_room(hv_table *table, size_t count, hv_error *error) {
+    memset(table, 0, sizeof *table);
+    table->columns = (hv_column *)calloc(count + 1, sizeof *table->columns);
+    table->names = (char **)calloc(count + 1, sizeof *table->names);
+    table->logical_types = (char **)calloc(count + 1, sizeof *table->logical_types);
+    if (table->columns && table->names && table->logical_types) return HV_OK;
+    hv_table_free(table);
+    return hv_arrow_refuse(HV_OUT_OF_MEMORY, 0, 0, error);
+}
+
+static inline char *hv_table_text(const char *text) {
+    const size_t size = strlen(text) + 1;
+    char *copy = (char *)malloc(size);
+    return copy ? (char *)memcpy(copy, text, size) : NULL;
+}
+
+/* One more column, of which there is room, and whose handle is taken over on success. */
+static inline int32_t hv_table_add(hv_table *table, const char *name, const char *logical_type, hv_column *column,
+                                   hv_error *error) {
+    char *own_name = hv_table_text(name), *own_type = hv_table_text(logical_type);
+    if (!own_name || !own_type) {
+        free(own_name);
+        free(own_type);
+        return hv_arrow_refuse(HV_OUT_OF_MEMORY, 0, 0, error);
+    }
+    table->names[table->count] = own_name;
+    table->logical_types[table->count] = own_type;
+    table->columns[table->count] = hv_moved(column);
+    table->count++;
+    return HV_OK;
+}
+
+/* The table that was made where the answer is 0; else it is freed, and `out` stays. */
+static inline int32_t hv_table_done(int32_t answer, hv_table *made, hv_table *out) {
+    if (answer) {
+        hv_table_free(made);
+        return answer;
+    }
+    hv_table_free(out);
+    *out = *made;
+    return HV_OK;
+}
+
+/* 12 for bytes that are not UTF-8. */
+static inline int32_t hv_table_check_text(const char *text, hv_error *error) {
+    const int64_t offsets[2] = {0, (int64_t)strlen(text)};
+    hv_column column = HV_EMPTY;
+    const int32_t answer = hv_large_texts(0, offsets, 2, (const uint8_t *)text, (size_t)offsets[1], hv_not_nullable(),
+                                          &column, error);
+    hv_free(&column);
+    return answer;
+}
+
+static inline int32_t hv_table_check_names(const char *const *names, size_t count, hv_error *error) {
+    int32_t answer = HV_OK;
+    for (size_t i = 0; !answer && i < count; i++) {
+        answer = hv_table_check_text(names[i], error);
+        for (size_t before = 0; !answer && before < i; before++) {
+            if (strcmp(names[before], names[i]) != 0) continue;
+            hv_arrow_refuse(HV_OK, before, i, error);
+            answer = HV_TABLE_NAME_TWICE;
+        }
+    }
+    return answer;
+}
+
+/* ---- Made ---- */
+
+/* The columns, cloned, by name; `logical_types` may be null, and so may each of them. 12 for a text that is not UTF-8,
+ * 202 (place, place) for a name twice, 22 where there is no column, 11 (rows of the first, rows) for another number of
+ * rows. */
+HV_ANSWER hv_table_new(const char *const *names, const char *const *logical_types, const hv_column *columns,
+                       size_t count, hv_table *out, hv_error *error) {
+    hv_table made;
+    int32_t answer = hv_table_check_names(names, count, error);
+    if (!answer) answer = hv_table_room(&made, count, error);
+    if (answer) return answer;
+    made.rows = count ? hv_length(&columns[0]) : 0;
+    for (size_t i = 0; !answer && i < count; i++) {
+        const char *logical_type = logical_types && logical_types[i] ? logical_types[i] : "";
+        hv_column column = HV_EMPTY;
+        answer = hv_table_check_text(logical_type, error);
+        if (!answer) answer = hv_clone(&columns[i], &column, error);
+        const size_t rows = hv_length(&column);
+        if (!answer && rows != made.rows) answer = hv_arrow_refuse(HV_COLUMN_LENGTH, made.rows, rows, error);
+        if (!answer) answer = hv_table_add(&made, names[i], logical_type, &column, error);
+        hv_free(&column);
+    }
+    return hv_table_done(answer, &made, out);
+}
+
+/* The columns of these names, in this order; 201, and 202 (place, place). */
+HV_ANSWER hv_table_select(const hv_table *table, const char *const *names, size_t count, hv_table *out,
+                          hv_error *error) {
+    hv_table made;
+    int32_t answer = hv_table_check_names(names, count, error);
+    if (!answer) answer = hv_table_room(&made, count, error);
+    if (answer) return answer;
+    made.rows = table->rows;
+    for (size_t i = 0; !answer && i < count; i++) {
+        size_t place = 0;
+        hv_column column = HV_EMPTY;
+        answer = hv_table_find(table, names[i], &place, error);
+        if (!answer) answer = hv_clone(&table->columns[place], &column, error);
+        if (!answer) answer = hv_table_add(&made, names[i], table->logical_types[place], &column, error);
+        hv_free(&column);
+    }
+    return hv_table_done(answer, &made, out);
+}
+
+/* ---- Rows: a mask or indices are tested before any column ---- */
+
+/* What is done with each column: `other` is a mask or indices, else rows `start` to `stop` - 1 are taken. */
+typedef struct hv_table_work {
+    int32_t (*work)(const struct hv_table_work *self, const hv_column *column, hv_column *out, hv_error *error);
+    const hv_session *session;
+    hv_column other;
+    size_t start, stop;
+} hv_table_work;
+
+static inline int32_t hv_table_slices(const hv_table_work *self, const hv_column *column, hv_column *out,
+                                      hv_error *error) {
+    return hv_slice(self->session, column, self->start, self->stop, out, error);
+}
+static inline int32_t hv_table_takes(const hv_table_work *self, const hv_column *column, hv_column *out,
+                                     hv_error *error) {
+    return hv_take(self->session, column, &self->other, out, error);
+}
+static inline int32_t hv_table_filters(const hv_table_work *self, const hv_column *column, hv_column *out,
+                                       hv_error *error) {
+    return hv_filter(self->session, column, &self->other, out, error);
+}
+
+/* How many rows are made of `rows` rows, where no column says so. */
+static inline int32_t hv_table_rows_of(const hv_table_work *work, size_t rows, size_t *made, hv_error *error) {
+    const hv_kind kind = {HV_U8, 0, 0, 0};
+    const hv_value zero = {0, 0, HV_UNSIGNED, 0};
+    hv_column all = HV_EMPTY, some = HV_EMPTY;
+    int32_t answer = hv_constant(&kind, &zero, NULL, 0, rows, &all, error);
+    if (!answer) answer = work->work(work, &all, &some, error);
+    *made = hv_length(&some);
+    hv_free(&all);
+    hv_free(&some);
+    return answer;
+}
+
+static inline int32_t hv_table_each(const hv_table *table, const hv_table_work *work, hv_table *out, hv_error *error) {
+    hv_table made;
+    int32_t answer = hv_table_room(&made, table->count, error);
+    if (answer) return answer;
+    if (table->count == 0) answer = hv_table_rows_of(work, table->rows, &made.rows, error);
+    for (size_t i = 0; !answer && i < table->count; i++) {
+        hv_column column = HV_EMPTY;
+        answer = work->work(work, &table->columns[i], &column, error);
+        made.rows = hv_length(&column);
+        if (!answer) answer = hv_table_add(&made, table->names[i], table->logical_types[i], &column, error);
+        hv_free(&column);
+    }
+    return hv_table_done(answer, &made, out);
+}
+
+/* The same with a mask or indices, which may be a column of the table. */
+static inline int32_t hv_table_each_by(const hv_table *table, hv_table_work work, const hv_column *other, hv_table *out,
+                                       hv_error *error) {
+    int32_t answer = hv_clone(other, &work.other, error);
+    if (!answer) answer = hv_table_each(table, &work, out, error);
+    hv_free(&work.other);
+    return answer;
+}
+
+/* Rows `start` to `stop` - 1; 9 (start, stop, rows). */
+HV_ANSWER hv_table_slice(const hv_session *session, const hv_table *table, size_t start, size_t stop, hv_table *out,
+                         hv_error *error) {
+    const hv_table_work work = {hv_table_slices, session, HV_EMPTY, start, stop};
+    return hv_table_each(table, &work, out, error);
+}
+
+/* The rows at the indices, integers in any form, null at a null index; 12, and 8 (index, rows). */
+HV_ANSWER hv_table_take(const hv_session *session, const hv_table *table, const hv_column *indices, hv_table *out,
+                        hv_error *error) {
+    const hv_table_work work = {hv_table_takes, session, HV_EMPTY, 0, 0};
+    return hv_table_each_by(table, work, indices, out, error);
+}
+
+/* The rows at which the mask, booleans in any form, is true; 12, and 10 (mask, rows). */
+HV_ANSWER hv_table_filter(const hv_session *session, const hv_table *table, const hv_column *mask, hv_table *out,
+                          hv_error *error) {
+    const hv_table_work work = {hv_table_filters, session, HV_EMPTY, 0, 0};
+    return hv_table_each_by(table, work, mask, out, error);
+}
+
+/* The rows of a table, then those of another, which has columns of the same names, types and logical types; a type has
+ * null where it has in one of them. 201 where one has a column that the other has not, 12 for two types. */
+HV_ANSWER hv_table_append(const hv_session *session, const hv_table *first, const hv_table *second, hv_table *out,
+                          hv_error *error) {
+    hv_table made;
+    size_t place = 0;
+    int32_t answer = HV_OK;
+    for (size_t i = 0; !answer && i < second->count; i++)
+        answer = hv_table_find(first, second->names[i], &place, error);
+    if (!answer) answer = hv_table_room(&made, first->count, error);
+    if (answer) return answer;
+    made.rows = first->rows + second->rows;
+    for (size_t i = 0; !answer && i < first->count; i++) {
+        hv_column joined = HV_EMPTY, lent[2] = {HV_EMPTY, HV_EMPTY};
+        answer = hv_table_find(second, first->names[i], &place, error);
+        if (!answer && strcmp(first->logical_types[i], second->logical_types[place]) != 0)
+            answer = hv_arrow_refuse(HV_TYPE_MISMATCH, 0, 0, error);
+        if (!answer) answer = hv_clone(&first->columns[i], &lent[0], error);
+        if (!answer) answer = hv_clone(&second->columns[place], &lent[1], error);
+        if (!answer) answer = hv_arrow_concat(session, lent, 2, &joined, error);
+        if (!answer) answer = hv_table_add(&made, first->names[i], first->logical_types[i], &joined, error);
+        hv_free(&joined);
+        hv_free(&lent[0]);
+        hv_free(&lent[1]);
+    }
+    return hv_table_done(answer, &made, out);
+}
+
+#ifdef __cplusplus
+}
+#endif
+#endif
