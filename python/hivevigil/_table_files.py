@@ -9,7 +9,7 @@ from dataclasses import dataclass, field
 from decimal import Decimal
 from typing import Any, BinaryIO, Optional
 
-from . import _differences, _files
+from . import _differences, _files, _float_columns, _floats
 from ._making import decimals_of, flat_of, validity_of, view_of
 from ._protobuf import Damaged, Fields, number_field, sized_field, sized_head
 from ._table_making import about, meant, refuse_twice
@@ -60,9 +60,12 @@ class ColumnFooter:
         be read."""
         if self.bounds is None:
             return True
+        found = self.bounds.compare(operator, value)
+        if _floats.is_float(self.bounds._logical) and _float_columns.has_nan(self.bounds):
+            return True  # a NaN is a bound past all numbers, and says nothing of these
         if operator == "==" and len(self.bounds):
             return bool(self.bounds.le(value)[0] and self.bounds.ge(value)[1])
-        return True in self.bounds.compare(operator, value)
+        return True in found
 
     def _bound(self, place: int) -> Scalar:
         return None if self.bounds is None or not len(self.bounds) else self.bounds[place]

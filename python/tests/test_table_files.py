@@ -1,5 +1,6 @@
 """Tables as bytes and in files: what is written is what Protocol Buffers' own library writes by docs/table.proto, what
 is read is what it reads, and every other bytes are refused."""
+import math
 import os
 import random
 import re
@@ -88,6 +89,18 @@ def test_what_a_footer_says(tmp_path):
         with pytest.raises(kind) as refused:
             call()
         assert str(refused.value).startswith(said)
+
+
+@pytest.mark.parametrize("name", ["float16", "float32", "float64"])
+@pytest.mark.parametrize("ends", [(math.nan,), (-math.nan, 1.0), (math.nan, -math.nan)])
+def test_a_file_with_a_nan_is_not_skipped(tmp_path, name, ends):
+    rows = [5.0, None, *ends]
+    Table({"x": Column.of(rows, name + "?")}).save(tmp_path / "table")
+    footer = Table.footer(tmp_path / "table")
+    for sign, value in ((">", 4), ("<", 6), ("==", 5), (">=", 5), ("<=", 5), ("!=", 1)):
+        assert footer.may_have("x", sign, value)
+    with pytest.raises(TypeError):
+        footer.may_have("x", "<", "x")
 
 
 # ---- What is not a table
