@@ -107,6 +107,10 @@ class LookTests(Tree):
         self.page()
         self.assert_unfit("no lines")
 
+    def test_an_edit_without_texts_does_not_fit(self):
+        self.page("file: src/lib.rt")
+        self.assert_unfit("no text is changed")
+
     def test_a_page_has_edits_alone(self):
         self.write("crates/low/must-fail/notes.md", "# Notes\n\nThe line\n\n    let first = 1;\n")
         self.assert_unfit("line 5 is of no edit: let first = 1;", "low/notes.md")

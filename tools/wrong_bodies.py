@@ -80,6 +80,8 @@ class WrongBody:
             raise Unfit("an 'old:' line with no 'new:' line after it")
         if not sources:
             raise Unfit("no lines")
+        if self.value("new") is None:
+            raise Unfit("no text is changed")
         return sources
 
     def fault(self) -> str | None:
