@@ -36,6 +36,7 @@ pub fn prepare<A: Allocator + Copy>(
         request::Call::Equals(other) => prepared_equality(name, other, columns, ctx),
         request::Call::Hash => on_copy(name, Task::Hash, columns, ctx),
         request::Call::Floats(question) => on_copy(name, Task::Floats(question), columns, ctx),
+        request::Call::SumDecimals => on_copy(name, Task::SumDecimals, columns, ctx),
         request::Call::Derived(derived) => Ok(Call::Derive(prepared_work(derived, columns, ctx)?)),
         request::Call::Read(words) => Ok(Call::Read(bytes_of_words(*ctx.allocator(), words)?)),
         _ => Ok(Call::Make(prepared_maker(call, columns, ctx)?)),

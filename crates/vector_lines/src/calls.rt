@@ -1,4 +1,5 @@
 //! Calls, and what comes of them.
+use crate::decimal_work::decimal_sum_reply;
 use crate::float_work::float_reply;
 use crate::lists::boxed_lists;
 use crate::printer::{push_refusal, push_row, push_sum, push_truth, push_word};
@@ -77,6 +78,7 @@ pub enum Task<A: Allocator> {
     Equals(ArrayRef<A>),
     Hash,
     Floats(FloatQuestion),
+    SumDecimals,
 }
 
 /// What a call, or a line, is answered.
@@ -88,6 +90,8 @@ pub enum Reply<A: Allocator> {
     Refused(VortexError),
     /// It is refused: the answer of this row, run or group, from 0, is not a number of its type.
     Overflow(usize),
+    /// It is refused: the decimal of this row, from 0, has more places than the scale asked for.
+    Inexact(usize),
     /// There was no room for the answers of commands, and no command was begun, or none for the text of a look.
     NoRoom,
     /// It says this.
@@ -164,6 +168,10 @@ fn result_of_work<A: Allocator>(made: Result<ArrayRef<A>, WorkError>) -> CallRes
         },
         Err(WorkError::Overflow(place)) => CallResult {
             reply: Reply::Overflow(place),
+            column: None,
+        },
+        Err(WorkError::Inexact(row)) => CallResult {
+            reply: Reply::Inexact(row),
             column: None,
         },
     }
@@ -280,6 +288,7 @@ impl<A: Allocator + Copy> Task<A> {
             Task::Equals(other) => equality_of(column, other, ctx, ample),
             Task::Hash => hash_of(column, ctx, ample),
             Task::Floats(question) => float_reply(question, column, ctx, ample),
+            Task::SumDecimals => decimal_sum_reply(column, ctx, ample),
         }
     }
 }

@@ -6,6 +6,7 @@ mod arguments;
 mod calls;
 mod columns;
 mod commands;
+mod decimal_work;
 mod flats;
 mod float_words;
 mod float_work;

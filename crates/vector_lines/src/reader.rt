@@ -118,6 +118,7 @@ fn read_alone<'a>(verb: &str) -> Option<Call<'a>> {
         "min_max_numbers" => Some(Call::Floats(FloatQuestion::MinMaxNumbers)),
         "min_max_total" => Some(Call::Floats(FloatQuestion::MinMaxTotal)),
         "sum_floats" => Some(Call::Floats(FloatQuestion::Sum)),
+        "sum_decimals" => Some(Call::SumDecimals),
         _ => Some(Call::Command(read_bare(verb)?)),
     }
 }

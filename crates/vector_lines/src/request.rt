@@ -1,5 +1,6 @@
 //! What a line of vectors may ask.
 use crate::values::Value;
+use column_base::DecimalDType;
 use column_ops::CompareOperator;
 use runend_array::{DType, Nullability, PType, Thresholds, VarBinKind};
 use runend_floats::{FloatFormat, FloatPatterns};
@@ -74,6 +75,8 @@ pub enum Call<'a> {
     Hash,
     /// Asks a column of floats.
     Floats(FloatQuestion),
+    /// Asks for the exact sum of decimals.
+    SumDecimals,
     /// What a record says. It is asked of no column, so its request is named `read`, as no column is.
     Read(&'a [&'a str]),
 }
@@ -88,7 +91,7 @@ impl<'a> Call<'a> {
             Call::Deserialize(_) | Call::FromBytes(_) | Call::Derived(_) => true,
             Call::Command(_) | Call::Run(_) | Call::Row(_) | Call::Probe(_) => false,
             Call::Validity | Call::Meta | Call::Bytes | Call::Read(_) => false,
-            Call::Equals(_) | Call::Hash | Call::Floats(_) => false,
+            Call::Equals(_) | Call::Hash | Call::Floats(_) | Call::SumDecimals => false,
         }
     }
 }
@@ -172,6 +175,7 @@ pub enum RowOperator {
     /// Says where each of these runs ends.
     TotalEnds,
     Floats(FloatOperator),
+    Decimals(DecimalOperator),
 }
 
 /// Says what is made of a column of floats, of bits or of integers.
@@ -192,6 +196,15 @@ pub enum FloatOperator {
     ToIntegers(PType),
 }
 
+/// Says what is made of a column of decimals, or of integers.
+#[derive(Clone, Copy)]
+pub enum DecimalOperator {
+    /// Writes decimals in this precision and scale.
+    Rescale(DecimalDType),
+    OfIntegers(DecimalDType),
+    ToIntegers(PType),
+}
+
 /// Says what a column of floats is asked.
 #[derive(Clone, Copy)]
 pub enum FloatQuestion {
@@ -208,6 +221,9 @@ pub enum FloatQuestion {
 #[derive(Clone, Copy)]
 pub enum PairOperator {
     Numeric(NumericOperator),
+    /// Calculates with floats by their keys.
+    FloatNumeric(runend_pairs::FloatOperator),
+    DecimalNumeric(NumericOperator),
     Boolean(BooleanOperator),
     Compare(CompareOperator),
     Coalesce,

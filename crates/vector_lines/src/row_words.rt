@@ -2,7 +2,10 @@
 use crate::commands::read_operator;
 use crate::float_words::{read_float, read_format};
 use crate::names::read_name;
-use crate::request::{Derived, FloatOperator, GroupPart, PairOperator, RowOperator};
+use crate::request::{
+    DecimalOperator, Derived, FloatOperator, GroupPart, PairOperator, RowOperator,
+};
+use crate::types::read_decimal;
 use column_words::parse_ptype;
 use runend_floats::FloatPatterns;
 use runend_pairs::{BooleanOperator, GroupFold, NumericOperator};
@@ -11,25 +14,41 @@ use runend_pairs::{BooleanOperator, GroupFold, NumericOperator};
 pub(crate) fn read_derived<'a>(words: &'a [&'a str]) -> Option<Derived<'a>> {
     match words {
         [operator, name] => Some(Derived::One(read_row_operator(operator)?, read_name(name)?)),
-        [first, second, third] => match read_float_cast(first, second) {
-            Some(operator) => one_of(operator, third),
-            None => read_pair(first, second, third),
+        [first, second, third] => match read_cast(first, second) {
+            Some(operator) => Some(Derived::One(operator, read_name(third)?)),
+            None => read_pair(read_pair_operator(second), first, third),
         },
         ["if_else", mask, left, right] => read_choice(mask, left, right),
+        ["float_numeric", left, operator, right] => {
+            read_pair(read_float_numeric(operator), left, right)
+        }
+        ["decimal_numeric", left, operator, right] => {
+            read_pair(read_decimal_numeric(operator), left, right)
+        }
         ["fold", part, values, "by", keys] => read_fold(part, values, keys),
         [order, operator, format, constant, name] => {
-            one_of(
-                read_float_comparison(order, operator, format, constant)?,
-                name,
-            )
+            let comparison = read_float_comparison(order, operator, format, constant)?;
+            Some(Derived::One(RowOperator::Floats(comparison), read_name(name)?))
         }
         _ => None,
     }
 }
 
-// What the operator makes of the rows of the column of this name.
-fn one_of<'a>(operator: FloatOperator, name: &'a str) -> Option<Derived<'a>> {
-    Some(Derived::One(RowOperator::Floats(operator), read_name(name)?))
+// The cast of floats or of decimals that these words ask.
+fn read_cast(cast: &str, to: &str) -> Option<RowOperator> {
+    match read_float_cast(cast, to) {
+        Some(operator) => Some(RowOperator::Floats(operator)),
+        None => Some(RowOperator::Decimals(read_decimal_cast(cast, to)?)),
+    }
+}
+
+fn read_decimal_cast(cast: &str, to: &str) -> Option<DecimalOperator> {
+    match cast {
+        "rescale" => Some(DecimalOperator::Rescale(read_decimal(to)?)),
+        "decimals_of" => Some(DecimalOperator::OfIntegers(read_decimal(to)?)),
+        "integers_of" => Some(DecimalOperator::ToIntegers(parse_ptype(to)?)),
+        _ => None,
+    }
 }
 
 fn read_float_cast(cast: &str, to: &str) -> Option<FloatOperator> {
@@ -80,22 +99,53 @@ fn encode_floats(patterns: FloatPatterns) -> RowOperator {
     RowOperator::Floats(FloatOperator::Encode(patterns))
 }
 
-fn read_pair<'a>(left: &'a str, operator: &str, right: &'a str) -> Option<Derived<'a>> {
-    let operator = read_pair_operator(operator)?;
-    Some(Derived::Pair(read_name(left)?, operator, read_name(right)?))
+// What the operator, if it is one, makes of the rows of the columns of these names.
+fn read_pair<'a>(
+    operator: Option<PairOperator>,
+    left: &'a str,
+    right: &'a str,
+) -> Option<Derived<'a>> {
+    Some(Derived::Pair(read_name(left)?, operator?, read_name(right)?))
 }
 
 fn read_pair_operator(word: &str) -> Option<PairOperator> {
     match word {
-        "+" => Some(PairOperator::Numeric(NumericOperator::Add)),
-        "-" => Some(PairOperator::Numeric(NumericOperator::Subtract)),
-        "*" => Some(PairOperator::Numeric(NumericOperator::Multiply)),
         "and" => Some(PairOperator::Boolean(BooleanOperator::And)),
         "or" => Some(PairOperator::Boolean(BooleanOperator::Or)),
         "coalesce" => Some(PairOperator::Coalesce),
         "lesser" => Some(PairOperator::Lesser),
         "greater" => Some(PairOperator::Greater),
-        _ => Some(PairOperator::Compare(read_operator(word)?)),
+        _ => match read_numeric(word) {
+            Some(operator) => Some(PairOperator::Numeric(operator)),
+            None => Some(PairOperator::Compare(read_operator(word)?)),
+        },
+    }
+}
+
+fn read_numeric(word: &str) -> Option<NumericOperator> {
+    match word {
+        "+" => Some(NumericOperator::Add),
+        "-" => Some(NumericOperator::Subtract),
+        "*" => Some(NumericOperator::Multiply),
+        _ => None,
+    }
+}
+
+fn read_decimal_numeric(word: &str) -> Option<PairOperator> {
+    Some(PairOperator::DecimalNumeric(read_numeric(word)?))
+}
+
+fn read_float_numeric(word: &str) -> Option<PairOperator> {
+    Some(PairOperator::FloatNumeric(read_float_operator(word)?))
+}
+
+fn read_float_operator(word: &str) -> Option<runend_pairs::FloatOperator> {
+    match word {
+        "+" => Some(runend_pairs::FloatOperator::Add),
+        "-" => Some(runend_pairs::FloatOperator::Subtract),
+        "*" => Some(runend_pairs::FloatOperator::Multiply),
+        "/" => Some(runend_pairs::FloatOperator::Divide),
+        _ => None,
     }
 }
 

@@ -1,11 +1,14 @@
 //! Columns made from the rows of others.
+use crate::decimal_work::made_of_decimals;
 use crate::float_work::made_of_floats;
 use crate::request::{GroupPart, PairOperator, RowOperator};
 use column_base::VortexError;
 use runend_array::array_of;
+use runend_decimals::RescaleError;
 use runend_pairs::{
     GroupError, GroupFold, Groups, RunningTotals, TotalError, ZipError, boolean, coalesce, compare,
-    fold_by, greatest_of, if_else, is_null, is_valid, least_of, not, numeric, running_totals,
+    decimal_numeric, float_numeric, fold_by, greatest_of, if_else, is_null, is_valid, least_of,
+    not, numeric, running_totals,
 };
 use runend_sorts::{ValueCounts, reverse, sort, value_counts};
 use std::alloc::Allocator;
@@ -28,9 +31,11 @@ pub enum WorkError {
     Refused(VortexError),
     /// Has the row, run or group, from 0, whose answer is not a number of its type.
     Overflow(usize),
+    /// Has the first row, from 0, whose decimal has more places than the scale asked for.
+    Inexact(usize),
 }
 
-type WorkResult<T> = Result<T, WorkError>;
+pub(crate) type WorkResult<T> = Result<T, WorkError>;
 
 impl From<VortexError> for WorkError {
     fn from(error: VortexError) -> WorkError {
@@ -61,6 +66,16 @@ impl From<TotalError> for WorkError {
         match error {
             TotalError::Refused(error) => WorkError::Refused(error),
             TotalError::Overflow { run } => WorkError::Overflow(run),
+        }
+    }
+}
+
+impl From<RescaleError> for WorkError {
+    fn from(error: RescaleError) -> WorkError {
+        match error {
+            RescaleError::Refused(error) => WorkError::Refused(error),
+            RescaleError::Inexact { row } => WorkError::Inexact(row),
+            RescaleError::Overflow { row } => WorkError::Overflow(row),
         }
     }
 }
@@ -111,6 +126,7 @@ fn made_of_one<A: Allocator + Copy>(
         RowOperator::Distinct | RowOperator::Counts => counted(operator, column, ctx),
         RowOperator::Totals | RowOperator::TotalEnds => totalled(operator, column, ctx),
         RowOperator::Floats(operator) => Ok(made_of_floats(operator, column, ctx)?),
+        RowOperator::Decimals(operator) => made_of_decimals(operator, column, ctx),
     }
 }
 
@@ -160,6 +176,8 @@ fn made_of_pair<A: Allocator + Copy>(
 ) -> WorkResult<ArrayRef<A>> {
     match operator {
         PairOperator::Numeric(operator) => Ok(numeric(left, operator, right, ctx)?),
+        PairOperator::FloatNumeric(operator) => Ok(float_numeric(left, operator, right, ctx)?),
+        PairOperator::DecimalNumeric(operator) => Ok(decimal_numeric(left, operator, right, ctx)?),
         PairOperator::Boolean(operator) => Ok(boolean(left, operator, right, ctx)?),
         PairOperator::Compare(operator) => Ok(compare(left, operator, right, ctx)?),
         PairOperator::Coalesce => Ok(coalesce(left, right, ctx)?),

@@ -31,7 +31,8 @@ fn read_numeric(name: &str, nullability: Nullability) -> Option<ElementDType> {
     }
 }
 
-fn read_decimal(name: &str) -> Option<DecimalDType> {
+/// Returns the precision and the scale of the decimals that a word names.
+pub fn read_decimal(name: &str) -> Option<DecimalDType> {
     let (precision, scale) = between(name, "decimal(", ')')?.split_once(',')?;
     decimal_of(parse_count(precision)?, parse_integer(scale)?)
 }

@@ -195,6 +195,7 @@ pub fn reply_text<A: Allocator + Copy>(alloc: A, reply: Reply<A>) -> VortexResul
         Reply::Done => Ok(String::from_str(alloc, "ok")?),
         Reply::Refused(error) => refusal_text(alloc, error),
         Reply::Overflow(place) => Ok(format!(in alloc; "refused 14 {place}")?),
+        Reply::Inexact(row) => Ok(format!(in alloc; "refused 14 {row} inexact")?),
         Reply::NoRoom => refusal_text(alloc, VortexError::OutOfMemory),
         Reply::Says(text) => Ok(text),
         Reply::ListReply(listed) => Ok(listed.text),
