@@ -117,6 +117,12 @@ impl Column {
         })
     }
 
+    /// Makes integers of a type with null, of which none is null.
+    pub(crate) fn all_valid<T: Native>(items: &[T]) -> Result<Column, Error> {
+        const ALL_VALID: u8 = 1;
+        Column::made(|out, fields| unsafe { T::make(items, ALL_VALID, &[], out, fields) })
+    }
+
     /// Booleans, null where `valid` is given and false.
     pub fn truths(rows: &[bool], valid: Option<&[bool]>) -> Result<Column, Error> {
         let (nulls, truths) = (Nulls::of(rows.len(), valid)?, bits_of(rows));

@@ -238,6 +238,19 @@ impl Error {
         self
     }
 
+    /// Names the group of which a sum was refused, where it does not fit.
+    pub(crate) fn in_group(self, group: usize, kind: Kind) -> Error {
+        let first = group as u64;
+        let fields = Fields {
+            first,
+            ..Fields::default()
+        };
+        match self.kind() {
+            Some(ErrorKind::CastOutOfRange) => Error { fields, ..self }.of_group(kind),
+            _ => self,
+        }
+    }
+
     /// Names the run at whose end the total does not fit, where that is what was refused.
     pub(crate) fn of_total(self, kind: Kind) -> Error {
         if self.kind() == Some(ErrorKind::CastOutOfRange) {
@@ -352,6 +365,14 @@ impl fmt::Display for What {
     }
 }
 
+/// Names what numbers of a type are.
+fn sort_of(kind: Kind) -> &'static str {
+    match kind.is_decimal() {
+        true => "decimal",
+        false => "integer",
+    }
+}
+
 impl fmt::Display for Error {
     fn fmt(&self, formatter: &mut fmt::Formatter<'_>) -> fmt::Result {
         match self.detail {
@@ -380,7 +401,8 @@ impl fmt::Display for Error {
             ),
             Detail::GroupOverflow(group, kind) => write!(
                 formatter,
-                "integer overflow: the sum of group {group} does not fit {kind}"
+                "{} overflow: the sum of group {group} does not fit {kind}",
+                sort_of(kind)
             ),
             Detail::TotalOverflow(run, kind) => write!(
                 formatter,
@@ -394,11 +416,7 @@ impl fmt::Display for Error {
             Detail::PairOverflow(left, sign, right, kind) => write!(
                 formatter,
                 "{} overflow: row {} is {left} {sign} {right}, which does not fit {kind}",
-                if kind.is_decimal() {
-                    "decimal"
-                } else {
-                    "integer"
-                },
+                sort_of(kind),
                 self.fields.first
             ),
         }

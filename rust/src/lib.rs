@@ -15,6 +15,8 @@
 //! assert_eq!(runs.decode()?.options::<i64>()?, rows);
 //! # Ok::<(), hivevigil::Error>(())
 //! ```
+//!
+//! [`Table`] has several named columns of one number of rows, and keeps them in files that Python reads and writes too.
 #![warn(missing_docs)]
 
 pub mod arrow;
@@ -37,6 +39,7 @@ mod raw;
 mod same;
 mod show;
 mod sorts;
+mod table;
 mod value;
 
 pub use builder::Builder;
@@ -49,6 +52,10 @@ pub use iterate::{Rows, Run, Runs};
 pub use kind::{Form, Kind};
 pub use native::Native;
 pub use parts::SplitBy;
+pub use table::{
+    ColumnFooter, Columns, Difference, Groups, Order, RowsFooter, SaveOptions, Table, TableError,
+    TableFooter, Threshold,
+};
 pub use value::{DecimalSum, Fold, Operator, Sum, SumParts, Value};
 
 /// Which kernels are registered, and the numbers by which they choose: form and cost, never an answer.

@@ -2,7 +2,7 @@
 use super::calls::{self, RawOptions, RawReader};
 use super::columns::{handles_of, lent, text_of, Passed};
 use super::error::ask;
-use super::{ArrowArrayStream, ArrowError, ArrowOptions, ArrowSchema};
+use super::{ArrowArray, ArrowArrayStream, ArrowError, ArrowOptions, ArrowSchema};
 use crate::column::turn_of;
 use crate::raw::Handle;
 use crate::{Column, Session};
@@ -157,6 +157,24 @@ impl ArrowArrayStream {
             0 => Ok(schema),
             number => {
                 std::mem::forget(schema); // what a stream leaves that failed is not a schema
+                Err(ArrowError::StreamFailed {
+                    number: number.into(),
+                    words: self.words(),
+                })
+            }
+        }
+    }
+
+    /// Takes the next array of the stream, `None` after the last; refused as [`ArrowError::StreamFailed`].
+    pub fn next_array(&mut self) -> Result<Option<ArrowArray>, ArrowError> {
+        let mut array = ArrowArray::empty();
+        let Some(get_next) = self.get_next.filter(|_| !self.is_released()) else {
+            return Err(ArrowError::Invalid(super::Flaw::Released));
+        };
+        match unsafe { get_next(self, &mut array) } {
+            0 => Ok(Some(array).filter(|array| !array.is_released())),
+            number => {
+                std::mem::forget(array); // what a stream leaves that failed is not an array
                 Err(ArrowError::StreamFailed {
                     number: number.into(),
                     words: self.words(),

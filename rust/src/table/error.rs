@@ -1,0 +1,187 @@
+//! Refusals of tables.
+use crate::arrow::ArrowError;
+use crate::{Error, Kind};
+use std::fmt;
+use std::io;
+use std::path::PathBuf;
+
+/// Says what a table refused; `Display` is a sentence, which names the column. Where a call is refused, the tables that
+/// it was given are as they were.
+///
+/// ```
+/// use hivevigil::{Column, Table, TableError};
+/// let levels = Column::new(&[900i32, 901])?;
+/// let refused = Table::try_from_iter([("level", levels.clone()), ("level", levels)]).unwrap_err();
+/// assert!(matches!(&refused, TableError::RepeatedName(name) if name == "level"));
+/// assert_eq!(refused.to_string(), "two columns have the name \"level\"");
+/// # Ok::<(), TableError>(())
+/// ```
+#[derive(Debug)]
+#[non_exhaustive]
+pub enum TableError {
+    /// Refuses what is asked of all rows, as a mask of another length.
+    Refused(Error),
+    /// Refuses what is asked of one column.
+    Column {
+        /// Names the column.
+        name: String,
+        /// Says why, as the call on the column does.
+        error: Error,
+    },
+    /// Says that no column has this name.
+    NoSuchColumn {
+        /// Has the name that was asked for.
+        name: String,
+        /// Lists the names that there are.
+        names: Vec<String>,
+    },
+    /// Says that two columns would have this name.
+    RepeatedName(String),
+    /// Says that a column does not have as many rows as the table.
+    UnevenRows {
+        /// Names the column.
+        name: String,
+        /// Counts its rows.
+        rows: usize,
+        /// Counts the rows of the table.
+        expected: usize,
+    },
+    /// Says how the columns of a table that is appended are others.
+    OtherColumns(Difference),
+    /// Says that rows are sorted or grouped by no column.
+    NoKeys,
+    /// Says that the bytes, or those of this file, are not what a table writes.
+    Damaged(Option<PathBuf>),
+    /// Says that a file is not read or not written.
+    File {
+        /// Names the file.
+        path: PathBuf,
+        /// Says why, as the system does.
+        error: io::Error,
+    },
+    /// Refuses what goes to Arrow or comes from there.
+    Arrow(ArrowError),
+}
+
+/// Says how the columns of one table differ from those of another.
+#[derive(Clone, Debug, PartialEq, Eq)]
+#[non_exhaustive]
+pub enum Difference {
+    /// Says that only the first table has a column of this name.
+    OnlyFirst(String),
+    /// Says that only the other table has one.
+    OnlyOther(String),
+    /// Says that the columns of this name have two types, of which one is not the other with null.
+    Kinds {
+        /// Names both columns.
+        name: String,
+        /// Has the type in the first table.
+        first: Kind,
+        /// Has that in the other.
+        other: Kind,
+    },
+    /// Says that the columns of this name have two logical types.
+    LogicalTypes {
+        /// Names both columns.
+        name: String,
+        /// Has that in the first table, if it has one.
+        first: Option<String>,
+        /// Has that in the other.
+        other: Option<String>,
+    },
+}
+
+impl TableError {
+    /// Names the column that a call refused.
+    pub(super) fn of(name: &str) -> impl Fn(Error) -> TableError + '_ {
+        |error| TableError::Column {
+            name: name.to_string(),
+            error,
+        }
+    }
+}
+
+impl From<Error> for TableError {
+    fn from(error: Error) -> TableError {
+        TableError::Refused(error)
+    }
+}
+
+impl From<ArrowError> for TableError {
+    fn from(error: ArrowError) -> TableError {
+        TableError::Arrow(error)
+    }
+}
+
+impl fmt::Display for Difference {
+    fn fmt(&self, formatter: &mut fmt::Formatter<'_>) -> fmt::Result {
+        let or_none =
+            |format: &Option<String>| format.clone().unwrap_or_else(|| "none".to_string());
+        match self {
+            Difference::OnlyFirst(name) => write!(formatter, "only the first has {name:?}"),
+            Difference::OnlyOther(name) => write!(formatter, "only the other has {name:?}"),
+            Difference::Kinds { name, first, other } => {
+                write!(formatter, "the types of {name:?} are {first} and {other}")
+            }
+            Difference::LogicalTypes { name, first, other } => {
+                let (first, other) = (or_none(first), or_none(other));
+                write!(
+                    formatter,
+                    "the logical types of {name:?} are {first} and {other}"
+                )
+            }
+        }
+    }
+}
+
+impl fmt::Display for TableError {
+    fn fmt(&self, formatter: &mut fmt::Formatter<'_>) -> fmt::Result {
+        match self {
+            TableError::Refused(error) => error.fmt(formatter),
+            TableError::Column { name, error } => write!(formatter, "column {name:?}: {error}"),
+            TableError::NoSuchColumn { name, names } => {
+                let some: Vec<&String> = names.iter().take(SHOWN).collect();
+                let more = if names.len() > SHOWN { ", .." } else { "" };
+                write!(
+                    formatter,
+                    "no column has the name {name:?}: the names are {some:?}{more}"
+                )
+            }
+            TableError::RepeatedName(name) => {
+                write!(formatter, "two columns have the name {name:?}")
+            }
+            TableError::UnevenRows {
+                name,
+                rows,
+                expected,
+            } => {
+                write!(
+                    formatter,
+                    "column {name:?} has {rows} rows, and the table {expected}"
+                )
+            }
+            TableError::OtherColumns(difference) => {
+                write!(formatter, "the tables have other columns: {difference}")
+            }
+            TableError::NoKeys => formatter.write_str("at least one column has the keys"),
+            TableError::Damaged(None) => formatter.write_str("the bytes are not those of a table"),
+            TableError::Damaged(Some(path)) => {
+                write!(formatter, "{} is not the file of a table", path.display())
+            }
+            TableError::File { path, error } => write!(formatter, "{}: {error}", path.display()),
+            TableError::Arrow(error) => error.fmt(formatter),
+        }
+    }
+}
+
+const SHOWN: usize = 4; // names in a sentence
+
+impl std::error::Error for TableError {
+    fn source(&self) -> Option<&(dyn std::error::Error + 'static)> {
+        match self {
+            TableError::Column { error, .. } => Some(error),
+            TableError::File { error, .. } => Some(error),
+            _ => None,
+        }
+    }
+}
