@@ -171,10 +171,19 @@ fi
 if has cargo && cargo --version >/dev/null 2>&1; then
     export CARGO_TARGET_DIR="$work/target"
     with="--quiet --offline --manifest-path rust/Cargo.toml"
-    run "rust, its tests and those of its pages" timeout 200 cargo test $with
+    run "rust, its tests and those of its pages" timeout 300 cargo test $with
     run "rust, the demonstration" timeout 100 cargo run $with --example demo
+    tables_exchanged() {
+        cargo build $with --example tables &&
+            timeout 200 "$python" -B examples/bytes/rust_tables.py "$CARGO_TARGET_DIR/debug/examples/tables" 300 1
+    }
+    if has "$python" && "$python" -c 'import ctypes' 2>/dev/null; then
+        run "bytes/rust_tables.py" tables_exchanged
+    else
+        skip "bytes/rust_tables.py" "$python"
+    fi
     # what owns the structs of Arrow, with the address sanitizer of the same compiler, where it lets one have it
-    arrow_tests="--test arrow --test arrow_broken --test arrow_streams"
+    arrow_tests="--test arrow --test arrow_broken --test arrow_streams --test table_arrow"
     if echo 'fn main() {}' >"$work/empty.rs" && RUSTC_BOOTSTRAP=1 rustc -Zsanitizer=address "$work/empty.rs" \
         -o "$work/empty" 2>/dev/null && "$work/empty"; then
         run "rust, Arrow under the address sanitizer" env RUSTC_BOOTSTRAP=1 RUSTFLAGS=-Zsanitizer=address \
