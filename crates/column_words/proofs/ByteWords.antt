@@ -6,7 +6,7 @@ use Rattle.hex.specs.Hex.{encode_upper}
 use Rattle.column_words.specs.Bytes.{byte_words}
 use Rattle.column_words.specs.Refusals.{behind_spaces}
 
-spaces_append : (words more : List (List ℕ)) → behind_spaces (words ++ more) ≡ behind_spaces words ++ behind_spaces more
+pub spaces_append : (words more : List (List ℕ)) → behind_spaces (words ++ more) ≡ behind_spaces words ++ behind_spaces more
 spaces_append [] more = refl
 spaces_append (word ∷ words) more = rw (spaces_append words more) (simp append_assoc)
 

@@ -1,5 +1,6 @@
 pub mod Bits
 pub mod Bytes
+pub mod Floats
 pub mod Numbers
 pub mod Refusals
 pub mod Rows

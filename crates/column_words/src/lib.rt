@@ -1,8 +1,9 @@
-//! The words of numbers, types, bits, bytes, rows and refusals, which the script and the vectors share.
+//! The words of numbers, floats, types, bits, bytes, rows and refusals, which the script and the vectors share.
 #![tactic(auto)]
 
 mod bits;
 mod bytes;
+mod floats;
 mod numbers;
 mod refusals;
 mod rows;
@@ -10,6 +11,7 @@ mod types;
 
 pub use bits::parse_bits;
 pub use bytes::{parse_byte, parse_bytes, push_byte, push_bytes};
+pub use floats::{parse_float, parse_format, push_float};
 pub use numbers::{parse_count, parse_integer};
 pub use refusals::push_refusal_words;
 pub use rows::{is_null_or_number, push_row_word, push_total_word};
