@@ -2,11 +2,13 @@
 #![tactic(auto)]
 
 pub mod arrays;
+mod batch;
 pub mod compress;
 pub mod compute;
 pub mod laws;
 mod strategies;
 
+pub use batch::{BatchError, ColumnBatch};
 pub use column_fields::RunEndMetadata;
 pub use column_ops::{ColumnOps, FlatOrder};
 pub use runend_aggregate::{SignedSum, SumAnswer, SumValue, UnsignedSum};

@@ -1,0 +1,44 @@
+use Rattle.std.proofs.Common.{ap, length, map}
+use Rattle.std.specs.String.{string_bytes}
+use Rattle.column_base.specs.Mask.{mask_bits}
+use Rattle.column_ops.specs.Filter.{filter_fault, filter_rows as selected_rows}
+use Rattle.runend_array.specs.Array.{column_of}
+use Rattle.runend_array.specs.Column.{column_dtype}
+use Rattle.vortex_runend.specs.Batches.{Batch}
+use Rattle.vortex_runend.proofs.Batches.{even_filter}
+use Rattle.vortex_runend.proofs.BatchCalls.{IsWorkedBatch, allowed_by_all, refused_by_all, some_columns, worked_batch}
+use Rattle.vortex_runend.proofs.batch.ColumnBatch.filter.Given as given
+use Rattle.vortex_runend.proofs.batch.ColumnBatch.filter.Goals as goal
+
+pub filter_each-requires-clause-some : goal.filter_each-requires-clause-some
+filter_each-requires-clause-some g c = rw c.deref.ensures.value (some_columns (map string_bytes c.self.inside.names.items) c.self.inside.columns.items c.self.invariant)
+
+pub filter_each-requires-clause-even : goal.filter_each-requires-clause-even
+filter_each-requires-clause-even g c = rw c.deref.ensures.value c.self.invariant.even
+
+worked : (g : given.Over) (c : goal.After-drop g)
+    → IsWorkedBatch (selected_rows (mask_bits c.args.mask.now)) column_dtype (map string_bytes c.self.inside.names.items) c.args.self.now c.replace.new.dest.items
+worked g c =
+    let own = c.self.inside in
+    worked_batch (selected_rows (mask_bits c.args.mask.now)) (even_filter (mask_bits c.args.mask.now)) column_dtype (map string_bytes own.names.items) c.args.self.now own.columns.items c.in_ok-kept.kept.items
+    c.replace.new.dest.items c.self.invariant (ap (λ (b : Batch). b.columns) c.self.view_is) (λ i. (c.replace.ensures.after i).items) (rw c.deref.ensures.value at c.in_ok-kept.ensures.rows)
+    (rw c.deref.ensures.value at c.in_ok-kept.ensures.dtypes)
+
+pub invariant_of-self : goal.invariant_of-self
+invariant_of-self g c = (worked g c).batch
+
+pub returns-clause-rows : goal.returns-clause-rows
+returns-clause-rows g c = (worked g c).shown
+
+pub returns-clause-dtypes : goal.returns-clause-dtypes
+returns-clause-dtypes g c = (worked g c).dtypes
+
+pub returns-clause-refused : goal.returns-clause-refused
+returns-clause-refused g c =
+    allowed_by_all (λ count. filter_fault (length (mask_bits c.args.mask.now)) count) (map column_of c.self.inside.columns.items) c.args.self.now (ap (λ (b : Batch). b.columns) c.self.view_is)
+    (rw c.deref.ensures.value at c.in_ok-kept.ensures.refused)
+
+pub returns-in_err-kept-clause-refused : goal.returns-in_err-kept-clause-refused
+returns-in_err-kept-clause-refused g c =
+    refused_by_all (λ count. filter_fault (length (mask_bits c.args.mask.now)) count) (map column_of c.self.inside.columns.items) c.args.self.now c.in_err-kept.field-0.0 c.from_residual.result
+    (ap (λ (b : Batch). b.columns) c.self.view_is) c.from_residual.ensures.1 (rw c.deref.ensures.value at c.in_err-kept.ensures.refused)

@@ -1,0 +1,30 @@
+use Rattle.std.proofs.Common.{◌∙◌, Bool, List, ap, length, map}
+use Rattle.std.specs.Prelude.{option_map}
+use Rattle.column_base.specs.Mask.{mask_bits}
+use Rattle.column_core.specs.Value.{Single}
+use Rattle.column_ops.specs.Filter.{filter_fault, filter_rows as selected_rows}
+use Rattle.runend_array.specs.Array.{column_of, rows}
+use Rattle.runend_array.specs.Column.{column_rows}
+use Rattle.vortex_runend.specs.Batches.{row_count}
+use Rattle.vortex_runend.proofs.BatchCalls.{mask_fits, refused_by_mask, refused_for_memory}
+use Rattle.vortex_runend.proofs.batch.ColumnBatch.filter_by.Goals as goal
+
+pub returns-clause-rows : goal.returns-clause-rows
+returns-clause-rows g c = record {
+  column = column_of c.in-Some.column.now;
+  named = c.in-Some.ensures.found;
+  compared = c.in_ok-mask.ensures.refused;
+  rows = c.in_ok-filtered.ensures.rows ∙ ap (λ (bits : List Bool). map (λ other. selected_rows bits (column_rows other)) c.args.self.now.columns) c.in_ok-mask.ensures.mask;
+}
+
+pub returns-in_err-mask-clause-refused : goal.returns-in_err-mask-clause-refused
+returns-in_err-mask-clause-refused g c =
+    refused_by_mask c.args.self.now c.args.name.now c.args.value.now.dtype (column_of c.in-Some.column.now) c.in_err-mask.field-0.0 c.from_residual.result c.from_residual.ensures.1
+    c.in-Some.ensures.found c.in_err-mask.ensures.refused
+
+pub returns-in_err-filtered-clause-refused : goal.returns-in_err-filtered-clause-refused
+returns-in_err-filtered-clause-refused g c =
+    let count = row_count c.args.self.now.columns in
+    let fits = mask_fits (mask_bits c.in_ok-mask.mask) c.args.operator (rows c.in-Some.column.now) (option_map Single c.args.value.now.value) count c.in_ok-mask.ensures.mask c.in-Some.ensures.even in
+    refused_for_memory c.args.self.now c.args.name.now c.args.value.now.dtype (column_of c.in-Some.column.now) c.in_err-filtered.field-0.0 (filter_fault (length (mask_bits c.in_ok-mask.mask)) count)
+    c.from_residual-in_err-filtered.result c.from_residual-in_err-filtered.ensures.1 c.in-Some.ensures.found fits c.in_err-filtered.ensures.refused

@@ -1,0 +1,44 @@
+use Rattle.std.proofs.Common.{ap, map}
+use Rattle.std.specs.String.{string_bytes}
+use Rattle.column_core.specs.PrimitiveForm.{optional_numbers, primitive_dtype}
+use Rattle.column_ops.specs.Nullable.{take_dtype}
+use Rattle.column_ops.specs.Take.{take_fault, take_rows as rows_at_indices}
+use Rattle.runend_array.specs.Array.{column_of}
+use Rattle.runend_array.specs.Column.{column_dtype}
+use Rattle.vortex_runend.specs.Batches.{Batch}
+use Rattle.vortex_runend.proofs.BatchCalls.{IsWorkedBatch, allowed_by_all, even_take, refused_by_all, some_columns, worked_batch}
+use Rattle.vortex_runend.proofs.batch.ColumnBatch.take.Given as given
+use Rattle.vortex_runend.proofs.batch.ColumnBatch.take.Goals as goal
+
+pub take_each-requires-clause-some : goal.take_each-requires-clause-some
+take_each-requires-clause-some g c = rw c.deref.ensures.value (some_columns (map string_bytes c.self.inside.names.items) c.self.inside.columns.items c.self.invariant)
+
+pub take_each-requires-clause-even : goal.take_each-requires-clause-even
+take_each-requires-clause-even g c = rw c.deref.ensures.value c.self.invariant.even
+
+worked : (g : given.Over) (c : goal.After-drop g)
+    → IsWorkedBatch (λ shown. rows_at_indices shown (optional_numbers c.args.indices.now)) (λ column. take_dtype (column_dtype column) (primitive_dtype c.args.indices.now)) (map string_bytes c.self.inside.names.items) c.args.self.now c.replace.new.dest.items
+worked g c =
+    let own = c.self.inside in
+    worked_batch (λ shown. rows_at_indices shown (optional_numbers c.args.indices.now)) (even_take (optional_numbers c.args.indices.now)) (λ column. take_dtype (column_dtype column) (primitive_dtype c.args.indices.now)) (map string_bytes own.names.items) c.args.self.now own.columns.items c.in_ok-taken.taken.items
+    c.replace.new.dest.items c.self.invariant (ap (λ (b : Batch). b.columns) c.self.view_is) (λ i. (c.replace.ensures.after i).items) (rw c.deref.ensures.value at c.in_ok-taken.ensures.rows)
+    (rw c.deref.ensures.value at c.in_ok-taken.ensures.dtypes)
+
+pub invariant_of-self : goal.invariant_of-self
+invariant_of-self g c = (worked g c).batch
+
+pub returns-clause-rows : goal.returns-clause-rows
+returns-clause-rows g c = (worked g c).shown
+
+pub returns-clause-dtypes : goal.returns-clause-dtypes
+returns-clause-dtypes g c = (worked g c).dtypes
+
+pub returns-clause-refused : goal.returns-clause-refused
+returns-clause-refused g c =
+    allowed_by_all (λ count. take_fault (optional_numbers c.args.indices.now) count) (map column_of c.self.inside.columns.items) c.args.self.now (ap (λ (b : Batch). b.columns) c.self.view_is)
+    (rw c.deref.ensures.value at c.in_ok-taken.ensures.refused)
+
+pub returns-in_err-taken-clause-refused : goal.returns-in_err-taken-clause-refused
+returns-in_err-taken-clause-refused g c =
+    refused_by_all (λ count. take_fault (optional_numbers c.args.indices.now) count) (map column_of c.self.inside.columns.items) c.args.self.now c.in_err-taken.field-0.0 c.from_residual.result
+    (ap (λ (b : Batch). b.columns) c.self.view_is) c.from_residual.ensures.1 (rw c.deref.ensures.value at c.in_err-taken.ensures.refused)

@@ -1,0 +1,47 @@
+use Rattle.std.proofs.Common.{◌∙◌, refl, arith}
+use Rattle.std.specs.Prelude.{slice_range}
+use Rattle.column_core.specs.Refusal.{range_fault}
+use Rattle.runend_array.specs.Array.{dtype_of, rows}
+use Rattle.vortex_runend.proofs.Batches.{all_worked, none_worked, refused_for_all, worked_more}
+use Rattle.vortex_runend.proofs.batch.columns.slice_each.Goals as goal
+
+pub loop-column-init : goal.loop-column-init
+loop-column-init g c = record {
+  worked = none_worked _ _ _ c.args.columns.now c.in_ok-kept.kept.items c.in_ok-kept.ensures.items;
+  room = c.in_ok-kept.ensures.capacity;
+  counted = c.in_ok-kept.ensures.len;
+  session = refl;
+}
+
+pub loop-column-preserved : goal.loop-column-preserved
+loop-column-preserved g c =
+    let l = c.loop-column in
+    record {
+      worked = worked_more (λ column. slice_range (rows column) c.args.start c.args.end)
+          dtype_of
+          (λ count. range_fault c.args.start c.args.end count)
+          c.args.columns.now l.kept.items c.push_reserved.new.self.items l.column-index c.column-item.result c.in_ok-part.part c.requires.even (omega arith) c.column-item.is
+          c.in_ok-part.ensures.refused c.in_ok-part.ensures.rows c.in_ok-part.ensures.dtype l.invariant.worked c.push_reserved.ensures.items;
+      room = omega (arith, c.push_reserved.ensures.capacity, l.invariant.room);
+      counted = omega (arith, c.push_reserved.ensures.len, l.invariant.counted);
+      session = c.in_ok-part.ensures.session ∙ l.invariant.session;
+    }
+
+pub returns-clause-refused : goal.returns-clause-refused
+returns-clause-refused g c = c.loop-column.invariant.worked.allowed (omega (arith, c.requires.some))
+
+pub returns-clause-rows : goal.returns-clause-rows
+returns-clause-rows g c =
+    let l = c.loop-column in
+    (all_worked _ _ _ c.args.columns.now l.kept.items l.column-index (omega arith) l.invariant.worked).0
+
+pub returns-clause-dtypes : goal.returns-clause-dtypes
+returns-clause-dtypes g c =
+    let l = c.loop-column in
+    (all_worked _ _ _ c.args.columns.now l.kept.items l.column-index (omega arith) l.invariant.worked).1
+
+pub returns-in_err-part-clause-refused : goal.returns-in_err-part-clause-refused
+returns-in_err-part-clause-refused g c =
+    refused_for_all (λ count. range_fault c.args.start c.args.end count)
+    c.args.columns.now c.loop-column.column-index c.column-item.result _ c.from_residual-in_err-part.result c.requires.even (omega arith) c.column-item.is
+    c.from_residual-in_err-part.ensures.1 c.in_err-part.ensures.refused

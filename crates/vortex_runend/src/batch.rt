@@ -1,0 +1,181 @@
+//! Several named columns of one number of rows, filtered, cut and taken together.
+mod columns;
+mod fault;
+mod masks;
+mod names;
+
+ghost use Rattle.std.specs.Prelude.{◌≡◌, IfErr, IfNone, IfOk, IfSome, OnErr, OnOk, length, map, option_map, slice_range};
+ghost use Rattle.std.specs.String.{string_bytes};
+ghost use Rattle.column_base.specs.Mask.{mask_bits};
+ghost use Rattle.column_core.specs.PrimitiveForm.{optional_numbers, primitive_dtype};
+ghost use Rattle.column_core.specs.Refusal.{IsRefusedBy, range_fault};
+ghost use Rattle.column_core.specs.Value.{Single};
+ghost use Rattle.column_ops.specs.Filter.{filter_fault, filter_rows as selected_rows};
+ghost use Rattle.column_ops.specs.Nullable.{take_dtype};
+ghost use Rattle.column_ops.specs.Take.{take_fault, take_rows as rows_at_indices};
+ghost use Rattle.runend_array.specs.Array.{column_of, rows};
+ghost use Rattle.runend_array.specs.Column.{column_dtype, column_rows};
+ghost use Rattle.vortex_runend.specs.Batches.{Batch, IsBatch, IsBatchError, IsFilterByError, IsFilteredBy, IsNamed, IsUnknown, dtypes_of, row_count, rows_of};
+
+use column_core::{Mask, PrimitiveArray, Scalar, VortexResult};
+use column_ops::CompareOperator;
+use columns::{filter_each, slice_each, take_each};
+pub use fault::BatchError;
+use masks::mask_by;
+use names::{fault_of_batch, place_of};
+use runend_array::{ArrayRef, ExecutionCtx};
+use std::alloc::Allocator;
+use std::marker::Model;
+use std::mem::replace;
+use std::ops::Range;
+
+/// Holds several named columns of one number of rows: Arrow's record batch. It has at least one column, and no name
+/// twice.
+#[derive(Drop)]
+pub struct ColumnBatch<A: Allocator> {
+    names: Vec<String<A>, A>,
+    // The column of each name.
+    columns: Vec<ArrayRef<A>, A>,
+}
+
+impl<A: Allocator> Model for ColumnBatch<A> {
+    ghost use Rattle.std.specs.Prelude.{map};
+    ghost use Rattle.std.specs.String.{string_bytes};
+    ghost use Rattle.runend_array.specs.Array.{column_of};
+    ghost use Rattle.vortex_runend.specs.Batches.{Batch, IsBatch, batch_code};
+
+    ghost Value = { Batch };
+
+    ghost coded = { batch_code };
+
+    ghost view = { λ b. record { names = map string_bytes b.names.items; columns = map column_of b.columns.items } };
+
+    ghost invariant = { λ b. IsBatch (map string_bytes b.names.items) (map column_of b.columns.items) };
+}
+
+impl<A: Allocator + Copy> ColumnBatch<A> {
+    /// Returns the columns under these names, each at the place of its name. Takes no memory. Refused, in this order,
+    /// as `NoColumns`; as `NameCount` where there is not one name for each column; as `RowCount` where a column has
+    /// another number of rows than the first; and as `RepeatedName` where two names are equal.
+    pub fn try_new(
+        names: Vec<String<A>, A>,
+        columns: Vec<ArrayRef<A>, A>,
+    ) -> Result<Self, BatchError>
+        ensures batch { IfOk result (λ batch.
+            batch ≡ record { names = map string_bytes names.items; columns = map column_of columns.items }) }
+        ensures accepted { IfOk result (λ batch. IsBatch batch.names batch.columns) }
+        ensures refused { IfErr result (IsBatchError (map string_bytes names.items) (map column_of columns.items)) }
+    {
+        match fault_of_batch(&names, &columns) {
+            Some(error) => Err(error),
+            None => Ok(ColumnBatch { names, columns }),
+        }
+    }
+
+    /// Returns how many rows each column has.
+    pub fn len(&self) -> usize
+        ensures { result ≡ row_count self.now.columns }
+    {
+        self.columns[0].len()
+    }
+
+    /// Returns the names, in the order of the columns.
+    pub fn names(&self) -> &[String<A>]
+        ensures { map string_bytes result.now ≡ self.now.names }
+    {
+        &self.names
+    }
+
+    /// Returns the column of this name, which has a row for each of the batch, or `None` where no column has it.
+    pub fn column(&self, name: &str) -> Option<&ArrayRef<A>>
+        ensures found { IfSome result (λ column. IsNamed self.now name.now (column_of column.now)) }
+        ensures even { IfSome result (λ column. length (rows column.now) ≡ row_count self.now.columns) }
+        ensures unknown { IfNone result (IsUnknown self.now.names name.now) }
+    {
+        let place = place_of(&self.names, name)?;
+        Some(&self.columns[place])
+    }
+
+    /// Leaves the rows at which the mask is true, in order, in each column: of each form what `arrays::filter` leaves.
+    /// Refused as `MaskLength` where the mask has not a bit for each row. A refusal leaves the batch as it was.
+    pub fn filter(&mut self, mask: &Mask<A>, ctx: &mut ExecutionCtx<A>) -> VortexResult<()>
+        ensures refused { IsRefusedBy (filter_fault (length (mask_bits mask.now)) (row_count self.old.columns)) result }
+        ensures rows { OnOk result (rows_of self.new ≡
+            map (λ column. selected_rows (mask_bits mask.now) (column_rows column)) self.old.columns) }
+        ensures dtypes { OnOk result (dtypes_of self.new ≡ dtypes_of self.old) }
+        ensures names { self.new.names ≡ self.old.names }
+        ensures kept { OnErr result (self.new ≡ self.old) }
+        ensures session { ctx.new ≡ ctx.old }
+    {
+        let kept = filter_each(&self.columns, mask, ctx)?;
+        drop(replace(&mut self.columns, kept));
+        Ok(())
+    }
+
+    /// Leaves the rows from `range.start` to `range.end` - 1 in each column: of each form what `arrays::slice` leaves.
+    /// Refused as `BadRange` where the start is past the end, or the end past the rows. A refusal leaves the batch as
+    /// it was.
+    pub fn slice(&mut self, range: Range<usize>, ctx: &mut ExecutionCtx<A>) -> VortexResult<()>
+        ensures refused { IsRefusedBy (range_fault range.start range.end (row_count self.old.columns)) result }
+        ensures rows { OnOk result (rows_of self.new ≡
+            map (λ column. slice_range (column_rows column) range.start range.end) self.old.columns) }
+        ensures dtypes { OnOk result (dtypes_of self.new ≡ dtypes_of self.old) }
+        ensures names { self.new.names ≡ self.old.names }
+        ensures kept { OnErr result (self.new ≡ self.old) }
+        ensures session { ctx.new ≡ ctx.old }
+    {
+        let parts = slice_each(&self.columns, range.start, range.end, ctx)?;
+        drop(replace(&mut self.columns, parts));
+        Ok(())
+    }
+
+    /// Leaves the row at each index, null at a null index, in each column: of each form what `arrays::take` leaves. The
+    /// types have null where the indices have. Refused as `OutOfBounds`, with the index and the number of rows, at the
+    /// first valid index that is negative or of no row. A refusal leaves the batch as it was.
+    pub fn take(
+        &mut self,
+        indices: &PrimitiveArray<A>,
+        ctx: &mut ExecutionCtx<A>,
+    ) -> VortexResult<()>
+        ensures refused { IsRefusedBy (take_fault (optional_numbers indices.now) (row_count self.old.columns)) result }
+        ensures rows { OnOk result (rows_of self.new ≡
+            map (λ column. rows_at_indices (column_rows column) (optional_numbers indices.now)) self.old.columns) }
+        ensures dtypes { OnOk result (dtypes_of self.new ≡
+            map (λ column. take_dtype (column_dtype column) (primitive_dtype indices.now)) self.old.columns) }
+        ensures names { self.new.names ≡ self.old.names }
+        ensures kept { OnErr result (self.new ≡ self.old) }
+        ensures session { ctx.new ≡ ctx.old }
+    {
+        let taken = take_each(&self.columns, indices, ctx)?;
+        drop(replace(&mut self.columns, taken));
+        Ok(())
+    }
+
+    /// Leaves the rows at which the operator holds of the row of the column of this name and the value, in order, in
+    /// each column. It does not hold where either is null. Refused as `UnknownName` where no column has the name, then
+    /// as `compare_scalar` refuses, else only as `OutOfMemory`. A refusal leaves the batch as it was.
+    pub fn filter_by(
+        &mut self,
+        name: &str,
+        operator: CompareOperator,
+        value: &Scalar<A>,
+        ctx: &mut ExecutionCtx<A>,
+    ) -> Result<(), BatchError>
+        ensures rows { OnOk result (IsFilteredBy self.old self.new name.now operator value.now.dtype
+            (option_map Single value.now.value)) }
+        ensures refused { IfErr result (IsFilterByError self.old name.now value.now.dtype) }
+        ensures dtypes { OnOk result (dtypes_of self.new ≡ dtypes_of self.old) }
+        ensures names { self.new.names ≡ self.old.names }
+        ensures kept { OnErr result (self.new ≡ self.old) }
+        ensures session { ctx.new ≡ ctx.old }
+    {
+        let Some(column) = self.column(name) else {
+            return Err(BatchError::UnknownName);
+        };
+        let mask = mask_by(column, operator, value, ctx)?;
+        let filtered = self.filter(&mask, ctx);
+        drop(mask);
+        filtered?;
+        Ok(())
+    }
+}
