@@ -85,7 +85,7 @@ if $cc $watched "$work/empty.c" -o "$work/empty" 2>/dev/null && "$work/empty"; t
     for test in errors answers refusals levels forms constants lists groups pairs sorts sums totals floats float_casts float_pairs decimals decimal_casts builders messages arrow_arrays; do
         run "c/$test.c under sanitizers" built "$cc" "$c_flags $watched" "examples/c/$test.c"
     done
-    for test in demo numbers decimal_casts spans; do
+    for test in demo numbers decimal_casts spans tables table_rows; do
         has "$cxx" && run "cpp/$test.cpp under sanitizers" built "$cxx" "$cxx_flags $watched" "examples/cpp/$test.cpp"
     done
     has "$cxx" && run "cpp/spans.cpp in C++20, under sanitizers" built "$cxx" "$cxx_flags -std=c++20 $watched" \
@@ -135,14 +135,21 @@ headers_alone() {
         cp "$work/alone.c" "$work/alone.cpp"
         $cc -std=c99 $warned "$work/alone.c" && $cxx -std=c++17 $warned "$work/alone.cpp" || return 1
     done
-    for test in demo numbers decimal_casts spans; do
+    for test in demo numbers decimal_casts spans tables table_rows table_tool; do
         $cxx -std=c++17 $warned "examples/cpp/$test.cpp" && $cxx -std=c++20 $warned "examples/cpp/$test.cpp" || return 1
     done
     echo "those of C and C++, and what is made of their templates"
 }
+# the program in C++ that docs/TABLES.md shows
+tables_page() {
+    sed -n '/^    #include/,/^    }$/s/^    //p' docs/TABLES.md >"$work/page.cpp"
+    (cd "$work" && "$cxx" -std=c++17 -Wall -Wextra -Werror "-I$top/include" page.cpp "$top/lib/libhivevigil.a" -o page &&
+        [ "$(./page)" = "$(printf 'north 903\nsouth 43')" ]) && echo "docs/TABLES.md, in C++"
+}
 if has "$cxx"; then
     run "headers alone, with every warning" headers_alone
-    for test in demo numbers decimal_casts spans; do run "cpp/$test.cpp" built "$cxx" "$cxx_flags -O2" "examples/cpp/$test.cpp"; done
+    run "the page of tables, in C++" tables_page
+    for test in demo numbers decimal_casts spans tables table_rows; do run "cpp/$test.cpp" built "$cxx" "$cxx_flags -O2" "examples/cpp/$test.cpp"; done
     run "cpp/spans.cpp in C++20" built "$cxx" "$cxx_flags -std=c++20 -O2" examples/cpp/spans.cpp
 else
     skip "cpp/demo.cpp" "$cxx"
@@ -209,6 +216,18 @@ if has "$python" && "$python" -c 'import ctypes' 2>/dev/null; then
     run "python/threads.py" timeout 60 "$python" examples/python/threads.py --rows 300000 --threads 4
 else
     skip "python/demo.py and threads.py" "$python"
+fi
+
+# the files of tables that C++ and Python write of the same rows
+table_files_agree() {
+    $cxx $cxx_flags ${1:--O2} examples/cpp/table_tool.cpp lib/libhivevigil.a -o "$work/table_tool" &&
+        timeout 300 "$python" -B examples/cpp/table_files.py "$work/table_tool" --tables "$2"
+}
+if has "$cxx" && has "$python" && "$python" -c 'import ctypes' 2>/dev/null; then
+    run "cpp/table_files.py" table_files_agree "" 200
+    [ "$arrow_how" ] && run "cpp/table_files.py$arrow_how" table_files_agree "$watched" 30
+else
+    skip "cpp/table_files.py" "$cxx and Python"
 fi
 
 if found=$(python_with numpy); then

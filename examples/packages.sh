@@ -64,11 +64,11 @@ readme_program() {
 # a C++ program by CMake over what is installed below $1
 cpp_program() {
     cat >main.cpp <<'CPP'
-#include <hivevigil.hpp>
+#include <hivevigil_table.hpp>
 #include <iostream>
 int main() {
-    const hv::Column column = hv::Column::of(std::vector<int64_t>{4, 4, 4, 7, 7, 9}).encode();
-    for (const hv::Run &run : column.runs()) std::cout << run.size() << " of " << std::get<int64_t>(run.value) << "\n";
+    const hv::Table table{{"level", hv::Column::of(std::vector<int64_t>{4, 4, 4, 7, 7, 9}).encode()}};
+    for (const hv::Run &run : table["level"].runs()) std::cout << run.size() << " of " << std::get<int64_t>(run.value) << "\n";
 }
 CPP
     cat >CMakeLists.txt <<'CMAKE'

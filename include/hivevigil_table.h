@@ -8,10 +8,10 @@
  *     hv_table_free(&high);
  *     hv_table_free(&table);
  *
- * A call answers 0, a number of hivevigil.h, or one of hivevigil_table_errors.h, which has the sentences of all; `error`
- * is not null. After a refusal every table and column is as it was, `out` too. After 0 `out` has the table that was made,
- * whose columns share buffers with those of the first, and the one that it had before is freed: `out` may be the table
- * that is lent. */
+ * A call answers 0, a number of hivevigil.h, or one of hivevigil_table_errors.h, which has the sentences of all;
+ * `error` is not null. After a refusal every table and column is as it was, `out` too. After 0 `out` has the table that
+ * was made, whose columns share buffers with those of the first, and the one that it had before is freed: `out` may be
+ * the table that is lent. hivevigil_table.hpp has more of them in C++: order, groups, files, Arrow. */
 #ifndef HIVEVIGIL_TABLE_H
 #define HIVEVIGIL_TABLE_H
 #include "hivevigil_arrow.h"
@@ -127,7 +127,7 @@ static inline int32_t hv_table_check_names(const char *const *names, size_t coun
 /* ---- Made ---- */
 
 /* The columns, cloned, by name; `logical_types` may be null, and so may each of them. 12 for a text that is not UTF-8,
- * 202 (place, place) for a name twice, 22 where there is no column, 11 (rows of the first, rows) for another number of
+ * 202 (place, place) for a name twice, 22 for a handle without one, 11 (rows of the first, rows) for another number of
  * rows. */
 HV_ANSWER hv_table_new(const char *const *names, const char *const *logical_types, const hv_column *columns,
                        size_t count, hv_table *out, hv_error *error) {

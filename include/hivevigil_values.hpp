@@ -31,7 +31,7 @@ public:
     const int32_t number;
     const hv_error fields;
     // "HV_OUT_OF_BOUNDS"
-    const char *name() const { return hv_error_name(number); }
+    virtual const char *name() const { return hv_error_name(number); }
 
 private:
     static std::string text_of(int32_t answer, hv_error of_answer) {

@@ -108,61 +108,6 @@ std::string text_of_float(double number) {
     return (std::signbit(number) ? "-" : "") + digits.insert(before, ".");
 }
 
-// ---- Bits ----
-
-// How many bits a float of a width has after the point, and what is added to its power of two.
-struct Layout {
-    int places, bias;
-};
-
-static Layout layout_of(int width) {
-    switch (width) {
-    case 16: return {10, 15};
-    case 32: return {23, 127};
-    default: return {52, 1023};
-    }
-}
-
-static uint64_t bits_of_infinity(const Layout &layout) {
-    return static_cast<uint64_t>(2 * layout.bias + 1) << layout.places;
-}
-
-static uint64_t sign_bit(int width) { return uint64_t{1} << (width - 1); }
-
-int64_t key_of_bits(uint64_t bits, int width) {
-    const uint64_t sign = sign_bit(width);
-    return bits < sign ? static_cast<int64_t>(bits) : -static_cast<int64_t>(bits - sign) - 1;
-}
-
-uint64_t bits_of_key(int64_t key, int width) {
-    return key >= 0 ? static_cast<uint64_t>(key) : static_cast<uint64_t>(-(key + 1)) + sign_bit(width);
-}
-
-double float_of_bits(uint64_t bits, int width) {
-    const Layout layout = layout_of(width);
-    const uint64_t size = bits & ~sign_bit(width), infinity = bits_of_infinity(layout);
-    const double sign = bits & sign_bit(width) ? -1 : 1;
-    if (size >= infinity) return size == infinity ? sign * HUGE_VAL : std::nan("");
-    const int power = static_cast<int>(size >> layout.places);
-    const uint64_t one = uint64_t{1} << layout.places, fraction = size & (one - 1);
-    return sign * std::ldexp(static_cast<double>(power ? one + fraction : fraction),
-                             std::max(power, 1) - layout.bias - layout.places);
-}
-
-uint64_t bits_toward_zero(double number, int width) {
-    const Layout layout = layout_of(width);
-    const uint64_t infinity = bits_of_infinity(layout), sign = std::signbit(number) ? sign_bit(width) : 0;
-    if (std::isnan(number)) return infinity + (uint64_t{1} << (layout.places - 1)); // a quiet one
-    if (std::isinf(number)) return sign + infinity;
-    if (number == 0) return sign;
-    int power = 0;
-    std::frexp(number, &power);
-    const int biased = std::max(power - 1 + layout.bias, 1); // also of numbers near to 0, which are spaced so
-    if (biased > 2 * layout.bias) return sign + infinity - 1;
-    const double scaled = std::ldexp(std::fabs(number), layout.places + layout.bias - biased);
-    return sign + (static_cast<uint64_t>(biased - 1) << layout.places) + static_cast<uint64_t>(scaled);
-}
-
 // ---- Comparisons ----
 
 FloatComparison float_comparison(hv::Operator by, const std::string &text, int width) {
@@ -173,12 +118,5 @@ FloatComparison float_comparison(hv::Operator by, const std::string &text, int w
     const double finite = std::isinf(*near) ? std::copysign(std::numeric_limits<double>::max(), *near) : *near;
     const uint64_t bits = bits_toward_zero(finite, width);
     const int order = compared(*number, exact_digits(float_of_bits(bits, width)));
-    if (order == 0) return {by, bits};
-    // between two floats: no row equals it, and a row is below it where it is at most the lower of both
-    if (by == hv::Operator::equal || by == hv::Operator::not_equal)
-        return {by, bits_toward_zero(std::nan(""), width)};
-    const bool is_below = by == hv::Operator::less || by == hv::Operator::less_or_equal;
-    const int64_t key = key_of_bits(bits, width); // of a zero with the sign of the number, where it is next to 0
-    return {is_below ? hv::Operator::less_or_equal : hv::Operator::greater,
-            bits_of_key(order > 0 ? key : key - 1, width)};
+    return hv::detail::float_comparison(by, bits, order, width);
 }

@@ -2,7 +2,7 @@
 // are what columns of floats store.
 #ifndef HIVEVIGIL_PROGRAM_FLOATS_HPP
 #define HIVEVIGIL_PROGRAM_FLOATS_HPP
-#include <hivevigil.hpp>
+#include <hivevigil_float_bits.hpp>
 #include <string>
 
 // ---- Texts ----
@@ -17,20 +17,14 @@ std::string text_of_float(double number);
 
 // ---- Bits and keys, of floats of a width in bits ----
 
-// The place of a float in the total order of IEEE 754, counted from 0.0, and the float in a place.
-int64_t key_of_bits(uint64_t bits, int width);
-uint64_t bits_of_key(int64_t key, int width);
-double float_of_bits(uint64_t bits, int width);
-// The float of this width that is nearest on the side of 0: of a finite number a finite one.
-uint64_t bits_toward_zero(double number, int width);
+using hv::detail::bits_of_key;
+using hv::detail::bits_toward_zero;
+using hv::detail::float_of_bits;
+using hv::detail::FloatComparison;
+using hv::detail::key_of_bits;
 
-// A comparison with a float by IEEE 754, given by its bits.
-struct FloatComparison {
-    hv::Operator by;
-    uint64_t bits;
-};
-// One that answers as that with the number of a text, which may lie between two floats, or past all. Throws a Failure
-// where the text is not a number.
+// A comparison that answers as that with the number of a text, which may lie between two floats, or past all. Throws a
+// Failure where the text is not a number.
 FloatComparison float_comparison(hv::Operator by, const std::string &text, int width);
 
 #endif

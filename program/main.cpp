@@ -146,12 +146,6 @@ static void report(const Arguments &arguments) {
     std::printf("%s bytes flat, %s in runs\n", with_commas(all_flat).c_str(), with_commas(all_in_runs).c_str());
 }
 
-static std::vector<std::string> names_of(const Table &table) {
-    std::vector<std::string> names;
-    for (const NamedColumn &named : table.columns) names.push_back(named.name);
-    return names;
-}
-
 // What a refusal within is about: the file.
 template <class Work> static auto about_file(const Arguments &arguments, Work work) {
     try {
@@ -162,15 +156,15 @@ template <class Work> static auto about_file(const Arguments &arguments, Work wo
 }
 
 // What --sort asks for: nothing where it is not given.
-static std::vector<SortKey> asked_keys(const Arguments &arguments, const std::vector<std::string> &names) {
+static std::vector<hv::SortKey> asked_keys(const Arguments &arguments, const std::vector<std::string> &names) {
     const std::optional<std::string> asked = arguments.value("sort");
-    return about_file(arguments, [&] { return asked ? sort_keys(*asked, names) : std::vector<SortKey>(); });
+    return about_file(arguments, [&] { return asked ? sort_keys(*asked, names) : std::vector<hv::SortKey>(); });
 }
 
 // The rows in the order that --sort asks for.
-static Table in_order(const Arguments &arguments, Table table) {
-    const std::vector<SortKey> keys = asked_keys(arguments, names_of(table));
-    return keys.empty() ? std::move(table) : sorted_table(std::move(table), keys);
+static hv::Table in_order(const Arguments &arguments, hv::Table table) {
+    const std::vector<hv::SortKey> keys = asked_keys(arguments, table.names());
+    return keys.empty() ? std::move(table) : table.sort(keys);
 }
 
 static void convert(const Arguments &arguments) {
@@ -183,20 +177,21 @@ static void convert(const Arguments &arguments) {
             throw BadUsage("--" + std::string(option) + " is of a table, and --column keeps a column");
     std::vector<CsvColumn> found = read_csv(csv_options(arguments));
     if (is_one) return save_column(found[0].runs, found[0].type, to);
-    Table table{found.empty() ? 0 : found[0].runs.size(), {}};
+    std::vector<hv::NamedColumn> columns;
     for (CsvColumn &column : found) {
         const std::string format = column.type.logical ? column.type.logical->format() : "";
-        table.columns.push_back({column.name, format, std::move(column.runs)});
+        columns.push_back({column.name, std::move(column.runs), format});
     }
-    save_table(in_order(arguments, std::move(table)), to, arguments.has("differences"));
+    in_order(arguments, hv::Table(std::move(columns))).save(to, arguments.has("differences"));
 }
 
 // The column that is asked for: that of the file, or of --column of a table.
-static NamedColumn asked_column(const Arguments &arguments, const StoredFile &file) {
+static StoredColumn asked_column(const Arguments &arguments, const hv::StoredFile &file) {
     const std::optional<std::string> name = arguments.value("column");
     if (name && !is_table(file)) throw Failure(file.path() + " is not the file of a table, and its column has no name");
     if (!name) return load_column(file);
-    return std::move(load_table(file, std::vector<std::string>{*name}).columns[0]);
+    const hv::Table table = load_table(file, std::vector<std::string>{*name});
+    return {table[*name].clone(), table.at(*name).logical_type, footer_of(file)[*name].size};
 }
 
 // How many of the rows that are there --rows and --from ask for: the first, and the row after the last.
@@ -205,19 +200,19 @@ static std::pair<size_t, size_t> asked_rows(const Arguments &arguments, size_t r
     return {start, start + std::min(count_of(arguments.needed("rows"), "rows"), rows - start)};
 }
 
-static void show_table(const Arguments &arguments, const StoredFile &file) {
+static void show_table(const Arguments &arguments, const hv::StoredFile &file) {
     if (arguments.has("runs")) throw BadUsage("--runs of a table takes --column too");
-    Table table = load_table(file);
+    hv::Table table = load_table(file);
     if (arguments.has("rows")) {
-        const auto asked = asked_rows(arguments, table.rows);
+        const auto asked = asked_rows(arguments, table.rows());
         table = in_order(arguments, std::move(table));
         return about_file(arguments, [&] { print_table_rows(table, asked.first, asked.second); });
     }
     size_t in_memory = 0;
-    for (const NamedColumn &named : table.columns) in_memory += named.column.bytes_used();
-    print_table(lines_of_table(table));
-    std::printf("%s rows, %s columns; %s bytes in the file, %s in memory\n", with_commas(table.rows).c_str(),
-                with_commas(table.columns.size()).c_str(), with_commas(file.size()).c_str(),
+    for (const hv::NamedColumn &named : table) in_memory += named.column.bytes_used();
+    print_table(lines_of_table(table, footer_of(file)));
+    std::printf("%s rows, %s columns; %s bytes in the file, %s in memory\n", with_commas(table.rows()).c_str(),
+                with_commas(table.size()).c_str(), with_commas(file.size()).c_str(),
                 with_commas(in_memory).c_str());
 }
 
@@ -228,18 +223,18 @@ static void show(const Arguments &arguments) {
     for (const char *option : {"from", "sort"})
         if (arguments.has(option) && !rows) throw BadUsage("--" + std::string(option) + " takes --rows too");
     if (rows) asked_rows(arguments, 0);
-    const StoredFile file(arguments.words[1]);
+    const hv::StoredFile file(arguments.words[1]);
     if (is_table(file) && !arguments.has("column")) return show_table(arguments, file);
     if (arguments.has("sort")) throw BadUsage("--sort is of the rows of a table, and this is one column");
-    const NamedColumn named = asked_column(arguments, file);
-    const Column &column = named.column;
-    if (runs) return about_file(arguments, [&] { print_runs(column, named.type()); });
+    const StoredColumn stored = asked_column(arguments, file);
+    const Column &column = stored.column;
+    if (runs) return about_file(arguments, [&] { print_runs(column, stored.type()); });
     if (rows) {
         const auto asked = asked_rows(arguments, column.size());
-        return about_file(arguments, [&] { print_rows(column, named.type(), asked.first, asked.second); });
+        return about_file(arguments, [&] { print_rows(column, stored.type(), asked.first, asked.second); });
     }
-    std::printf("%s, %s null; %s bytes in the file, %s in memory\n", summary_of(column, named.type()).c_str(),
-                with_commas(column.size() - count_valid(column)).c_str(), with_commas(named.message_bytes).c_str(),
+    std::printf("%s, %s null; %s bytes in the file, %s in memory\n", summary_of(column, stored.type()).c_str(),
+                with_commas(column.size() - count_valid(column)).c_str(), with_commas(stored.message_bytes).c_str(),
                 with_commas(column.bytes_used()).c_str());
 }
 
@@ -255,20 +250,21 @@ static void answer(const Arguments &arguments, const Column &rows, const RowType
 }
 
 // Reads only the columns that are asked for.
-static void query_table(const Arguments &arguments, const StoredFile &file, const std::vector<std::string> &texts) {
+static void query_table(const Arguments &arguments, const hv::StoredFile &file, const std::vector<std::string> &texts) {
     const bool filters = arguments.words[2] == "filter", is_one = arguments.has("column");
-    const std::vector<std::string> names = names_of_table(file);
+    std::vector<std::string> names;
+    for (const hv::ColumnFooter &column : footer_of(file).columns) names.push_back(column.name);
     std::vector<NamedCondition> conditions;
     for (const std::string &text : texts) conditions.push_back(named_condition(text, names));
     std::vector<std::string> wanted = is_one || !filters ? std::vector{arguments.needed("column")} : names;
     for (const NamedCondition &asked : conditions) wanted.push_back(asked.name);
-    for (const SortKey &key : asked_keys(arguments, names)) wanted.push_back(key.name);
-    const Table rows = in_order(arguments, table_where(load_table(file, wanted), conditions));
+    for (const hv::SortKey &key : asked_keys(arguments, names)) wanted.push_back(key.name);
+    const hv::Table rows = in_order(arguments, table_where(load_table(file, wanted), conditions));
     if (is_one) {
-        const NamedColumn &named = column_of_table(rows, wanted[0]);
-        answer(arguments, named.column, named.type());
-    } else if (arguments.has("to")) save_table(rows, *arguments.value("to"), arguments.has("differences"));
-    else about_file(arguments, [&] { print_table_rows(rows, 0, rows.rows); });
+        const hv::NamedColumn &named = rows.at(wanted[0]);
+        answer(arguments, named.column, type_of(named));
+    } else if (arguments.has("to")) rows.save(*arguments.value("to"), arguments.has("differences"));
+    else about_file(arguments, [&] { print_table_rows(rows, 0, rows.rows()); });
 }
 
 static void query(const Arguments &arguments) {
@@ -286,15 +282,15 @@ static void query(const Arguments &arguments) {
         texts.insert(texts.end(), arguments.options.at("where").begin(), arguments.options.at("where").end());
     for (const std::string &text : texts)
         if (!has_operator(text)) condition_of_text(text);
-    const StoredFile file(arguments.words[1]);
+    const hv::StoredFile file(arguments.words[1]);
     if (is_table(file)) return query_table(arguments, file, texts);
     for (const char *option : {"differences", "sort"})
         if (arguments.has(option))
             throw Failure(file.path() + " is not the file of a table, which --" + option + " is of");
     std::vector<Condition> conditions;
     for (const std::string &text : texts) conditions.push_back(condition_of_text(text));
-    const NamedColumn named = asked_column(arguments, file);
-    answer(arguments, rows_where(named.column, named.type(), conditions), named.type());
+    const StoredColumn stored = asked_column(arguments, file);
+    answer(arguments, rows_where(stored.column, stored.type(), conditions), stored.type());
 }
 
 static void run(const Arguments &arguments) {
@@ -312,7 +308,8 @@ static void run(const Arguments &arguments) {
     try {
         found->second(arguments);
     } catch (const hv::Error &error) {
-        throw Failure(about + error.what());
+        const bool is_named = error.number == HV_TABLE_FILE_REFUSED; // as the file that is written, in the sentence
+        throw Failure((is_named ? "" : about) + error.what());
     } catch (const std::bad_alloc &) {
         throw Failure(about + "out of memory");
     }

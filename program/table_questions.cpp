@@ -34,44 +34,34 @@ NamedCondition named_condition(const std::string &text, const std::vector<std::s
 }
 
 // Row by row whether it meets the condition: of runs each value is compared once.
-static Column mask_of(const NamedColumn &named, const Condition &condition) {
+static Column mask_of(const hv::NamedColumn &named, const Condition &condition) {
     const Column &column = named.column;
     const auto compared = [&](const Column &rows) {
-        return compare_with_text(rows, named.type(), condition.by, condition.value);
+        return compare_with_text(rows, type_of(named), condition.by, condition.value);
     };
     if (column.form() != Form::runs) return compared(column);
     return Column::runs(column.ends(), compared(column.values()), column.offset(), column.size());
 }
 
-Table table_where(Table table, const std::vector<NamedCondition> &conditions) {
-    for (const NamedCondition &asked : conditions) {
-        const Column mask = mask_of(column_of_table(table, asked.name), asked.condition);
-        for (NamedColumn &named : table.columns) named.column = named.column.filter(mask);
-        table.rows = table.columns[0].column.size();
-    }
-    return table;
+hv::Table table_where(const hv::Table &table, const std::vector<NamedCondition> &conditions) {
+    hv::Table rows = table.clone();
+    for (const NamedCondition &asked : conditions) rows = rows.filter(mask_of(rows.at(asked.name), asked.condition));
+    return rows;
 }
 
-const NamedColumn &column_of_table(const Table &table, const std::string &name) {
-    const auto found = std::find_if(table.columns.begin(), table.columns.end(),
-                                    [&](const NamedColumn &named) { return named.name == name; });
-    if (found == table.columns.end()) throw Failure("no column has the name '" + name + "'");
-    return *found;
-}
-
-std::vector<std::vector<std::string>> lines_of_table(const Table &table) {
+std::vector<std::vector<std::string>> lines_of_table(const hv::Table &table, const hv::TableFooter &footer) {
     std::vector<std::vector<std::string>> lines = {
         {"column", "type", "nulls", "runs", "bytes in file", "bytes in memory"}};
-    for (const NamedColumn &named : table.columns) {
+    for (const hv::NamedColumn &named : table) {
         const Column &column = named.column;
         const bool is_list = column.kind().number == HV_LIST;
-        const RowType type = named.type();
+        const RowType type = type_of(named);
         const bool is_known = type.logical || named.logical_type.empty();
         const std::string unknown = is_known ? "" : " " + csv_field(named.logical_type);
         lines.push_back({csv_field(named.name), to_string(type) + unknown,
                          with_commas(column.size() - count_valid(column)),
                          is_list ? "" : with_commas(column.encode_rows().runs().size()),
-                         with_commas(named.message_bytes), with_commas(column.bytes_used())});
+                         with_commas(footer[named.name].size), with_commas(column.bytes_used())});
     }
     return lines;
 }
@@ -82,15 +72,15 @@ static void print_line(const std::vector<std::string> &fields) {
     std::fwrite((line + "\n").data(), 1, line.size() + 1, stdout);
 }
 
-void print_table_rows(const Table &table, size_t start, size_t stop) {
+void print_table_rows(const hv::Table &table, size_t start, size_t stop) {
     std::vector<std::string> names;
-    for (const NamedColumn &named : table.columns) names.push_back(csv_field(named.name));
+    for (const hv::NamedColumn &named : table) names.push_back(csv_field(named.name));
     print_line(names);
     for (const size_t step = 4096; start < stop; start += step) {
         const size_t end = std::min(stop, start + step);
         std::vector<std::vector<std::string>> columns;
-        for (const NamedColumn &named : table.columns)
-            columns.push_back(fields_of_rows(named.column, named.type(), start, end));
+        for (const hv::NamedColumn &named : table)
+            columns.push_back(fields_of_rows(named.column, type_of(named), start, end));
         for (size_t row = 0; row < end - start; row++) {
             std::vector<std::string> fields;
             for (const std::vector<std::string> &column : columns) fields.push_back(column[row]);

@@ -14,16 +14,13 @@ struct NamedCondition {
 NamedCondition named_condition(const std::string &text, const std::vector<std::string> &names);
 
 // The rows that meet all conditions; a null meets none. Throws a Failure for a value that the type cannot have.
-Table table_where(Table table, const std::vector<NamedCondition> &conditions);
-
-// The column of a name, which the table has.
-const NamedColumn &column_of_table(const Table &table, const std::string &name);
+hv::Table table_where(const hv::Table &table, const std::vector<NamedCondition> &conditions);
 
 // A line for each column: its name, its type (and a format of Arrow that is not of such integers), rows that are null,
 // runs, bytes in the file and in memory.
-std::vector<std::vector<std::string>> lines_of_table(const Table &table);
+std::vector<std::vector<std::string>> lines_of_table(const hv::Table &table, const hv::TableFooter &footer);
 
 // Writes the names, then rows `start` to `stop` - 1, as a CSV file.
-void print_table_rows(const Table &table, size_t start, size_t stop);
+void print_table_rows(const hv::Table &table, size_t start, size_t stop);
 
 #endif

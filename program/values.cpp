@@ -120,9 +120,3 @@ bool are_texts(const std::vector<std::string> &texts) {
         throw;
     }
 }
-
-std::string with_commas(size_t number) {
-    std::string digits = std::to_string(number);
-    for (size_t end = digits.size(); end > 3;) digits.insert(end -= 3, ",");
-    return digits;
-}

@@ -1,7 +1,7 @@
 // Values and types as texts: fields of a CSV file, arguments, and what is printed.
 #ifndef HIVEVIGIL_PROGRAM_VALUES_HPP
 #define HIVEVIGIL_PROGRAM_VALUES_HPP
-#include <hivevigil.hpp>
+#include <hivevigil_table.hpp>
 #include <string>
 
 // Digits before and after the point of a number as it is written: -12.50 has two of both. None where the text is not a
@@ -33,6 +33,6 @@ std::string json_of(const hv::Value &value);
 bool are_texts(const std::vector<std::string> &texts);
 
 // "1,234,567"
-std::string with_commas(size_t number);
+using hv::detail::with_commas;
 
 #endif

@@ -1,16 +1,30 @@
-#include "differences.hpp"
+// Columns of integers as differences, in files of tables: of each row that is not null to the one before it that is
+// not, and of the first one to 0. docs/BYTES.md says when a file has them, and in which form a column comes back. A
+// part of hivevigil_table.hpp, which includes it.
+#ifndef HIVEVIGIL_TABLE_DIFFERENCES_HPP
+#define HIVEVIGIL_TABLE_DIFFERENCES_HPP
+#include "hivevigil.hpp"
 #include <algorithm>
 #include <limits>
 
-using hv::Bytes;
-using hv::Column;
-using Wide = hv::detail::Wide;
+namespace hv {
+
+namespace detail {
+
+// The form of a column that is kept so, by its number in docs/table.proto.
+enum KeptForm : uint64_t { kept_rows = 0, kept_flat = 1, kept_runs = 2 };
+
+// A column as differences: its form, and their message.
+struct KeptColumn {
+    KeptForm form;
+    Bytes message;
+};
 
 // Rows that are written out, or runs, since a few bytes may say that there are many.
-static constexpr uint64_t most = uint64_t{1} << 26;
+inline constexpr uint64_t most_kept = uint64_t{1} << 26;
 
 // What is done with integers of the type of a column, by a number of that type.
-template <class Work> static auto of_type(hv_kind kind, Work work) {
+template <class Work> auto by_type(hv_kind kind, Work work) {
     switch (kind.number) {
     case HV_U8: return work(uint8_t{});
     case HV_U16: return work(uint16_t{});
@@ -23,53 +37,50 @@ template <class Work> static auto of_type(hv_kind kind, Work work) {
     }
 }
 
-static bool is_whole(hv_kind kind) { return kind.number <= HV_I64; }
-
-template <class T> static bool fits(Wide number) {
+template <class T> bool has_number(Wide number) {
     return number >= std::numeric_limits<T>::min() && number <= std::numeric_limits<T>::max();
 }
 
 // The runs of an encoding: where each stops, its value, and whether it has one.
-template <class T> struct RunParts {
+template <class T> struct NumberRuns {
     std::vector<uint64_t> stops;
     std::vector<T> numbers;
     std::vector<bool> valid;
 
-    explicit RunParts(const Column &encoding) {
+    explicit NumberRuns(const Column &encoding) {
         const Column values = encoding.values().decode();
         stops.resize(values.size());
-        hv::detail::ask([&](auto *error) {
-            return hv_read_ends_u64(encoding.raw(), 0, stops.data(), stops.size(), error);
-        });
+        ask([&](auto *error) { return hv_read_ends_u64(encoding.raw(), 0, stops.data(), stops.size(), error); });
         numbers = values.numbers<T>();
         valid = values.validity();
     }
 };
 
+// Which rows of a type with null are null: by bits, which outlive the answer, only where some are.
+inline hv_validity nulls_by(const std::vector<bool> &valid, Bytes &bits) {
+    if (std::find(valid.begin(), valid.end(), false) == valid.end()) return hv_all_valid();
+    bits = bits_of(valid);
+    return hv_valid_bits(bits.data(), bits.size(), 0);
+}
+
 // The flat column of numbers, of which those are null whose flag is false.
-template <class T>
-static Column flat_of(const std::vector<T> &numbers, const std::vector<bool> &valid, bool nullable) {
-    const bool has_null = std::find(valid.begin(), valid.end(), false) != valid.end();
-    const Bytes bits = has_null ? hv::detail::bits_of(valid) : Bytes();
-    const hv_validity validity = has_null   ? hv_valid_bits(bits.data(), bits.size(), 0)
-                                 : nullable ? hv_all_valid()
-                                            : hv_not_nullable();
+template <class T> Column flat_of(const std::vector<T> &numbers, const std::vector<bool> &valid, bool with_null) {
+    Bytes bits;
+    const hv_validity validity = with_null ? nulls_by(valid, bits) : hv_not_nullable();
     Column made;
-    hv::detail::ask([&](auto *error) {
-        return hv::detail::Native<T>::make(numbers.data(), numbers.size(), validity, made.raw(), error);
-    });
+    ask([&](auto *error) { return Native<T>::make(numbers.data(), numbers.size(), validity, made.raw(), error); });
     return made;
 }
 
-static Column runs_of(const std::vector<uint64_t> &ends, const Column &values) {
+inline Column runs_of(const std::vector<uint64_t> &ends, const Column &values) {
     return Column::runs(Column::of(ends), values, 0, ends.empty() ? 0 : ends.back()).encode_rows();
 }
 
 // ---- Written ----
 
 // The differences of a column in runs: of each run its own, then as many zeros as it has more rows.
-template <class T> static std::optional<Column> differences_of(const Column &column) {
-    const RunParts<T> runs(column.encode_rows());
+template <class T> std::optional<Column> differences_of(const Column &column) {
+    const NumberRuns<T> runs(column.encode_rows());
     std::vector<uint64_t> ends;
     std::vector<int64_t> differences;
     std::vector<bool> valid;
@@ -84,7 +95,7 @@ template <class T> static std::optional<Column> differences_of(const Column &col
             continue;
         }
         const Wide difference = runs.numbers[run] - before;
-        if (!fits<int64_t>(difference)) return std::nullopt;
+        if (!has_number<int64_t>(difference)) return std::nullopt;
         add(start + 1, static_cast<int64_t>(difference), true);
         if (runs.stops[run] > start + 1) add(runs.stops[run], 0, true);
         before = runs.numbers[run];
@@ -95,16 +106,17 @@ template <class T> static std::optional<Column> differences_of(const Column &col
 // ---- Read ----
 
 // Rows of a type, which are added in stretches: the running totals of differences.
-template <class T> class Totals {
+template <class T> class RunningRows {
 public:
-    Totals(KeptForm form, bool nullable) : by_runs(form == kept_runs), nullable(nullable) {}
+    RunningRows(KeptForm form, bool has_null) : by_runs(form == kept_runs), with_null(has_null) {}
     // Adds rows of which each is the one before and this difference. False where one does not fit the type, or where
     // there are too many.
     bool add(int64_t difference, uint64_t count) {
         const Wide last = total + static_cast<Wide>(difference) * static_cast<Wide>(count);
-        if (!fits<T>(last)) return false; // rows between are between
-        if (difference == 0 && by_runs && is_after_value) ends.back() += count;
-        else if (difference == 0 ? !put_same(static_cast<T>(total), count, true) : !put(difference, count)) return false;
+        if (!has_number<T>(last)) return false; // rows between are between
+        const bool is_same = difference == 0;
+        if (is_same && by_runs && is_after_value) ends.back() += count;
+        else if (is_same ? !put_same(static_cast<T>(total), count, true) : !put(difference, count)) return false;
         total = last, rows += count, is_after_value = true;
         return true;
     }
@@ -114,19 +126,19 @@ public:
         return true;
     }
     Column column() const {
-        Column values = flat_of(numbers, valid, nullable);
+        Column values = flat_of(numbers, valid, with_null);
         return by_runs ? runs_of(ends, values) : std::move(values);
     }
 
 private:
-    bool by_runs, nullable, is_after_value = false;
+    bool by_runs, with_null, is_after_value = false;
     Wide total = 0;
     uint64_t rows = 0;
     std::vector<T> numbers;
     std::vector<uint64_t> ends;
     std::vector<bool> valid;
 
-    bool has_room(uint64_t count) const { return count <= most - numbers.size(); }
+    bool has_room(uint64_t count) const { return count <= most_kept - numbers.size(); }
     // Rows of one number, which are one run.
     bool put_same(T number, uint64_t count, bool is_valid) {
         const uint64_t items = by_runs ? 1 : count;
@@ -147,10 +159,9 @@ private:
     }
 };
 
-template <class T>
-static std::optional<Column> totals_of(const Column &differences, KeptForm form, bool nullable) {
-    const RunParts<int64_t> runs(differences);
-    Totals<T> totals(form, nullable);
+template <class T> std::optional<Column> totals_of(const Column &differences, KeptForm form, bool with_null) {
+    const NumberRuns<int64_t> runs(differences);
+    RunningRows<T> totals(form, with_null);
     uint64_t start = 0;
     for (size_t run = 0; run < runs.stops.size(); start = runs.stops[run++]) {
         const uint64_t count = runs.stops[run] - start;
@@ -161,19 +172,18 @@ static std::optional<Column> totals_of(const Column &differences, KeptForm form,
 
 // ---- Both ----
 
-static std::optional<Column> read_back(const Column &differences, hv_kind kind, KeptForm form) {
-    return of_type(kind, [&](auto zero) {
-        return totals_of<decltype(zero)>(differences, form, kind.nullable);
-    });
+inline std::optional<Column> read_back(const Column &differences, hv_kind kind, KeptForm form) {
+    return by_type(kind, [&](auto zero) { return totals_of<decltype(zero)>(differences, form, kind.nullable); });
 }
 
-std::optional<KeptColumn> as_differences(const Column &column) {
-    const bool is_flat = column.form() == hv::Form::flat;
+// The column as differences; none where these are not shorter than its message, do not fit 64 bits, or would not give
+// back the same message.
+inline std::optional<KeptColumn> as_differences(const Column &column) {
+    const bool is_flat = column.form() == Form::flat;
     const hv_kind kind = column.kind();
-    if (!is_whole(kind) || !(is_flat || column.form() == hv::Form::runs)) return std::nullopt;
-    const std::optional<Column> found = of_type(kind, [&](auto zero) {
-        return differences_of<decltype(zero)>(column);
-    });
+    if (!is_integer(kind) || !(is_flat || column.form() == Form::runs)) return std::nullopt;
+    const std::optional<Column> found =
+        by_type(kind, [&](auto zero) { return differences_of<decltype(zero)>(column); });
     if (!found) return std::nullopt;
     KeptColumn kept{is_flat ? kept_flat : kept_runs, found->to_bytes()};
     const Bytes whole = column.to_bytes();
@@ -182,10 +192,17 @@ std::optional<KeptColumn> as_differences(const Column &column) {
     return again && again->to_bytes() == whole ? std::optional(std::move(kept)) : std::nullopt;
 }
 
-std::optional<Column> column_of_differences(const Column &differences, const Bytes &message, hv_kind kind,
-                                            KeptForm form) {
+// The column of a type, in a form, that has the differences of a message; none where there is none, or where they are
+// not as they are written.
+inline std::optional<Column> column_of_differences(const Column &differences, const Bytes &message, hv_kind kind,
+                                                   KeptForm form) {
     const hv_kind own = differences.kind();
-    const bool is_ours = differences.form() == hv::Form::runs && own.number == HV_I64 && own.nullable == kind.nullable;
-    if (!is_ours || !is_whole(kind) || differences.encode_rows().to_bytes() != message) return std::nullopt;
+    const bool is_ours = differences.form() == Form::runs && own.number == HV_I64 && own.nullable == kind.nullable;
+    if (!is_ours || !is_integer(kind) || differences.encode_rows().to_bytes() != message) return std::nullopt;
     return read_back(differences, kind, form);
 }
+
+} // namespace detail
+
+} // namespace hv
+#endif
