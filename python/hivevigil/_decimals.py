@@ -9,9 +9,9 @@ from typing import TYPE_CHECKING, Any, Callable, Optional
 
 from . import _runs
 from ._library import Kind, Pair, ask, calls
-from ._types import GREATEST_PRECISION, TYPES, WHOLE_NUMBERS, text_of
-from ._values import decimal_of, is_missing, unscaled
-from .errors import CastOutOfRange, TypeMismatch
+from ._types import GREATEST_PRECISION, SCALES, TYPES, WHOLE_NUMBERS, text_of
+from ._values import decimal_of, is_missing, is_whole, unscaled
+from .errors import CastOutOfRange, ColumnLength, TypeMismatch
 
 if TYPE_CHECKING:
     from .column import Column
@@ -80,6 +80,17 @@ def at_one_scale(columns: list[Column], call: str) -> list[Column]:
     return [rescaled(column, kind, call) if is_scaled(column._kind, kind) else column for column in columns]
 
 
+def together(left: Column, right: Column, call: str) -> tuple[Column, Column]:
+    """Two columns that are worked row by row, those of decimals at one scale: the greater of both, in the digits that
+    the rows of both need there, of 38 at most. OverflowError names the first row of one that has more."""
+    if not (is_decimal(left) and is_decimal(right)) or left._kind.scale == right._kind.scale and call in "+-":
+        return left, right
+    if left._length != right._length:
+        raise ColumnLength(left._length, right._length)
+    left, right = at_one_scale([left, right], call)
+    return left, right
+
+
 _SIGNS: dict[str, Callable[[Any, Any], bool]] = {
     "==": operator.eq, "!=": operator.ne, ">": operator.gt, ">=": operator.ge, "<": operator.lt, "<=": operator.le,
 }
@@ -101,10 +112,12 @@ def compared(column: Column, sign: str, right: Column) -> Column:
     is_nullable = column._kind.nullable or right._kind.nullable
     mask = column.from_runs(column.of(stops, "u64"), column.of(truths, "bool?" if is_nullable else "bool"))
     return mask.to_runs()
+
+
 def beside(column: Column, sign: str, value: Any) -> Column:
-    """A Decimal or an integer in each row of a column: at the scale of the column, and of a product at its own. In as
-    few digits as it has."""
-    scale = column._kind.scale if sign != "*" else _scale_of(value)
+    """A Decimal or an integer in each row of a column: of a product at its own scale, else at that of the column, or
+    where it has no place there at the least one where it has. In as few digits as it has."""
+    scale = _scale_of(value) if sign == "*" else _scale_from(column._kind.scale, value)
     number = 0 if is_missing(value) else unscaled(value, GREATEST_PRECISION, scale)
     nullable = "?" if is_missing(value) else ""
     return column.constant(value, column._length, f"decimal({len(str(abs(number)))}, {scale}){nullable}")
@@ -119,13 +132,25 @@ def worked(left: Column, sign: str, number: int, done: str, right: Column) -> Co
         said = f"row {row} is {left.at(row)} {sign} {right.at(row)}, which does not fit {_answers(left, sign, right)}"
         raise past.saying(said) from None
     except TypeMismatch as refused:
-        raise refused.saying(f"{_named(left)} and {_named(right)} are not {done}: {_why(left, sign, right)}") from None
+        why = f"no column has the scale {left._kind.scale + right._kind.scale}"
+        raise refused.saying(f"{_named(left)} and {_named(right)} are not {done}: {why}") from None
 
 
 def _scale_of(value: Any) -> int:
     """How many places a Decimal has. It may be negative; one that is not a number has none."""
     exponent = value.as_tuple().exponent if isinstance(value, Decimal) else 0
     return -exponent if isinstance(exponent, int) else 0
+
+
+def _scale_from(least: int, value: Any) -> int:
+    """The least scale from `least` on at which a Decimal or an integer has a place: zeros at its end need none. `least`
+    where no column has that scale."""
+    if is_missing(value) or not (isinstance(value, Decimal) or is_whole(value)) or not value:
+        return least
+    exact = value if isinstance(value, Decimal) else Decimal(operator.index(value))
+    digits = "".join(map(str, exact.as_tuple().digits))
+    needed = max(least, _scale_of(exact) - len(digits) + len(digits.rstrip("0")))
+    return needed if needed in SCALES else least
 
 
 def _answers(left: Column, sign: str, right: Column) -> str:
@@ -139,11 +164,3 @@ def _answers(left: Column, sign: str, right: Column) -> str:
 def _named(column: Column) -> str:
     return str(column.type.rstrip("?"))
 
-
-def _why(left: Column, sign: str, right: Column) -> str:
-    """Why the scales of two columns do not go together, and what to do."""
-    one, other = left._kind.scale, right._kind.scale
-    if sign == "*":
-        return f"no column has the scale {one + other}"
-    side, more = ("left", other - one) if one < other else ("right", one - other)
-    return f"the scales differ; the {side} column times Decimal('{decimal_of(10**more, more)}') has scale {max(one, other)}"

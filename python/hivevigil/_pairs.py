@@ -26,8 +26,9 @@ class Pairs:
     """What a column answers to Python's operators that give a value for two rows.
 
     Integers of one type give integers of that type, null where either row is null; OverflowError names the first row
-    whose answer the type does not have. Decimals give decimals, exactly: sums of one scale, in a digit more than either
-    side, and products at the sum of the scales, in all digits of both and one more, of 38 at most. Floats give what
+    whose answer the type does not have. Decimals give decimals, exactly: sums at the greater scale of both, in a digit
+    more than either side has there, and products at the sum of the scales, in all digits of both and one more, of 38 at
+    most. Floats give what
     IEEE 754 says in the type with more bits, and no row is refused; integers next to floats, and those that are
     divided, count as float64, exactly. Booleans are connected as SQL's AND and OR have it, where null is unknown:
     `False & None` is False, `True | None` is True.
@@ -96,6 +97,8 @@ def worked(column: Any, sign: str, other: Any, is_left: bool = True) -> Column:
         return _float_pairs.worked(left, sign, right)
     if is_of_floats:  # keys of floats are not integers to be worked with
         raise TypeMismatch().saying(f"{_type_of(left)} and {_type_of(right)} are not {done}")
+    if sign in "+-":
+        left, right = _decimals.together(left, right, sign)
     if sign in "+-*" and all(_decimals.is_decimal(each) for each in (left, right)):
         return _decimals.worked(left, sign, number, done, right)
     try:

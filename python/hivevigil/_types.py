@@ -13,6 +13,7 @@ OPERATORS = ("==", "!=", ">", ">=", "<", "<=")
 WHOLE_NUMBERS = TYPES[:8]
 SIGNED = TYPES[4:8]
 GREATEST_PRECISION = 38
+SCALES = range(-128, 128)
 
 # bytes of an item, and the letter of an array.array of them
 WIDTHS = {"u8": 1, "u16": 2, "u32": 4, "u64": 8, "i8": 1, "i16": 2, "i32": 4, "i64": 8, "decimal": 16}
@@ -53,7 +54,7 @@ def checked_places(precision: int, scale: int) -> tuple[int, int]:
     """Precision and scale of a decimal, where 128 bits have it."""
     if not 1 <= precision <= GREATEST_PRECISION:
         raise ValueError(f"a decimal has 1 to {GREATEST_PRECISION} digits, not {precision}")
-    if not -128 <= scale <= 127:
+    if scale not in SCALES:
         raise ValueError(f"a decimal's scale is from -128 to 127, not {scale}")
     return precision, scale
 

@@ -156,6 +156,36 @@ def test_sums_of_two(sides, sign):
     check_given(lambda: GIVE[sign](left, right), sign, lefts, rights, min(max(one, other) + 1, 38), scale)
 
 
+TWO_SCALES = st.tuples(SCALES, SCALES).flatmap(two_columns)
+
+
+def at_one_scale(sides, call):
+    """The digits of both columns at the greater scale, with the digits that a type of both has and that scale; or what
+    refuses them."""
+    (_, lefts, one, left_scale), (_, rights, other, right_scale) = sides
+    scale = max(left_scale, right_scale)
+    precision = min(max(one - left_scale, other - right_scale) + scale, 38)
+    digits = []
+    for rows, own in ((lefts, left_scale), (rights, right_scale)):
+        digits.append([None if row is None else row * 10 ** (scale - own) for row in rows])
+        past = [row for row, number in enumerate(digits[-1]) if number is not None and abs(number) >= 10**precision]
+        if past:
+            value = decimal_of(rows[past[0]], own)
+            return None, f"{call}: row {past[0]} is {value}, which does not fit decimal({precision}, {scale})", scale
+    return digits, precision, scale
+
+
+@given(TWO_SCALES, st.sampled_from("+-"))
+def test_sums_of_two_scales(sides, sign):
+    digits, precision, scale = at_one_scale(sides, sign)
+    if digits is None:
+        with pytest.raises(OverflowError) as refused:
+            GIVE[sign](sides[0][0], sides[1][0])
+        assert str(refused.value) == precision
+        return
+    check_given(lambda: GIVE[sign](sides[0][0], sides[1][0]), sign, *digits, min(precision + 1, 38), scale)
+
+
 @given(st.tuples(SCALES, SCALES).flatmap(two_columns))
 def test_products_of_two(sides):
     (left, lefts, one, scale), (right, rights, other, other_scale) = sides
@@ -166,35 +196,42 @@ def test_products_of_two(sides):
 def test_one_value(sides, sign, digits, places, is_left):
     column, rows, precision, scale = sides[0]
     value = decimal_of(digits, places) if places else digits
-    if sign != "*" and places > scale and digits % 10 ** (places - scale):
-        with pytest.raises(ValueError, match="and nothing is rounded$"):
-            GIVE[sign](column, value)
-        return
-    at = places if sign == "*" else scale
+    at = next(at for at in range(scale, 5) if Fraction(value) * 10**at % 1 == 0) if sign != "*" else places
     number = digits_of(value, at)
     width = len(str(abs(number)))
-    due = min(precision + width + 1 if sign == "*" else max(precision, width) + 1, 38)
-    sides = ([number] * len(rows), rows) if is_left else (rows, [number] * len(rows))
     work = (lambda: GIVE[sign](value, column)) if is_left else (lambda: GIVE[sign](column, value))
-    check_given(work, sign, *sides, due, scale + at if sign == "*" else scale)
+    if sign == "*":
+        due, shown = min(precision + width + 1, 38), rows
+    else:
+        precision = max(precision + at - scale, width) if at > scale else max(precision, width)
+        due, shown = min(precision + 1, 38), [None if row is None else row * 10 ** (at - scale) for row in rows]
+        if any(row is not None and abs(row) >= 10**38 for row in shown):
+            with pytest.raises(OverflowError, match=f"which does not fit decimal\\(38, {at}\\)$"):
+                work()
+            return
+    sides = ([number] * len(rows), shown) if is_left else (shown, [number] * len(rows))
+    check_given(work, sign, *sides, due, scale + at if sign == "*" else at)
 
 
 def test_pairs_that_do_not_go_together():
     cents, mills = Column.of([5], "decimal(4, 2)"), Column.of([5], "decimal(6, 3)")
-    with pytest.raises(TypeError) as refused:
-        cents + mills
-    assert str(refused.value) == (
-        "decimal(4, 2) and decimal(6, 3) are not added: the scales differ; the left column times Decimal('1.0') has scale 3"
-    )
-    assert (cents * Decimal("1.0") + mills).to_list() == [Decimal("10.000")]
+    assert (cents + mills).to_list() == [Decimal("10.000")] and (cents - mills).type == "decimal(7, 3)"
     far = Column.of([0], "decimal(4, 126)")
+    assert (cents.slice(0, 0) + far.slice(0, 0)).type == "decimal(38, 126)" and (far - far).to_list() == [0]
+    with pytest.raises(OverflowError, match=r"^\+: row 0 is 5.00, which does not fit decimal\(38, 126\)$"):
+        cents + far
     with pytest.raises(TypeError, match=r"are not multiplied: no column has the scale 128$"):
         cents * far
     with pytest.raises(errors.Unsupported, match=r"^decimal\(4, 2\) and i64 are not added$"):
         cents + Column.of([5], "i64")
     with pytest.raises(TypeError, match="a decimal is a decimal.Decimal or an integer"):
         cents * 1.5
-    with pytest.raises(errors.ColumnLength):
-        cents - Column.of([5, 6], "decimal(4, 2)")
+    for other in ("decimal(4, 2)", "decimal(4, 126)"):
+        with pytest.raises(errors.ColumnLength):
+            cents - Column.of([0, 0], other)
+    with pytest.raises(errors.Unsupported, match=r"^decimal\(4, 2\) and decimal\(6, 3\) are not connected$"):
+        cents & mills
+    assert (cents + Decimal("0.0010")).to_list() == [Decimal("5.001")] and (1 - cents).type == "decimal(5, 2)"
+    assert (Column.of([500], "decimal(3, -2)") - 7).to_list() == [493]
     assert (cents - None).to_list() == (None * cents).to_list() == [None]
     assert (-cents).to_list() == [Decimal("-5.00")] and (cents * cents).to_list() == [Decimal("25.0000")]
