@@ -275,16 +275,16 @@ HV_ANSWER hv_fill(const hv_session *session, const hv_column *column, const hv_v
                   size_t text_len, hv_column *out, hv_error *error);
 
 /* What is answered of the two rows at each place: whether a comparison holds (HV_EQ to HV_LE); the sum, difference or
- * product of two integers of one type, in that type; two booleans connected; one of two integers or booleans of one
- * type: the left one, or the right one where that is null, the lesser, the greater. Null where either row is null, but
- * `false and null` is false, `true or null` is true, and HV_COALESCE takes the row that is not null. */
+ * product of two integers of one type, in that type; two booleans connected; one of two integers, decimals or booleans
+ * of one type: the left one, or the right one where that is null, the lesser, the greater. Null where either row is
+ * null, but `false and null` is false, `true or null` is true, and HV_COALESCE takes the row that is not null. */
 enum { HV_ADD = 6, HV_SUBTRACT, HV_MULTIPLY, HV_AND, HV_OR, HV_COALESCE, HV_LESSER, HV_GREATER };
 /* The rows of two columns worked place by place, at the cost of the runs of both and not of the rows: a constant where
  * both are constants that have a row, else runs, as few as possible. 13 for lists, for HV_ADD to HV_MULTIPLY unless both
  * are of integers, for HV_AND and HV_OR unless both are of booleans, for HV_COALESCE to HV_GREATER unless each is of
- * integers or of booleans; then 12 for two types that differ in more than null, then 11 (left, right) for another number
- * of rows, then 14 (row) for the first row whose answer the type does not have; 23 for no operator. The session of
- * hv_compare has no part in it: only the form of its answer differs. */
+ * integers, decimals or booleans; then 12 for two types that differ in more than null, then 11 (left, right) for another
+ * number of rows, then 14 (row) for the first row whose answer the type does not have; 23 for no operator. The session
+ * of hv_compare has no part in it: only the form of its answer differs. */
 HV_ANSWER hv_combine(const hv_column *left, uint8_t operator_, const hv_column *right, hv_column *out, hv_error *error);
 
 /* The other boolean of each row, null for null, 13 unless the rows are booleans; whether each row is null, and whether
@@ -293,8 +293,8 @@ HV_ANSWER hv_not(const hv_column *column, hv_column *out, hv_error *error);
 HV_ANSWER hv_is_null(const hv_column *column, hv_column *out, hv_error *error);
 HV_ANSWER hv_is_valid(const hv_column *column, hv_column *out, hv_error *error);
 /* The left row where the mask is true, the right one where it is false, null where it is null, in the type of both with
- * null; runs, as few as possible, or a constant of three. 13 unless the mask is of booleans and each column of integers
- * or of booleans, then 12 for two types that differ in more than null, then 11 (left, right) or (mask, left). */
+ * null; runs, as few as possible, or a constant of three. 13 unless the mask is of booleans and each column of integers,
+ * decimals or booleans, then 12 for two types that differ in more than null, then 11 (left, right) or (mask, left). */
 HV_ANSWER hv_if_else(const hv_column *mask, const hv_column *left, const hv_column *right, hv_column *out,
                      hv_error *error);
 

@@ -109,8 +109,8 @@ pub extern "C" fn hv_equals(
 }
 
 /// Makes the left row where the mask is true, the right one where it is false, and null where it is null. Refused as
-/// `Unsupported` unless the mask is of booleans and both columns are of integers or of booleans, then as `TypeMismatch`
-/// for two types, then as `ColumnLength`.
+/// `Unsupported` unless the mask is of booleans and both columns are of integers, of decimals or of booleans, then as
+/// `TypeMismatch` for two types, then as `ColumnLength`.
 #[unsafe(no_mangle)]
 pub extern "C" fn hv_if_else(
     alloc: Global,

@@ -99,7 +99,7 @@ without_null (column.List e n) = refl
 picked_with_null : (t : DType) → is_picked t ≡ true → is_picked (with_nullability t Nullable) ≡ true
 picked_with_null (column.Bool n) is = refl
 picked_with_null (column.Primitive p n) is = refl
-picked_with_null (column.Decimal d n) is = cc
+picked_with_null (column.Decimal d n) is = refl
 picked_with_null (column.Utf8 n) is = cc
 picked_with_null (column.Binary n) is = cc
 picked_with_null (column.List e n) is = cc

@@ -7,6 +7,7 @@ use Rattle.column_base.specs.declared.dtype.Nullability.{Nullability}
 use Rattle.column_base.specs.declared.dtype.Nullability.TheVariants.{NonNullable, Nullable}
 use Rattle.column_base.specs.declared.dtype.PType.{PType}
 use Rattle.column_base.specs.declared.dtype.DType.{DType}
+use Rattle.column_base.specs.declared.dtype.DecimalDType.{DecimalDType}
 use Rattle.column_base.specs.declared.dtype.DType.TheVariants as column
 use Rattle.column_base.specs.Types.{nullability_of, with_nullability}
 use Rattle.column_core.specs.Kinds.{same_kind}
@@ -68,54 +69,59 @@ kind_of_integers p n (column.Utf8 m) same = let one = (same_dtype-decides (colum
 kind_of_integers p n (column.Binary m) same = let one = (same_dtype-decides (column.Binary NonNullable) (column.Primitive p NonNullable)).0 same in cc
 kind_of_integers p n (column.List e m) same = let one = (same_dtype-decides (column.List e NonNullable) (column.Primitive p NonNullable)).0 same in cc
 
--- a type of a kind that is not of lists is not of lists
-not_bools_lists : (left : DType) → IsOfKind (λ m. column.Bool m) left → ¬ IsLists left
-not_bools_lists left is = subst (λ (t : DType). ¬ IsLists t) (sym is) (λ h. h)
+kind_of_decimals : (d : DecimalDType) (n : Nullability) (left : DType) → same_kind left (column.Decimal d n) ≡ true → IsOfKind (λ m. column.Decimal d m) left
+kind_of_decimals d n (column.Bool m) same = let one = (same_dtype-decides (column.Bool NonNullable) (column.Decimal d NonNullable)).0 same in cc
+kind_of_decimals d n (column.Primitive t m) same = let one = (same_dtype-decides (column.Primitive t NonNullable) (column.Decimal d NonNullable)).0 same in cc
+kind_of_decimals d n (column.Decimal e m) same = let one = (same_dtype-decides (column.Decimal e NonNullable) (column.Decimal d NonNullable)).0 same in cc
+kind_of_decimals d n (column.Utf8 m) same = let one = (same_dtype-decides (column.Utf8 NonNullable) (column.Decimal d NonNullable)).0 same in cc
+kind_of_decimals d n (column.Binary m) same = let one = (same_dtype-decides (column.Binary NonNullable) (column.Decimal d NonNullable)).0 same in cc
+kind_of_decimals d n (column.List e m) same = let one = (same_dtype-decides (column.List e NonNullable) (column.Decimal d NonNullable)).0 same in cc
 
-not_integers_lists : (p : PType) (left : DType) → IsOfKind (λ m. column.Primitive p m) left → ¬ IsLists left
-not_integers_lists p left is = subst (λ (t : DType). ¬ IsLists t) (sym is) (λ h. h)
+-- both columns of a rule, where the right one is of a kind that is not of lists
+module _ (dtype_in : Nullability → DType) (single : (n : Nullability) → ¬ IsLists (dtype_in n)) where
+  not_lists : (t : DType) → IsOfKind dtype_in t → ¬ IsLists t
+  not_lists t is = subst (λ (u : DType). ¬ IsLists u) (sym is) (single (nullability_of t))
 
--- the left column of a rule, next to one of booleans and of integers
-left_of_bools : (rule : PickRule) (n : Nullability) (left right : DType) → right ≡ column.Bool n → IsLeftFor rule left right → IsLeftOf rule (λ m. column.Bool m) left × (¬ IsLists left)
-left_of_bools FirstValid n left right is taken = let kind = kind_of_bools n left (subst (λ (t : DType). same_kind left t ≡ true) is taken) in (kind, not_bools_lists left kind)
-left_of_bools Lesser n left right is taken = let kind = kind_of_bools n left (subst (λ (t : DType). same_kind left t ≡ true) is taken) in (kind, not_bools_lists left kind)
-left_of_bools Greater n left right is taken = let kind = kind_of_bools n left (subst (λ (t : DType). same_kind left t ≡ true) is taken) in (kind, not_bools_lists left kind)
-left_of_bools WhereTrue n left right is taken = (tt, single_truths left taken)
-left_of_bools WhereFalse n left right is taken = (tt, single_truths left taken)
+  left_of_rule : (rule : PickRule) (left right : DType) → (same_kind left right ≡ true → IsOfKind dtype_in left) → IsLeftFor rule left right → IsLeftOf rule dtype_in left × (¬ IsLists left)
+  left_of_rule FirstValid left right kind_of taken = (kind_of taken, not_lists left (kind_of taken))
+  left_of_rule Lesser left right kind_of taken = (kind_of taken, not_lists left (kind_of taken))
+  left_of_rule Greater left right kind_of taken = (kind_of taken, not_lists left (kind_of taken))
+  left_of_rule WhereTrue left right kind_of taken = (tt, single_truths left taken)
+  left_of_rule WhereFalse left right kind_of taken = (tt, single_truths left taken)
 
-left_of_integers : (rule : PickRule) (p : PType) (n : Nullability) (left right : DType) → right ≡ column.Primitive p n → IsLeftFor rule left right → IsLeftOf rule (λ m. column.Primitive p m) left × (¬ IsLists left)
-left_of_integers FirstValid p n left right is taken = let kind = kind_of_integers p n left (subst (λ (t : DType). same_kind left t ≡ true) is taken) in (kind, not_integers_lists p left kind)
-left_of_integers Lesser p n left right is taken = let kind = kind_of_integers p n left (subst (λ (t : DType). same_kind left t ≡ true) is taken) in (kind, not_integers_lists p left kind)
-left_of_integers Greater p n left right is taken = let kind = kind_of_integers p n left (subst (λ (t : DType). same_kind left t ≡ true) is taken) in (kind, not_integers_lists p left kind)
-left_of_integers WhereTrue p n left right is taken = (tt, single_truths left taken)
-left_of_integers WhereFalse p n left right is taken = (tt, single_truths left taken)
+  of_both : (rule : PickRule) (left right : DType) (left_count right_count : ℕ) → (same_kind left right ≡ true → IsOfKind dtype_in left) → IsOfKind dtype_in right → ArePicked rule left right left_count right_count
+      → AreOfKind rule dtype_in left right left_count right_count
+  of_both rule left right left_count right_count kind_of right_is taken =
+      let known = left_of_rule rule left right kind_of taken.left_is in
+      record {
+        left_is = known.0;
+        right_is = right_is;
+        left_single = known.1;
+        right_single = not_lists right right_is;
+        counted = taken.counted;
+      }
 
--- both columns of a rule, where the right one is of booleans or of integers
+-- which is one of booleans, of integers or of decimals
 pub bools_of_both : (rule : PickRule) (n : Nullability) (left right seen : DType) (left_count right_count : ℕ) → seen ≡ right → seen ≡ column.Bool n → ArePicked rule left right left_count right_count
     → AreOfKind rule (λ m. column.Bool m) left right left_count right_count
 bools_of_both rule n left right seen left_count right_count own shown taken =
     let is : right ≡ column.Bool n = sym own ∙ shown in
-    let known = left_of_bools rule n left right is taken.left_is in
-    record {
-      left_is = known.0;
-      right_is = subst (λ (t : DType). IsOfKind (λ m. column.Bool m) t) (sym is) refl;
-      left_single = known.1;
-      right_single = subst (λ (t : DType). ¬ IsLists t) (sym is) (λ h. h);
-      counted = taken.counted;
-    }
+    of_both (λ m. column.Bool m) (λ m h. h) rule left right left_count right_count (λ same. kind_of_bools n left (subst (λ (t : DType). same_kind left t ≡ true) is same))
+    (subst (λ (t : DType). IsOfKind (λ m. column.Bool m) t) (sym is) refl) taken
 
 pub integers_of_both : (rule : PickRule) (p : PType) (n : Nullability) (left right seen : DType) (left_count right_count : ℕ) → seen ≡ right → seen ≡ column.Primitive p n → ArePicked rule left right left_count right_count
     → AreOfKind rule (λ m. column.Primitive p m) left right left_count right_count
 integers_of_both rule p n left right seen left_count right_count own shown taken =
     let is : right ≡ column.Primitive p n = sym own ∙ shown in
-    let known = left_of_integers rule p n left right is taken.left_is in
-    record {
-      left_is = known.0;
-      right_is = subst (λ (t : DType). IsOfKind (λ m. column.Primitive p m) t) (sym is) refl;
-      left_single = known.1;
-      right_single = subst (λ (t : DType). ¬ IsLists t) (sym is) (λ h. h);
-      counted = taken.counted;
-    }
+    of_both (λ m. column.Primitive p m) (λ m h. h) rule left right left_count right_count (λ same. kind_of_integers p n left (subst (λ (t : DType). same_kind left t ≡ true) is same))
+    (subst (λ (t : DType). IsOfKind (λ m. column.Primitive p m) t) (sym is) refl) taken
+
+pub decimals_of_both : (rule : PickRule) (d : DecimalDType) (n : Nullability) (left right seen : DType) (left_count right_count : ℕ) → seen ≡ right → seen ≡ column.Decimal d n → ArePicked rule left right left_count right_count
+    → AreOfKind rule (λ m. column.Decimal d m) left right left_count right_count
+decimals_of_both rule d n left right seen left_count right_count own shown taken =
+    let is : right ≡ column.Decimal d n = sym own ∙ shown in
+    of_both (λ m. column.Decimal d m) (λ m h. h) rule left right left_count right_count (λ same. kind_of_decimals d n left (subst (λ (t : DType). same_kind left t ≡ true) is same))
+    (subst (λ (t : DType). IsOfKind (λ m. column.Decimal d m) t) (sym is) refl) taken
 
 -- the type of their rows
 pub bools_with : (n m : Nullability) (right seen : DType) → seen ≡ right → seen ≡ column.Bool n → column.Bool m ≡ with_nullability right m
@@ -124,7 +130,10 @@ bools_with n m right seen own is = ap (λ (t : DType). with_nullability t m) (sy
 pub integers_with : (p : PType) (n m : Nullability) (right seen : DType) → seen ≡ right → seen ≡ column.Primitive p n → column.Primitive p m ≡ with_nullability right m
 integers_with p n m right seen own is = ap (λ (t : DType). with_nullability t m) (sym is ∙ own)
 
--- a right column that rows are picked from is of booleans or of integers
+pub decimals_with : (d : DecimalDType) (n m : Nullability) (right seen : DType) → seen ≡ right → seen ≡ column.Decimal d n → column.Decimal d m ≡ with_nullability right m
+decimals_with d n m right seen own is = ap (λ (t : DType). with_nullability t m) (sym is ∙ own)
+
+-- a right column that rows are picked from is of booleans, of integers or of decimals
 pub right_kind : (rule : PickRule) (left right : DType) (left_count right_count : ℕ) → ArePicked rule left right left_count right_count → is_picked right ≡ true
 right_kind rule left right left_count right_count taken = taken.kind
 

@@ -11,6 +11,7 @@ use Rattle.column_base.specs.declared.dtype.PType.{PType}
 use Rattle.column_core.specs.Value.{IsLists, Value}
 use Rattle.runend_array.specs.Encoding.{IsNumbersOf}
 use Rattle.column_ops.specs.CompareFault.{length_fault}
+use Rattle.runend_pairs.specs.Decimals.{is_decimals}
 use Rattle.runend_pairs.specs.Operations.{IsLeftOf, IsOfKind}
 use Rattle.runend_pairs.specs.declared.choices.PickRule.{PickRule}
 use Rattle.runend_pairs.specs.declared.choices.PickRule.TheVariants.{FirstValid, Lesser, Greater, WhereTrue, WhereFalse}
@@ -36,10 +37,11 @@ numeric_fault left right left_count right_count =
 abbrev pub boolean_fault : DType → DType → ℕ → ℕ → Option VortexError
 boolean_fault left right left_count right_count = if is_truths left && is_truths right then length_fault left_count right_count else Some Unsupported
 
--- both are of integers or of booleans, of one type but for null, and have as many rows
+-- whether rows can be picked of a column of the type: it is one of integers, of decimals or of booleans
 abbrev pub is_picked : DType → Bool
-is_picked dtype = is_numbers dtype || is_truths dtype
+is_picked dtype = is_numbers dtype || (is_decimals dtype || is_truths dtype)
 
+-- rows can be picked of both, both are of one type but for null, and have as many rows
 abbrev pub pick_fault : DType → DType → ℕ → ℕ → Option VortexError
 pick_fault left right left_count right_count =
     if is_picked left && is_picked right then (if same_kind left right then length_fault left_count right_count else Some TypeMismatch) else Some Unsupported

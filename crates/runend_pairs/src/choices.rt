@@ -15,7 +15,7 @@ use crate::booleans::truth_in;
 use crate::columns::{both_null, either_null, zip_columns};
 use crate::fault::{fault_of_pick, only_refused};
 use crate::pairs::Pairwise;
-use crate::stored::{Integers, Stored, Truths};
+use crate::stored::{Decimals, Integers, Stored, Truths};
 use column_core::{DType, Nullability, PType, ScalarView, VortexError, VortexResult};
 use column_ops::compare_views;
 use runend_array::{ArrayRef, ExecutionCtx};
@@ -24,8 +24,8 @@ use std::alloc::Allocator;
 /// Returns the left row at each place, or the right one where that is null. The type has null where both types have it.
 /// The answer is a constant where both columns are constants that have a row, else the run column of the only tight
 /// exact cover of the answers. Takes a step for each run of either column. Refused as `Unsupported` where either is not
-/// of integers or of booleans, then as `TypeMismatch` where they are of two types, then as `ColumnLength` where they
-/// differ in rows, and else only as `OutOfMemory`.
+/// of integers, of decimals or of booleans, then as `TypeMismatch` where they are of two types (decimals of two scales
+/// or precisions are), then as `ColumnLength` where they differ in rows, and else only as `OutOfMemory`.
 pub fn coalesce<A: Allocator + Copy>(
     left: &ArrayRef<A>,
     right: &ArrayRef<A>,
@@ -143,6 +143,10 @@ pub(crate) fn pick<A: Allocator + Copy>(
         }
         DType::Primitive(ptype, _) => {
             pick_integers(alloc, ptype, left, rule, right, nullability)
+        }
+        DType::Decimal(decimal, _) => {
+            let stored = Decimals { decimal };
+            pick_as::<i128, Decimals, A>(alloc, left, rule, right, &stored, nullability)
         }
         _ => unreachable!(),
     }

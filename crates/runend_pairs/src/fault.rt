@@ -63,8 +63,8 @@ pub(crate) fn fault_of_boolean(
 }
 
 /// Returns why rows are not picked of two columns of these types and numbers of rows: `Unsupported` where either is not
-/// of integers or of booleans, `TypeMismatch` where they are of two types, then `ColumnLength` where they differ in
-/// rows.
+/// of integers, of decimals or of booleans, `TypeMismatch` where they are of two types, then `ColumnLength` where they
+/// differ in rows.
 pub(crate) fn fault_of_pick(
     left: DType,
     right: DType,
@@ -100,11 +100,14 @@ pub(crate) fn fault_of_choice(
     fault_of_lengths(counts.0, counts.1)
 }
 
-// Whether the type is one of integers or of booleans.
+// Whether the type is one of integers, of decimals or of booleans.
 fn is_picked_type(dtype: DType) -> bool
     ensures { result ≡ is_picked dtype }
 {
-    is_number_type(dtype) || is_truth_type(dtype)
+    match dtype {
+        DType::Primitive(_, _) | DType::Decimal(_, _) | DType::Bool(_) => true,
+        DType::Utf8(_) | DType::Binary(_) | DType::List(_, _) => false,
+    }
 }
 
 /// Returns `Unsupported` where a column is not of booleans.

@@ -6,6 +6,8 @@ mod columns;
 #[cfg(test)]
 mod decimal_columns;
 #[cfg(test)]
+mod decimal_picks;
+#[cfg(test)]
 mod decimal_refused;
 #[cfg(test)]
 mod decimal_sums;

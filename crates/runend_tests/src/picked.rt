@@ -1,6 +1,6 @@
 //! Random pairs of columns, and one of two rows picked at each place.
 use crate::dice::Dice;
-use crate::plain::{Form, Int8, Int64, Kind, Truths, UInt64};
+use crate::plain::{Cents, Form, Int8, Int64, Kind, Truths, UInt64};
 use crate::trials::{Column, Row, is_due, random_column};
 use column_core::{Nullability, VortexResult};
 use runend_array::{ArrayRef, ExecutionCtx, VortexSession};
@@ -181,7 +181,8 @@ fn failures(alloc: Global, trials: usize) -> VortexResult<usize> {
         let small = are_picks_due::<Int8, Global>(&mut ctx, &mut dice, &few)?;
         let signed = are_picks_due::<Int64, Global>(&mut ctx, &mut dice, &wide)?;
         let unsigned = are_picks_due::<UInt64, Global>(&mut ctx, &mut dice, &large)?;
-        if !(truths && small && signed && unsigned) {
+        let decimals = are_picks_due::<Cents, Global>(&mut ctx, &mut dice, &wide)?;
+        if !(truths && small && signed && unsigned && decimals) {
             failed = failed.wrapping_add(1);
         }
     }

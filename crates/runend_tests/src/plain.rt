@@ -1,8 +1,8 @@
 //! Plain rows, and columns of any form that show them.
 use crate::dice::Dice;
 use column_core::{
-    BitBufferMut, BoolArray, FlatColumn, NativePType, PrimitiveArray, Scalar, Validity,
-    VortexResult,
+    BitBufferMut, BoolArray, DecimalArray, DecimalDType, FlatColumn, NativePType, PrimitiveArray,
+    Scalar, Validity, VortexResult,
 };
 use runend_array::{ArrayRef, ConstantArray, ExecutionCtx, RunEnd, array_of};
 use std::alloc::Allocator;
@@ -44,6 +44,9 @@ pub(crate) struct Int64;
 
 pub(crate) struct UInt64;
 
+/// Makes decimals of 20 digits, of which 2 are after the point.
+pub(crate) struct Cents;
+
 pub(crate) struct Truths;
 
 impl Kind for Int8 {
@@ -67,6 +70,23 @@ impl Kind for Int64 {
 impl Kind for UInt64 {
     fn flat<A: Allocator + Copy>(alloc: A, rows: &[Option<i64>]) -> VortexResult<FlatColumn<A>> {
         numbers::<u64, A>(alloc, rows)
+    }
+}
+
+impl Kind for Cents {
+    fn flat<A: Allocator + Copy>(alloc: A, rows: &[Option<i64>]) -> VortexResult<FlatColumn<A>> {
+        let mut items = Vec::with_capacity(alloc, rows.len())?;
+        let mut flags = BitBufferMut::with_capacity(alloc, rows.len())?;
+        for row in rows {
+            flags.append(row.is_some())?;
+            items.push(i128::from(row.unwrap_or(0)))?;
+        }
+        let validity = Validity::from_bits(flags.freeze());
+        let decimal = DecimalDType {
+            precision: 20,
+            scale: 2,
+        };
+        Ok(FlatColumn::Decimal(DecimalArray::try_new(items, decimal, validity)?))
     }
 }
 

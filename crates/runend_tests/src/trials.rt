@@ -57,12 +57,13 @@ fn shown<A: Allocator + Copy>(array: &ArrayRef<A>, row: usize) -> Option<Row> {
     }
 }
 
-/// Returns what a row shows, if that is null, an integer or a boolean.
+/// Returns what a row shows, if that is null, an integer, a decimal or a boolean.
 pub(crate) fn shown_in<A: Allocator + Copy>(view: ScalarView<'_, A>) -> Option<Row> {
     match view {
         ScalarView::Null => Some(None),
         ScalarView::Signed(number) => Some(Some(i128::from(number))),
         ScalarView::Unsigned(number) => Some(Some(i128::from(number))),
+        ScalarView::Decimal(number) => Some(Some(number)),
         ScalarView::Bool(truth) => Some(Some(i128::from(truth))),
         _ => None,
     }
