@@ -1,5 +1,5 @@
-/* The sum of a column of decimals, and sums, differences and products of two, in every form, against integers of 128
- * bits that are worked row by row; where they leave the digits, and each refusal. */
+/* The sum of a column of decimals, and sums, differences and products of two and rows picked of them, in every form,
+ * against integers of 128 bits that are worked row by row; where they leave the digits, and each refusal. */
 #include "check.h"
 
 enum { MOST = 40, TRIALS = 400 };
@@ -174,7 +174,17 @@ typedef struct answer {
     bool is_null, is_had;
 } answer;
 
+/* One of the two rows: the first that is not null, or the lesser or the greater, null where either is. */
+static answer picked_of(uint8_t by, const rows *left, const rows *right, size_t row) {
+    const wide a = left->numbers[row], b = right->numbers[row];
+    if (by == HV_COALESCE && left->valid[row]) return (answer){a, false, true};
+    if (by == HV_COALESCE) return (answer){b, !right->valid[row], true};
+    if (!left->valid[row] || !right->valid[row]) return (answer){0, true, true};
+    return (answer){(a < b) == (by == HV_LESSER) ? a : b, false, true};
+}
+
 static answer answer_of(uint8_t by, const rows *left, const rows *right, size_t row, wide past) {
+    if (by >= HV_COALESCE) return picked_of(by, left, right, row);
     if (!left->valid[row] || !right->valid[row]) return (answer){0, true, true};
     const wide a = left->numbers[row], b = right->numbers[row];
     wide number = 0;
@@ -257,28 +267,40 @@ static void check_rows_given(const hv_column *found, uint8_t by, const rows *lef
     }
 }
 
-/* Two columns of random rows, precisions and forms. */
+static int32_t worked(const hv_column *left, uint8_t by, const hv_column *right, hv_column *out) {
+    if (by >= HV_COALESCE) return hv_combine(left, by, right, out, &error);
+    return hv_decimal_combine(left, by, right, out, &error);
+}
+
+/* How many digits answers may have. */
+static int digits_of(uint8_t by, int one, int other) {
+    const int greater = one > other ? one : other;
+    const int digits = by >= HV_COALESCE ? one : by == HV_MULTIPLY ? one + other + 1 : greater + 1;
+    return digits < 38 ? digits : 38;
+}
+
+/* Two columns of random rows, precisions and forms. Rows are picked of columns of one type. */
 static bool check_pair(void) {
-    static const uint8_t operators[] = {HV_ADD, HV_SUBTRACT, HV_MULTIPLY};
-    const uint8_t by = operators[next() % 3];
-    const uint8_t one = (uint8_t)(1 + next() % 38), other = (uint8_t)(1 + next() % 38);
+    static const uint8_t operators[] = {HV_ADD, HV_SUBTRACT, HV_MULTIPLY, HV_COALESCE, HV_LESSER, HV_GREATER};
+    const uint8_t by = operators[next() % 6];
+    const uint8_t one = (uint8_t)(1 + next() % 38), other = by >= HV_COALESCE ? one : (uint8_t)(1 + next() % 38);
     const size_t count = (size_t)(next() % MOST);
     rows left = rows_within(count, one), right = rows_within(count, other);
     const int8_t scale = by == HV_MULTIPLY ? OTHER_SCALE : SCALE;
     hv_column a = column_in((int)(next() % FORMS), &left, one, SCALE), found = HV_EMPTY;
     hv_column b = column_in((int)(next() % FORMS), &right, other, scale);
-    const int digits = by == HV_MULTIPLY ? one + other + 1 : (one > other ? one : other) + 1;
-    const wide past = power_of_ten(digits < 38 ? digits : 38);
+    const int digits = digits_of(by, one, other);
+    const wide past = power_of_ten(digits);
     size_t due_runs, runs = 1;
     const size_t row = first_without(by, &left, &right, past, &due_runs);
     const bool is_had = row == count;
-    if (!is_had) CHECK_REFUSED(hv_decimal_combine(&a, by, &b, &found, &error), HV_CAST_OUT_OF_RANGE, row, 0, 0);
+    if (!is_had) CHECK_REFUSED(worked(&a, by, &b, &found), HV_CAST_OUT_OF_RANGE, row, 0, 0);
     else {
         const bool are_constants = hv_form(&a) == FORM_CONSTANT && hv_form(&b) == FORM_CONSTANT;
-        CHECK(!hv_decimal_combine(&a, by, &b, &found, &error));
+        CHECK(!worked(&a, by, &b, &found));
         check_rows_given(&found, by, &left, &right, past);
         const hv_kind kind = hv_kind_of(&found);
-        CHECK(kind.number == HV_DECIMAL && kind.nullable == 1 && kind.precision == (digits < 38 ? digits : 38));
+        CHECK(kind.number == HV_DECIMAL && kind.nullable == 1 && kind.precision == digits);
         CHECK(kind.scale == (by == HV_MULTIPLY ? SCALE + OTHER_SCALE : SCALE) && hv_length(&found) == count);
         CHECK(hv_form(&found) == (are_constants ? FORM_CONSTANT : FORM_RUNS));
         CHECK((are_constants || !hv_run_count(&found, &runs, &error)) && runs == due_runs);
@@ -286,6 +308,26 @@ static bool check_pair(void) {
     CHECK((hv_form(&found) == FORM_NONE) == !is_had);
     hv_free(&a), hv_free(&b), hv_free(&found);
     return is_had;
+}
+
+/* Rows that a mask chooses: of the left column where it is true, of the right one where it is false. */
+static void check_choices(void) {
+    rows left = {4, {5, -GREATEST, 7, 8}, {true, true, true, false}};
+    rows right = {4, {1, 2, 3, 4}, {true, true, true, true}};
+    const uint8_t truths[1] = {0xa}, known[1] = {0xb}; /* false true null true */
+    for (int form = 0; form < 3; form++) {
+        hv_column a = column_in(form, &left, 38, SCALE), b = column_in(2 - form, &right, 38, SCALE);
+        hv_column mask = HV_EMPTY, found = HV_EMPTY;
+        CHECK(!hv_bools(truths, 1, 0, 4, NULLS_BY(known, 0), &mask, &error));
+        CHECK(!hv_if_else(&mask, &a, &b, &found, &error));
+        hv_value first, second, third, fourth;
+        CHECK(!hv_at(&found, 0, &first, NO_TEXT_ROOM, &error) && !hv_at(&found, 1, &second, NO_TEXT_ROOM, &error));
+        CHECK(!hv_at(&found, 2, &third, NO_TEXT_ROOM, &error) && !hv_at(&found, 3, &fourth, NO_TEXT_ROOM, &error));
+        CHECK(number_of((hv_pair){first.as_unsigned, first.as_signed}) == 1 && third.kind == HV_NULL);
+        CHECK(number_of((hv_pair){second.as_unsigned, second.as_signed}) == -GREATEST && fourth.kind == HV_NULL);
+        CHECK(hv_kind_of(&found).precision == 38 && hv_kind_of(&found).scale == SCALE);
+        hv_free(&a), hv_free(&b), hv_free(&mask), hv_free(&found);
+    }
 }
 
 /* A column of one row of a precision and a scale. */
@@ -316,6 +358,10 @@ static void check_pairs_refused(void) {
     for (int number = 0; number < 256; number++)
         if (number < HV_ADD || number > HV_MULTIPLY)
             CHECK(hv_decimal_combine(&cents, (uint8_t)number, &small, &found, &error) == HV_BAD_NUMBER);
+    CHECK_REFUSED(hv_combine(&cents, HV_LESSER, &mills, &found, &error), HV_TYPE_MISMATCH, 0, 0, 0);
+    CHECK_REFUSED(hv_combine(&cents, HV_COALESCE, &small, &found, &error), HV_TYPE_MISMATCH, 0, 0, 0);
+    CHECK_REFUSED(hv_combine(&wrong, HV_GREATER, &two, &found, &error), HV_TYPE_MISMATCH, 0, 0, 0);
+    CHECK_REFUSED(hv_combine(&two, HV_GREATER, &cents, &found, &error), HV_COLUMN_LENGTH, 2, 1, 0);
     hv_column none = HV_EMPTY;
     CHECK(hv_decimal_combine(&none, HV_ADD, &cents, &found, &error) == HV_NO_COLUMN);
     CHECK(hv_decimal_combine(&cents, HV_ADD, &none, &found, NULL) == HV_NO_COLUMN && hv_form(&found) == FORM_NONE);
@@ -334,7 +380,8 @@ int main(void) {
     check_the_way();
     check_refusals();
     for (int i = 0; i < TRIALS * 10; i++) paired += check_pair();
-    CHECK(paired > TRIALS && paired < TRIALS * 9);
+    CHECK(paired > TRIALS * 5 && 2 * paired < TRIALS * 19);
+    check_choices();
     check_pairs_refused();
     printf("%d columns of decimals, and pairs of them, give what integers of 128 bits do\n", TRIALS);
     return 0;

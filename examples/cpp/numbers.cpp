@@ -76,6 +76,13 @@ static void check_decimals() {
     CHECK(rows_of(prices) == (std::vector<Value>{Decimal::of(1050, 2), Decimal::of(50, 2), Decimal::of(-300, 2)}));
     CHECK(hv::to_string(prices.at(0)) == "10.50" && hv::to_string(prices[1]) == "0.50");
     CHECK(hv::to_string(prices[2]) == "-3.00" && prices.get<Decimal>(2) == Decimal::of(-3, 0));
+    const Column fees = Column::decimals({Decimal::of(7, 0), Decimal::of(2, 0), Decimal::of(1, 1)}, 10, 2);
+    CHECK(rows_of(prices.combine(hv::Pairing::lesser, fees)) ==
+          (std::vector<Value>{Decimal::of(7, 0), Decimal::of(5, 1), Decimal::of(-3, 0)}));
+    CHECK(rows_of(prices.less_than(fees).choose(fees, prices)) == rows_of(prices.combine(hv::Pairing::greater, fees)));
+    check_refused(HV_TYPE_MISMATCH, "decimal(10, 2) and decimal(9, 2) are not picked from", [&] {
+        (void)prices.combine(hv::Pairing::coalesce, Column::decimals({Decimal(), Decimal(), Decimal()}, 9, 2));
+    });
     CHECK(hv::to_string(prices.encode_rows().runs().at(0).value) == "10.50");
     CHECK(hv::to_string(prices.least()) == "-3.00" && hv::to_string(prices.least_and_greatest().second) == "10.50");
     CHECK(hv::to_string(Column::decimals({{12, 0}}, 4, -2)[0]) == "1200");

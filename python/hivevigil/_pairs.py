@@ -97,7 +97,7 @@ def worked(column: Any, sign: str, other: Any, is_left: bool = True) -> Column:
         return _float_pairs.worked(left, sign, right)
     if is_of_floats:  # keys of floats are not integers to be worked with
         raise TypeMismatch().saying(f"{_type_of(left)} and {_type_of(right)} are not {done}")
-    if sign in "+-":
+    if sign not in ("*", "&", "|"):
         left, right = _decimals.together(left, right, sign)
     if sign in "+-*" and all(_decimals.is_decimal(each) for each in (left, right)):
         return _decimals.worked(left, sign, number, done, right)

@@ -7,7 +7,7 @@ from __future__ import annotations
 import ctypes
 from typing import TYPE_CHECKING, Any
 
-from . import _lists, _runs
+from . import _decimals, _lists, _runs
 from ._indexing import mask_of
 from ._library import Handle, Kind, ask, calls
 from ._making import listed
@@ -27,17 +27,18 @@ def is_valid(column: Column) -> Column:
 
 
 def chosen(column: Column, mask: Any, other: Any) -> Column:
-    """The row where the mask is true, and else that of another column, or one value."""
+    """The row where the mask is true, and else that of another column, or one value; decimals at one scale."""
     flags = mask_of(column, mask)
     if flags._length != column._length:
         raise MaskLength(flags._length, column._length)
     beside = other if isinstance(other, type(column)) else constant_of(column, other)
+    column, beside = _decimals.together(column, beside, "where")
     left, right = (each._logical or each.type.rstrip("?") for each in (column, beside))
     if left != right:
         raise TypeMismatch().saying(f"where: {left} and {right} are two types; rows of one type are chosen from")
     kind = column._kind
     kind.nullable = kind.nullable or beside._kind.nullable
-    if left in (*WHOLE_NUMBERS, "bool"):
+    if left in (*WHOLE_NUMBERS, "bool") or _decimals.is_decimal(column):
         known = flags.fill(False) if flags.nullable else flags
         picked = column._made(calls.hv_if_else, known, *_apart(known, column, beside))
         return picked if kind.nullable else picked.cast(text_of(kind))

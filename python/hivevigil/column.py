@@ -319,16 +319,17 @@ class Column(_comparing.Comparisons, _pairs.Pairs):
         return self.filter(self.is_valid())
 
     def where(self, mask: Any, other: Any) -> Column:
-        """The row where the mask is true, and else that of `other`, a column of the same type or one value; a null in
-        the mask chooses the other."""
+        """The row where the mask is true, and else that of `other`, a column of the same type, or of decimals of any
+        scale, or one value; a null in the mask chooses the other."""
         return _rows.chosen(self, mask, other)
 
     def coalesce(self, other: Any) -> Column:
-        """The row, or where it is null that of another column of integers or booleans, or one value."""
+        """The row, or where it is null that of another column of the same integers, of booleans or of decimals, or one
+        value. Decimals of two scales are picked from at the greater one."""
         return _pairs.worked(self, "coalesce", other)
 
     def lesser(self, other: Any) -> Column:
-        """The lesser of the row and that of another column of integers or booleans, or one value; null where either
+        """The lesser of the row and that of another column, or one value, as `coalesce` takes them; null where either
         is null. `min()` is the least of all rows."""
         return _pairs.worked(self, "lesser", other)
 

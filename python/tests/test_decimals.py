@@ -1,4 +1,4 @@
-"""Sums and means of decimals are those of Python's integers and fractions, row by row, in every form."""
+"""Sums, means and picked rows of decimals are those of Python's integers and fractions, row by row, in every form."""
 import operator
 from decimal import Decimal
 from fractions import Fraction
@@ -186,6 +186,39 @@ def test_sums_of_two_scales(sides, sign):
     check_given(lambda: GIVE[sign](sides[0][0], sides[1][0]), sign, *digits, min(precision + 1, 38), scale)
 
 
+PICK = {
+    "coalesce": lambda a, b: b if a is None else a,
+    "lesser": lambda a, b: None if None in (a, b) else min(a, b),
+    "greater": lambda a, b: None if None in (a, b) else max(a, b),
+}  # fmt: skip
+
+
+def check_picked(found, due, precision, scale):
+    column = found()
+    assert column.type.rstrip("?") == f"decimal({precision}, {scale})" and column.form in ("runs", "constant")
+    assert [digits_of(row, scale) for row in column.to_list()] == due
+    runs = sum(not at or due[at - 1] != digits for at, digits in enumerate(due))
+    assert column.form == "constant" or column.run_count() == runs
+
+
+@given(TWO_SCALES | SCALES.flatmap(lambda scale: two_columns((scale, scale))), st.sampled_from([*PICK, "where"]), st.data())
+def test_rows_are_picked_at_one_scale(sides, name, data):
+    left, right = sides[0][0], sides[1][0]
+    digits, precision, scale = at_one_scale(sides, name)
+    mask = data.draw(st.lists(st.booleans(), min_size=len(left), max_size=len(left)))
+    other = (Column.of(mask, "bool"), right) if name == "where" else (right,)
+    if digits is None:
+        with pytest.raises(OverflowError) as refused:
+            getattr(left, name)(*other)
+        assert str(refused.value) == precision
+        return
+    if name == "where":
+        due = [one if flag else two for flag, one, two in zip(mask, *digits)]
+    else:
+        due = [PICK[name](*pair) for pair in zip(*digits)]
+    check_picked(lambda: getattr(left, name)(*other), due, precision, scale)
+
+
 @given(st.tuples(SCALES, SCALES).flatmap(two_columns))
 def test_products_of_two(sides):
     (left, lefts, one, scale), (right, rights, other, other_scale) = sides
@@ -229,8 +262,15 @@ def test_pairs_that_do_not_go_together():
     for other in ("decimal(4, 2)", "decimal(4, 126)"):
         with pytest.raises(errors.ColumnLength):
             cents - Column.of([0, 0], other)
+        with pytest.raises(errors.ColumnLength):
+            cents.coalesce(Column.of([0, 0], other))
+    with pytest.raises(errors.TypeMismatch, match=r"^decimal\(4, 2\) and i64 are not picked from$"):
+        cents.lesser(Column.of([5], "i64"))
     with pytest.raises(errors.Unsupported, match=r"^decimal\(4, 2\) and decimal\(6, 3\) are not connected$"):
         cents & mills
+    with pytest.raises(ValueError, match="5.005 has more than 2 places, and nothing is rounded$"):
+        cents.lesser(Decimal("5.005"))
+    assert cents.lesser(Decimal("4.5")).to_list() == [Decimal("4.50")] and cents.greater(None).to_list() == [None]
     assert (cents + Decimal("0.0010")).to_list() == [Decimal("5.001")] and (1 - cents).type == "decimal(5, 2)"
     assert (Column.of([500], "decimal(3, -2)") - 7).to_list() == [493]
     assert (cents - None).to_list() == (None * cents).to_list() == [None]

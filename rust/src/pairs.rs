@@ -120,7 +120,8 @@ impl Column {
     }
 
     /// Returns the left row at each place, or the right one where that is null. Refused as `Unsupported` unless both
-    /// columns are of integers or of booleans, and as `TypeMismatch` for two types.
+    /// columns are of integers, of decimals or of booleans, and as `TypeMismatch` for two types, two scales of decimals
+    /// too.
     ///
     /// ```
     /// use hivevigil::Column;
@@ -153,8 +154,8 @@ impl Column {
     }
 
     /// Returns the left row where this mask is true, the right one where it is false, and null where it is null.
-    /// Refused as `Unsupported` unless this column is of booleans and the others are of integers or of booleans, then as
-    /// `TypeMismatch` for two types, then as `ColumnLength`.
+    /// Refused as `Unsupported` unless this column is of booleans and the others are of integers, of decimals or of
+    /// booleans, then as `TypeMismatch` for two types, then as `ColumnLength`.
     ///
     /// ```
     /// use hivevigil::{Column, Value};

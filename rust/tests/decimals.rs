@@ -1,4 +1,5 @@
-//! Sums of decimals, and what two columns of them give, in every form, against integers of 128 bits.
+//! Sums of decimals, what two columns of them give, and rows picked of them, in every form, against integers of 128
+//! bits.
 use hivevigil::{Column, Decimal, DecimalSum, ErrorKind, Kind, Value};
 
 const LIMIT: i128 = 10i128.pow(38);
@@ -189,6 +190,30 @@ fn two_columns_give_what_integers_do() {
             );
         }
     }
+}
+
+#[test]
+fn rows_are_picked_of_decimals_of_one_type() {
+    let left = column_of(&[Some(-500), None, Some(LIMIT - 1), None, Some(7)], 38, 2);
+    let right = column_of(&[Some(300), Some(8), Some(-1), None, Some(7)], 38, 2);
+    let mask = Column::try_from([Some(true), Some(false), None, Some(true), Some(false)]).unwrap();
+    let kind = Kind::decimal(38, 2);
+    let first = [Some(-500), Some(8), Some(LIMIT - 1), None, Some(7)];
+    let lesser = [Some(-500), None, Some(-1), None, Some(7)];
+    let greater = [Some(300), None, Some(LIMIT - 1), None, Some(7)];
+    let chosen = [Some(-500), Some(8), None, None, Some(7)];
+    for left in [left.encode_rows().unwrap(), left] {
+        check_paired(left.coalesce(&right), Ok(first.to_vec()), kind);
+        check_paired(left.lesser(&right), Ok(lesser.to_vec()), kind);
+        check_paired(left.greater(&right), Ok(greater.to_vec()), kind);
+        check_paired(mask.choose(&left, &right), Ok(chosen.to_vec()), kind);
+    }
+    let refused = right.lesser(&column_of(&[Some(5)], 38, 3)).unwrap_err();
+    assert_eq!(refused.kind(), Some(ErrorKind::TypeMismatch));
+    assert_eq!(
+        refused.to_string(),
+        "decimal(38, 2) and decimal(38, 3) are not picked from"
+    );
 }
 
 #[test]
