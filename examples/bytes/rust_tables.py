@@ -47,7 +47,7 @@ def column(dice: random.Random, count: int) -> Column:
         sizes = [dice.randint(0, 2) for _ in range(count)]
         return Column.from_lists([7, 8, 9], [dice.randint(0, 1) for _ in sizes], sizes)
     if name == "steps":
-        made = Column.of([dice.randint(0, 1) + 60 * row for row in range(count + 2)], "i64")
+        made = Column.of([dice.randint(0, 1) + 60 * row for row in range(count + 2)], dice.choice(["i64", "i64?"]))
     else:
         rows = rows_of(dice, kinds[name], count + 2)
         made = Column.of(rows, name + "?" * (None in rows or dice.random() < 0.3))

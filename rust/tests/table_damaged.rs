@@ -1,61 +1,161 @@
 //! Bytes and files that are not those of a table, and files that are not written.
 mod table_model;
 
-use hivevigil::{Column, Kind, Table, TableError};
+use hivevigil::{Column, Error, Kind, Table, TableError};
 use std::fs;
-use table_model::kept::{bytes_of, days, folder, lines, times, DAYS, SHORT, TABLES};
+use table_model::kept::{bytes_of, days, folder, lines, times, written};
+use table_model::kept::{Part, DAYS, SHORT, TABLES};
+
+/// Describes the i64 that have these differences, each in as many rows as is said, and are all between 100 and 400.
+fn differences(steps: &[i64], stops: &[u64], runs: u64, form: u64) -> Result<Part, Error> {
+    let rows = stops.last().copied().unwrap_or(0) as usize;
+    let steps = Column::from_runs(&Column::new(stops)?, &Column::new(steps)?, 0, rows)?;
+    let bounds = "08 01 10 08 18 01 20 02 28 01 3a 10 6400000000000000 9001000000000000";
+    Ok(Part {
+        name: "at",
+        message: steps.encode_rows()?.to_bytes()?,
+        nulls: 0,
+        runs,
+        bounds: bytes_of(bounds),
+        differences: Some(form),
+    })
+}
 
 #[test]
 fn few_bytes_that_say_many_rows_are_refused() -> Result<(), TableError> {
-    // 2^60 rows of which each is the one before and 60, as the last run of the differences, in u64
-    let steps = Column::new(&[100i64, 60])?;
-    let steps =
-        Column::from_runs(&Column::new(&[1u64, 1 << 60])?, &steps, 0, 1 << 60)?.encode_rows()?;
-    let mut message = steps.to_bytes()?;
-    let table = |message: &[u8], rows: u64| -> Vec<u8> {
-        let number = |out: &mut Vec<u8>, mut number: u64| {
-            while number > 127 {
-                out.push((number & 127) as u8 | 128);
-                number >>= 7;
-            }
-            out.push(number as u8);
-        };
-        let bounds =
-            bytes_of("08 01 10 08 18 01 20 02 28 01 3a 10 6400000000000000 9001000000000000");
-        let mut column = bytes_of("0a 02 61 74 12 00 18");
-        number(&mut column, message.len() as u64);
-        column.extend([0x20, 0, 0x28]);
-        number(&mut column, rows);
-        column.extend([0x32, bounds.len() as u8]);
-        column.extend([&bounds[..], &[0x38, 1]].concat());
-        let mut footer = vec![8];
-        number(&mut footer, rows);
-        footer.push(0x12);
-        number(&mut footer, column.len() as u64);
-        footer.extend(column);
-        let mut bytes = [
-            &b"\x0a\x09hivevigil\x10\x02\x1a"[..],
-            &[message.len() as u8],
-            message,
-        ]
-        .concat();
-        bytes.extend([0x22, footer.len() as u8]);
-        bytes.extend([&footer[..], &[0x29], &(footer.len() as u64).to_le_bytes()].concat());
-        bytes
-    };
-    assert!(matches!(
-        Table::from_bytes(&table(&message, 1 << 60)),
-        Err(TableError::Damaged(None))
-    ));
-    message = Column::from_bytes(&message)?
-        .slice(..6)?
-        .encode_rows()?
-        .to_bytes()?;
-    let six = table(&message, 6);
+    let six = differences(&[100, 60], &[1, 6], 6, 1)?;
+    let table = Table::from_bytes(&written(2, 6, &[&six]))?;
     assert_eq!(
-        Table::from_bytes(&six)?["at"].numbers::<i64>()?,
+        table["at"].numbers::<i64>()?,
         [100, 160, 220, 280, 340, 400]
     );
+    let many = 1 << 60;
+    for (step, form) in [(0, 1), (1, 1), (1, 2), (60, 1), (60, 2)] {
+        let part = differences(&[100, step], &[1, many], 2, form)?;
+        assert!(is_damaged(&written(2, many, &[&part])), "{step} {form}");
+    }
+    let most = (1 << 26) + 1;
+    for form in [1, 2] {
+        let part = differences(&[100, 1], &[1, most], most, form)?;
+        assert!(is_damaged(&written(2, most, &[&part])), "{form}");
+    }
+    Ok(())
+}
+
+#[test]
+fn one_run_of_many_rows_is_kept_as_differences() -> Result<(), TableError> {
+    let many = 1 << 60;
+    let mut part = differences(&[100, 0], &[1, many], 1, 2)?;
+    part.bounds = bytes_of("08 01 10 08 18 01 20 02 28 01 3a 10 6400000000000000 6400000000000000");
+    let table = Table::from_bytes(&written(2, many, &[&part]))?;
+    assert_eq!(
+        (table.rows(), table["at"].runs()?.len()),
+        (many as usize, 1)
+    );
+    assert_eq!(table["at"].get::<i64>(1 << 59)?, Some(100));
+    Ok(())
+}
+
+#[test]
+fn footers_that_say_otherwise_are_refused() -> Result<(), TableError> {
+    let bounds = "08 01 10 0b 18 01 20 02 28 01 62 02 02 02 6a 04 61 62 61 62";
+    let place = &Part {
+        name: "place",
+        message: bytes_of("08 01 10 0b 18 03 20 03 28 01 3a 02 61 62"),
+        nulls: 0,
+        runs: 1,
+        bounds: bytes_of(bounds),
+        differences: None,
+    };
+    let at = &differences(&[100, 60], &[1, 6], 6, 1)?;
+    assert_eq!(Table::from_bytes(&written(1, 3, &[place]))?.rows(), 3);
+    assert_eq!(Table::from_bytes(&written(2, 6, &[at]))?.rows(), 6);
+    let one_bound = bytes_of("08 01 10 0b 18 01 20 01 28 01 62 01 02 6a 02 61 62");
+    let cases: [(&str, u64, u64, &[&Part]); 15] = [
+        ("another number of rows", 1, 4, &[place]),
+        ("a name twice", 1, 3, &[place, place]),
+        ("nulls", 1, 3, &[&place.with(|part| part.nulls = 1)]),
+        ("runs", 1, 3, &[&place.with(|part| part.runs = 2)]),
+        (
+            "another bound",
+            1,
+            3,
+            &[&place.with(|part| part.bounds[16] = b'c')],
+        ),
+        (
+            "one bound",
+            1,
+            3,
+            &[&place.with(|part| part.bounds = one_bound)],
+        ),
+        (
+            "a field of version 2",
+            1,
+            3,
+            &[&place.with(|part| part.differences = Some(0))],
+        ),
+        ("a field that is not there", 2, 3, &[place]),
+        (
+            "no differences",
+            2,
+            3,
+            &[&place.with(|part| part.differences = Some(0))],
+        ),
+        (
+            "differences of texts",
+            2,
+            3,
+            &[&place.with(|part| part.differences = Some(1))],
+        ),
+        (
+            "one of two fields",
+            2,
+            6,
+            &[at, &at.with(|part| part.differences = None)],
+        ),
+        (
+            "another form",
+            2,
+            6,
+            &[&at.with(|part| part.differences = Some(3))],
+        ),
+        (
+            "differences as rows",
+            2,
+            6,
+            &[&at.with(|part| part.differences = Some(0))],
+        ),
+        ("fewer rows", 2, 5, &[at]),
+        ("another version", 3, 3, &[place]),
+    ];
+    for (what, version, rows, parts) in cases {
+        assert!(is_damaged(&written(version, rows, parts)), "{what}");
+    }
+    Ok(())
+}
+
+#[test]
+fn only_the_footer_is_read_where_only_it_is_asked() -> Result<(), TableError> {
+    let folder = folder("footer");
+    let path = folder.join("table.hv");
+    let keep = |parts: &[&Part]| fs::write(&path, written(2, 6, parts)).unwrap();
+    let at = &differences(&[100, 60], &[1, 6], 6, 1)?;
+    let texts = bytes_of("08 01 10 0b 18 01 20 02 28 01 62 02 02 02 6a 04 61 62 61 62");
+    let bits = "08 01 10 08 18 01 20 02 28 04 32 01 03 3a 10 6400000000000000 9001000000000000";
+    for parts in [
+        &[&at.with(|part| part.bounds = texts)][..], // differences of texts
+        &[&at.with(|part| part.bounds = bytes_of(bits))], // bounds with a bit for each
+        &[at, at],
+    ] {
+        keep(parts);
+        assert!(matches!(Table::footer(&path), Err(TableError::Damaged(_))));
+    }
+    keep(&[&at.with(|part| part.message.fill(0))]);
+    assert_eq!(Table::footer(&path)?.rows, 6);
+    let column = Table::load_columns(&path, ["at"]);
+    assert!(matches!(column, Err(TableError::Damaged(_))));
+    assert_eq!(Table::load_columns(&path, &[] as &[&str])?.rows(), 6);
+    fs::remove_dir_all(folder).unwrap();
     Ok(())
 }
 
@@ -116,6 +216,7 @@ fn each_changed_byte_makes_another_table_or_none() -> Result<(), TableError> {
                 }
                 match Table::from_bytes(&changed) {
                     Ok(table) => {
+                        assert!(table.iter().all(|(_, column)| column.len() == table.rows()));
                         let again = [table.to_bytes()?, table.to_bytes_with(SHORT)?];
                         assert!(again.contains(&changed), "{place}: {table}");
                         others += 1;

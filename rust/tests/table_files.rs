@@ -147,6 +147,68 @@ fn check_footer(footer: &TableFooter, table: &Table) -> Result<(), TableError> {
 }
 
 #[test]
+fn a_column_is_kept_as_differences_only_where_they_are_shorter() -> Result<(), TableError> {
+    let mut sizes = std::collections::BTreeMap::new();
+    for rows in 0..30 {
+        for irregular in 0..12 {
+            let row = |row: usize| {
+                if row < irregular {
+                    7 * row * row
+                } else {
+                    60 * row
+                }
+            };
+            let items: Vec<i64> = (0..rows).map(|at| row(at) as i64).collect();
+            let before = [&[0], &items[..]].concat();
+            let steps: Vec<i64> = items
+                .iter()
+                .zip(&before)
+                .map(|(row, last)| row - last)
+                .collect();
+            let steps = Column::new(&steps)?.encode_rows()?.to_bytes()?;
+            let column = Column::new(&items)?;
+            let order = steps.len().cmp(&column.to_bytes()?.len());
+            let bytes = Table::try_from_iter([("at", column)])?.to_bytes_with(SHORT)?;
+            assert_eq!(
+                bytes[12],
+                if order.is_lt() { 2 } else { 1 },
+                "{rows} {irregular}"
+            );
+            *sizes.entry(order).or_insert(0) += 1;
+        }
+    }
+    assert_eq!(sizes.len(), 3); // some are shorter, some longer, and some as long
+    Ok(())
+}
+
+#[test]
+fn a_column_comes_back_in_its_form_or_is_kept_as_rows() -> Result<(), TableError> {
+    let regular: Vec<Option<i64>> = (0..300).map(|row| Some(60 * row)).collect();
+    let mut gaps = regular.clone();
+    for row in (7..290).step_by(40) {
+        (gaps[row], gaps[row + 1], gaps[row + 2]) = (Some(5), None, Some(5)); // equal on both sides of a null
+    }
+    let by_bits = Column::try_from(&regular)?; // a bit for each row, and no null
+    let all_valid = by_bits.encode_rows()?.decode()?; // which says so once
+    assert!(by_bits.to_bytes()?.len() > all_valid.to_bytes()?.len());
+    for (column, version) in [
+        (by_bits, 1),
+        (all_valid, 2),
+        (Column::try_from(&regular)?.encode_rows()?, 2),
+        (Column::try_from(&gaps)?.encode_rows()?, 2),
+        (Column::try_from(&gaps)?, 2),
+        (Column::new(&[7i64; 300])?, 2),
+        (Column::constant(Kind::I64, 7, 300)?, 1),
+    ] {
+        let message = column.to_bytes()?;
+        let bytes = Table::try_from_iter([("at", column)])?.to_bytes_with(SHORT)?;
+        assert_eq!(bytes[12], version);
+        assert_eq!(Table::from_bytes(&bytes)?["at"].to_bytes()?, message);
+    }
+    Ok(())
+}
+
+#[test]
 fn the_lines_of_the_page_about_tables_run() -> Result<(), TableError> {
     let folder = folder("page");
     let minutes = (0..576).map(|row| row % 288 * 10);
@@ -246,6 +308,8 @@ fn footers_of_floats_know_where_numbers_may_be() -> Result<(), TableError> {
         plain.may_have("depth", Operator::Equal, 0.0)?
             && !plain.may_have("depth", Operator::Greater, 7)?
     );
+    let far = footer_of(&[f64::INFINITY, f64::NAN])?;
+    assert!(far.may_have("depth", Operator::NotEqual, f64::INFINITY)?);
     let nans = footer_of(&[f64::NAN])?;
     assert!(
         nans.may_have("depth", Operator::NotEqual, 1.0)?

@@ -192,6 +192,25 @@ fn sums_of_floats_are_rounded_once_and_nan_is_left_out_of_the_least() -> Result<
 }
 
 #[test]
+fn infinities_are_among_the_numbers_of_a_group() -> Result<(), TableError> {
+    let nan = f32::NAN;
+    let rows = [nan, f32::NEG_INFINITY, 1.0, f32::INFINITY, -nan, -nan, nan];
+    let table = Table::try_from_iter([("key", Column::new(&[1u8, 1, 1, 1, 1, 2, 2])?)])?;
+    let table = table.with_floats("low", &Floats::of(&rows)?)?;
+    let groups = table.group_by(["key"])?;
+    let floats = |table: Table| {
+        table
+            .floats::<f32>("low")?
+            .options()
+            .map_err(TableError::from)
+    };
+    assert_eq!(floats(groups.min("low")?)?, [Some(f32::NEG_INFINITY), None]);
+    assert_eq!(floats(groups.max("low")?)?, [Some(f32::INFINITY), None]);
+    assert_eq!(groups.sum("low")?.logical_type("low")?, Some("g"));
+    Ok(())
+}
+
+#[test]
 fn sums_that_mean_nothing_or_do_not_fit_are_refused() -> Result<(), TableError> {
     let table = Table::try_from_iter([
         ("key", Column::new(&[1u8, 2, 2])?),

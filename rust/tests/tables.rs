@@ -235,9 +235,13 @@ fn long_stretches_are_taken_by_runs() -> Result<(), TableError> {
     let levels: Vec<Option<i32>> = (0..rows)
         .map(|row| (row % 4000 > 50).then_some(row / 700))
         .collect();
+    let longer = [&[Some(-1); 900][..], &[Some(-2); 5], &levels, &[None; 3]].concat();
+    let in_a_window = Column::try_from(&longer)?
+        .encode_rows()?
+        .slice(905..905 + rows as usize)?;
     let table = Table::try_from_iter([
         ("station", Column::try_from(&stations)?.encode_rows()?),
-        ("level", Column::try_from(&levels)?.encode_rows()?),
+        ("level", in_a_window),
         ("row", Column::new(&(0..rows).collect::<Vec<i32>>())?),
         ("same", Column::constant(Kind::UTF8, "x", rows as usize)?),
     ])?;
@@ -392,14 +396,27 @@ fn floats_of_32_bits_are_compared_with_doubles_and_integers() -> Result<(), Tabl
         table.filter_by("low", Operator::Less, 16_777_217)?.rows(),
         3
     );
-    let far =
-        Table::without_columns(0).with_floats("far", &Floats::of(&[9_007_199_254_740_992.0])?)?;
-    let odd = 9_007_199_254_740_993i64; // between two floats
-    let holds = |operator| Ok::<_, TableError>(far.filter_by("far", operator, odd)?.rows() == 1);
-    assert!(holds(Operator::Less)? && holds(Operator::LessOrEqual)? && holds(Operator::NotEqual)?);
-    assert!(
-        !holds(Operator::Greater)? && !holds(Operator::GreaterOrEqual)? && !holds(Operator::Equal)?
-    );
+    Ok(())
+}
+
+#[test]
+fn an_integer_between_two_floats_is_decided_exactly() -> Result<(), TableError> {
+    use Operator::{Equal, Greater, GreaterOrEqual, Less, LessOrEqual, NotEqual};
+    let first = 1i64 << 53; // from here on each second integer is a float
+    for row in [first, first + 2, first + 4] {
+        let floats = Floats::of(&[row as f64])?;
+        let table = Table::without_columns(0).with_floats("far", &floats)?;
+        for odd in [first + 1, first + 3] {
+            let holds =
+                |operator| Ok::<_, TableError>(table.filter_by("far", operator, odd)?.rows() == 1);
+            assert_eq!((holds(Less)?, holds(LessOrEqual)?), (row < odd, row < odd));
+            assert_eq!(
+                (holds(Greater)?, holds(GreaterOrEqual)?),
+                (row > odd, row > odd)
+            );
+            assert_eq!((holds(Equal)?, holds(NotEqual)?), (false, true));
+        }
+    }
     Ok(())
 }
 

@@ -129,8 +129,7 @@ impl<T: Native + TryFrom<i128>> Totals<T> {
 
     /// Adds rows of which each is the one before and this difference; `None` where one does not fit the type.
     fn add(&mut self, step: i128, rows: usize) -> Option<()> {
-        let last = self.total.checked_add(step.checked_mul(rows as i128)?)?;
-        T::try_from(last).ok()?; // rows between the first and the last are between these
+        let last = self.total.checked_add(step.checked_mul(rows as i128)?)?; // no row is past it
         if step == 0 && self.is_in_runs && self.is_after_value {
             if let Some(stop) = self.stops.last_mut() {
                 *stop += rows;

@@ -73,3 +73,68 @@ pub fn lines(corpus: &str) -> Vec<(usize, String, Vec<u8>)> {
     };
     corpus.lines().map(line).collect()
 }
+
+/// Holds a column of a table that is written by hand, and what the footer says of it.
+#[derive(Clone)]
+pub struct Part {
+    pub name: &'static str,
+    pub message: Vec<u8>,
+    pub nulls: u64,
+    pub runs: u64,
+    pub bounds: Vec<u8>,
+    pub differences: Option<u64>,
+}
+
+impl Part {
+    /// Describes the column otherwise.
+    pub fn with(&self, change: impl FnOnce(&mut Part)) -> Part {
+        let mut other = self.clone();
+        change(&mut other);
+        other
+    }
+}
+
+/// Writes a table by hand, well-formed or not.
+pub fn written(version: u64, rows: u64, parts: &[&Part]) -> Vec<u8> {
+    let (mut bytes, mut footer) = (Vec::new(), Vec::new());
+    sized(&mut bytes, 1, b"hivevigil");
+    number(&mut bytes, 2, version);
+    number(&mut footer, 1, rows);
+    for part in parts {
+        sized(&mut bytes, 3, &part.message);
+        let mut known = Vec::new();
+        sized(&mut known, 1, part.name.as_bytes());
+        sized(&mut known, 2, b"");
+        number(&mut known, 3, part.message.len() as u64);
+        number(&mut known, 4, part.nulls);
+        number(&mut known, 5, part.runs);
+        sized(&mut known, 6, &part.bounds);
+        if let Some(differences) = part.differences {
+            number(&mut known, 7, differences);
+        }
+        sized(&mut footer, 2, &known);
+    }
+    sized(&mut bytes, 4, &footer);
+    bytes.push(0x29);
+    bytes.extend((footer.len() as u64).to_le_bytes());
+    bytes
+}
+
+fn number(out: &mut Vec<u8>, field: u8, number: u64) {
+    out.push(field << 3);
+    varint(out, number);
+}
+
+fn sized(out: &mut Vec<u8>, field: u8, content: &[u8]) {
+    out.push((field << 3) | 2);
+    varint(out, content.len() as u64);
+    out.extend(content);
+}
+
+fn varint(out: &mut Vec<u8>, mut number: u64) {
+    while number > 127 {
+        out.push((number & 127) as u8 | 128);
+        number >>= 7;
+    }
+    out.push(number as u8);
+}

@@ -92,12 +92,9 @@ pub fn in_some_form(dice: &mut Dice, kind: Kind, rows: &[Value]) -> Result<Colum
         0 => flat(kind, rows),
         1 => flat(kind, rows)?.encode_rows(),
         _ => {
-            let longer: Vec<Value> =
-                [&rows[..rows.len().min(1)], rows, &rows[..rows.len().min(2)]].concat();
-            let start = rows.len().min(1);
-            flat(kind, &longer)?
-                .encode_rows()?
-                .slice(start..start + rows.len())
+            let around = &rows[rows.len().saturating_sub(2)..];
+            let longer = flat(kind, &[around, rows, around].concat())?.encode_rows()?;
+            longer.slice(around.len()..around.len() + rows.len())
         }
     }
 }
