@@ -3,7 +3,7 @@ mod table_model;
 
 use hivevigil::{Column, Floats, Form, Kind, Operator, Order, Table, TableError, Value};
 use std::cmp::Ordering;
-use table_model::{compare, flat, in_some_form, model_of, random, Dice, Model};
+use table_model::{compare, flat, in_some_form, model_of, random, window_of, Dice, Model};
 
 const TABLES: u64 = 300;
 
@@ -235,10 +235,13 @@ fn long_stretches_are_taken_by_runs() -> Result<(), TableError> {
     let levels: Vec<Option<i32>> = (0..rows)
         .map(|row| (row % 4000 > 50).then_some(row / 700))
         .collect();
-    let longer = [&[Some(-1); 900][..], &[Some(-2); 5], &levels, &[None; 3]].concat();
-    let in_a_window = Column::try_from(&longer)?
-        .encode_rows()?
-        .slice(905..905 + rows as usize)?;
+    let longer = [&[Some(-1); 900][..], &levels, &[None; 3]].concat();
+    // the first run ends where the window begins
+    let in_a_window = window_of(
+        &Column::try_from(&longer)?.encode_rows()?,
+        900,
+        rows as usize,
+    )?;
     let table = Table::try_from_iter([
         ("station", Column::try_from(&stations)?.encode_rows()?),
         ("level", in_a_window),

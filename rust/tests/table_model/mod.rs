@@ -92,11 +92,16 @@ pub fn in_some_form(dice: &mut Dice, kind: Kind, rows: &[Value]) -> Result<Colum
         0 => flat(kind, rows),
         1 => flat(kind, rows)?.encode_rows(),
         _ => {
-            let around = &rows[rows.len().saturating_sub(2)..];
-            let longer = flat(kind, &[around, rows, around].concat())?.encode_rows()?;
-            longer.slice(around.len()..around.len() + rows.len())
+            let before: Vec<Value> = rows.iter().rev().take(1).cycle().take(2).cloned().collect();
+            let longer = flat(kind, &[&before, rows, &before].concat())?.encode_rows()?;
+            window_of(&longer, before.len(), rows.len())
         }
     }
+}
+
+/// Shows some rows of a run column, with what is before and after them in its runs.
+pub fn window_of(runs: &Column, offset: usize, rows: usize) -> Result<Column, Error> {
+    Column::from_runs(&runs.ends()?, &runs.values()?, offset, rows)
 }
 
 /// Makes a flat column of rows, by the maker of their type.
