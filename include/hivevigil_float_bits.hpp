@@ -71,14 +71,14 @@ struct FloatComparison {
     uint64_t bits;
 };
 
-// One that answers as that with a number would: the number is below, equal to or above the nearest float of the width
-// on the side of 0, as `order` is less than 0, 0 or more than 0.
-inline FloatComparison float_comparison(Operator by, uint64_t nearest, int order, int width) {
-    if (order == 0) return {by, nearest};
+// One that answers as that with a number would. The number is below, equal to or above a float of the width that is
+// next to it on one side, as `order` is less than 0, 0 or more than 0.
+inline FloatComparison float_comparison(Operator by, uint64_t bits, int order, int width) {
+    if (order == 0) return {by, bits};
     // between two floats: no row equals it, and a row is below it where it is at most the lower of both
     if (by == Operator::equal || by == Operator::not_equal) return {by, bits_toward_zero(std::nan(""), width)};
     const bool is_below = by == Operator::less || by == Operator::less_or_equal;
-    const int64_t key = key_of_bits(nearest, width); // of a zero with the sign of the number, where it is next to 0
+    const int64_t key = key_of_bits(bits, width); // of a zero with the sign of the number, where it is next to 0
     return {is_below ? Operator::less_or_equal : Operator::greater, bits_of_key(order > 0 ? key : key - 1, width)};
 }
 
@@ -90,10 +90,7 @@ inline FloatComparison float_comparison(Operator by, double number, int width) {
 
 // The same with an integer.
 inline FloatComparison float_comparison(Operator by, Wide number, int width) {
-    double rounded = static_cast<double>(number);
-    const Wide back = static_cast<Wide>(rounded);
-    if (number > 0 ? back > number : back < number) rounded = std::nextafter(rounded, 0.0);
-    const uint64_t bits = bits_toward_zero(rounded, width);
+    const uint64_t bits = bits_toward_zero(static_cast<double>(number), width);
     const Wide nearest = static_cast<Wide>(float_of_bits(bits, width));
     return float_comparison(by, bits, (number > nearest) - (number < nearest), width);
 }

@@ -11,7 +11,7 @@
  * A call answers 0, a number of hivevigil.h, or one of hivevigil_table_errors.h, which has the sentences of all;
  * `error` is not null. After a refusal every table and column is as it was, `out` too. After 0 `out` has the table that
  * was made, whose columns share buffers with those of the first, and the one that it had before is freed: `out` may be
- * the table that is lent. hivevigil_table.hpp has more of them in C++: order, groups, files, Arrow. */
+ * the table that is lent. hivevigil_table.hpp has more of them in C++: order, groups, files. */
 #ifndef HIVEVIGIL_TABLE_H
 #define HIVEVIGIL_TABLE_H
 #include "hivevigil_arrow.h"
@@ -275,6 +275,135 @@ HV_ANSWER hv_table_append(const hv_session *session, const hv_table *first, cons
         hv_free(&lent[1]);
     }
     return hv_table_done(answer, &made, out);
+}
+
+/* ---- Arrow ---- */
+
+static inline bool hv_table_is_float(const hv_column *column, const char *logical_type) {
+    const uint8_t number = hv_kind_of(column).number;
+    const char letter = number == HV_I16 ? 'e' : number == HV_I32 ? 'f' : number == HV_I64 ? 'g' : 0;
+    return letter && logical_type[0] == letter && !logical_type[1];
+}
+
+/* Does a format of Arrow say what integers mean: dates, times, timestamps, durations, or floats by their keys? */
+static inline bool hv_table_is_logical_type(const char *format) {
+    const char *units = "smun";
+    if (!format || !format[0]) return false;
+    if (!format[1]) return strchr("efg", format[0]) != NULL;
+    if (format[0] != 't' || !format[2]) return false;
+    if (format[1] == 'd') return (format[2] == 'D' || format[2] == 'm') && !format[3];
+    if (!strchr(units, format[2])) return false;
+    return format[1] == 's' ? format[3] == ':' : strchr("tD", format[1]) && !format[3];
+}
+
+/* The bits of floats: in runs where the column is, else flat. */
+static inline int32_t hv_table_bits(const hv_column *column, hv_column *out, hv_error *error) {
+    hv_column ends = HV_EMPTY, values = HV_EMPTY, bits = HV_EMPTY;
+    if (hv_form(column) != HV_FORM_RUNS) return hv_float_decode(column, out, error);
+    int32_t answer = hv_ends(column, &ends, error);
+    if (!answer) answer = hv_values(column, &values, error);
+    if (!answer) answer = hv_float_decode(&values, &bits, error);
+    if (!answer) answer = hv_runs(&ends, &bits, hv_offset(column), hv_length(column), out, error);
+    hv_free(&ends);
+    hv_free(&values);
+    hv_free(&bits);
+    return answer;
+}
+
+/* The floats of bits: flat where these are flat, else in runs. */
+static inline int32_t hv_table_of_bits(const hv_session *session, hv_column *bits, hv_error *error) {
+    const uint8_t form = hv_form(bits);
+    int32_t answer = hv_float_encode(bits, 0, bits, error);
+    if (!answer && form == HV_FORM_FLAT) answer = hv_decode(session, bits, bits, error);
+    return answer;
+}
+
+/* The columns as a call of Arrow takes them: floats by their bits. */
+static inline int32_t hv_table_lend(const hv_table *table, hv_column *lent, hv_arrow_options *options,
+                                    hv_error *error) {
+    int32_t answer = HV_OK;
+    for (size_t i = 0; !answer && i < table->count; i++) {
+        const hv_column *column = &table->columns[i];
+        const char *format = table->logical_types[i];
+        hv_arrow_layout layout;
+        if (hv_table_is_float(column, format)) {
+            options[i].bits_of_float = 1;
+            answer = hv_table_bits(column, &lent[i], error);
+            continue;
+        }
+        if (hv_arrow_is_format_of(format, hv_kind_of(column), &layout)) options[i].format = format;
+        answer = hv_clone(column, &lent[i], error);
+    }
+    return answer;
+}
+
+/* The table as a stream of batches of `chunk_rows` rows, the last one of what is left; of all rows where it is 0. Each
+ * column goes out in its logical type, in runs where it is. All is copied. 13 for a table without columns. */
+HV_ANSWER hv_table_export_stream(const hv_session *session, const hv_table *table, size_t chunk_rows,
+                                 struct ArrowArrayStream *stream, hv_error *error) {
+    const size_t count = table->count;
+    hv_column *lent = (hv_column *)calloc(count + 1, sizeof *lent);
+    hv_arrow_options *options = (hv_arrow_options *)calloc(count + 1, sizeof *options);
+    int32_t answer = lent && options ? HV_OK : hv_arrow_refuse(HV_OUT_OF_MEMORY, 0, 0, error);
+    if (!answer) answer = hv_table_lend(table, lent, options, error);
+    if (!answer)
+        answer = hv_arrow_export_stream(session, lent, (const char *const *)table->names, count, chunk_rows, options,
+                                        stream, error);
+    for (size_t i = 0; lent && i < count; i++) hv_free(&lent[i]);
+    free(lent);
+    free(options);
+    return answer;
+}
+
+/* The schema's columns, of which none is read yet: their names, logical types, and how each is read. 13 where it is not
+ * one of batches with columns. */
+static inline int32_t hv_table_plan(const struct ArrowSchema *schema, const char **names, const char **formats,
+                                    uint8_t *how, hv_error *error) {
+    for (int64_t i = 0; i < schema->n_children; i++) {
+        const struct ArrowSchema *child = schema->children ? schema->children[i] : NULL;
+        if (!child) return hv_arrow_invalid(HV_ARROW_NO_POINTER, error);
+        const char *format = hv_arrow_value_format(child);
+        names[i] = child->name ? child->name : "";
+        formats[i] = hv_table_is_logical_type(format) ? format : "";
+        how[i] = formats[i][0] && !formats[i][1] ? HV_ARROW_READ_BITS : HV_ARROW_READ;
+    }
+    return HV_OK;
+}
+
+/* The rows of all batches after one another, where the columns have names. */
+static inline int32_t hv_table_read(const hv_session *session, struct ArrowArrayStream *stream,
+                                    const struct ArrowSchema *schema, hv_table *out, hv_error *error) {
+    const size_t count = (size_t)schema->n_children;
+    const char **names = (const char **)calloc(2 * count + 1, sizeof *names);
+    uint8_t *how = (uint8_t *)calloc(count + 1, 1);
+    hv_column *columns = (hv_column *)calloc(count + 1, sizeof *columns);
+    int32_t answer = names && how && columns ? HV_OK : hv_arrow_refuse(HV_OUT_OF_MEMORY, 0, 0, error);
+    if (!answer) answer = hv_table_plan(schema, names, names + count, how, error);
+    if (!answer) answer = hv_arrow_import_stream(session, stream, columns, count, how, NULL, 0, error);
+    for (size_t i = 0; !answer && i < count; i++)
+        if (how[i] == HV_ARROW_READ_BITS) answer = hv_table_of_bits(session, &columns[i], error);
+    if (!answer) answer = hv_table_new(names, names + count, columns, count, out, error);
+    for (size_t i = 0; columns && i < count; i++) hv_free(&columns[i]);
+    free(names);
+    free(how);
+    free(columns);
+    return answer;
+}
+
+/* All batches of a stream, which is released for its caller, also where the call is refused: 103 where it fails, 13
+ * where it has arrays and not batches of columns, and as hv_arrow_import_stream and hv_table_new. */
+HV_ANSWER hv_table_import_stream(const hv_session *session, struct ArrowArrayStream *stream, hv_table *out,
+                                 hv_error *error) {
+    struct ArrowSchema schema;
+    memset(&schema, 0, sizeof schema);
+    int failed = stream->release ? stream->get_schema(stream, &schema) : EINVAL;
+    int32_t answer = failed ? hv_arrow_refuse(HV_ARROW_STREAM_FAILED, (uint64_t)failed, 0, error) : HV_OK;
+    const bool is_batch = !answer && schema.format && strcmp(schema.format, "+s") == 0 && schema.n_children > 0;
+    if (!answer && !is_batch) answer = hv_arrow_refuse(HV_UNSUPPORTED, 0, 0, error);
+    if (!answer) answer = hv_table_read(session, stream, &schema, out, error);
+    if (schema.release) schema.release(&schema);
+    if (stream->release) stream->release(stream);
+    return answer;
 }
 
 #ifdef __cplusplus

@@ -4,6 +4,7 @@
 #ifndef HIVEVIGIL_TABLE_SORT_HPP
 #define HIVEVIGIL_TABLE_SORT_HPP
 #include "hivevigil_table.hpp"
+#include "hivevigil_table_differences.hpp"
 #include <numeric>
 
 namespace hv {
@@ -24,38 +25,49 @@ inline std::vector<uint64_t> stops_of(const Column &encoding) {
     return stops;
 }
 
-// Two values of one column, null first.
+// Two values of one column, of which neither is null.
+template <class T> bool is_below(T left, T right) { return left < right; }
 inline bool is_below(const Value &left, const Value &right) {
     return std::visit(
         [](const auto &one, const auto &other) {
             using Left = std::decay_t<decltype(one)>;
-            using Right = std::decay_t<decltype(other)>;
-            if constexpr (!std::is_same_v<Left, Right>) return std::is_same_v<Left, Null>;
+            if constexpr (!std::is_same_v<Left, std::decay_t<decltype(other)>>) return false;
             else if constexpr (std::is_same_v<Left, Decimal>) return one.digits() < other.digits();
             else return one < other;
         },
         left, right);
 }
 
+// For each run the place of its value among all of them, by an order of two runs that have one.
+template <class Below>
+std::vector<size_t> ranks_among(const std::vector<bool> &valid, Below comes_before, Order by, Nulls nulls) {
+    std::vector<size_t> order, ranks(valid.size(), 0);
+    for (size_t run = 0; run < valid.size(); run++)
+        if (valid[run]) order.push_back(run);
+    std::sort(order.begin(), order.end(), comes_before);
+    size_t rank = 0; // of nulls that come first; others count from 1
+    for (size_t at = 0; at < order.size(); at++) {
+        if (at == 0 || comes_before(order[at - 1], order[at])) rank++;
+        ranks[order[at]] = rank;
+    }
+    for (size_t run = 0; run < valid.size(); run++) {
+        if (!valid[run]) ranks[run] = nulls == Nulls::last ? rank + 1 : 0;
+        else if (by == Order::descending) ranks[run] = rank + 1 - ranks[run];
+    }
+    return ranks;
+}
+
 inline Ranks ranks_of(const Column &column, Order by, Nulls nulls) {
     const Column encoding = column.encode_rows(), flat = encoding.values().decode();
-    const std::vector<Value> values(flat.begin(), flat.end());
-    std::vector<size_t> order(values.size());
-    std::iota(order.begin(), order.end(), size_t{0});
-    const auto comes_before = [&](size_t left, size_t right) { return is_below(values[left], values[right]); };
-    std::sort(order.begin(), order.end(), comes_before);
-    Ranks found{stops_of(encoding), std::vector<size_t>(values.size(), 0)};
-    size_t rank = 0; // of null, which comes first here; others count from 1
-    for (size_t at = 0; at < order.size(); at++) {
-        if (std::holds_alternative<Null>(values[order[at]])) continue;
-        if (at == 0 || is_below(values[order[at - 1]], values[order[at]])) rank++;
-        found.ranks[order[at]] = rank;
-    }
-    for (size_t &place : found.ranks) {
-        if (place == 0) place = nulls == Nulls::last ? rank + 1 : 0;
-        else if (by == Order::descending) place = rank + 1 - place;
-    }
-    return found;
+    const std::vector<bool> valid = flat.validity();
+    const auto ranked = [&](const auto &values) {
+        const auto comes_before = [&](size_t left, size_t right) { return is_below(values[left], values[right]); };
+        return ranks_among(valid, comes_before, by, nulls);
+    };
+    if (!is_integer(column.kind())) return {stops_of(encoding), ranked(std::vector<Value>(flat.begin(), flat.end()))};
+    return by_type(column.kind(), [&](auto zero) {
+        return Ranks{stops_of(encoding), ranked(flat.numbers<decltype(zero)>())};
+    });
 }
 
 // The same over shorter runs, which stop where these do, and elsewhere.

@@ -44,7 +44,7 @@ def some_value(chance: random.Random, name: str):
 
 
 def some_rows(chance: random.Random, name: str, count: int) -> list:
-    rows, stays = [], chance.choice([1, 3, 10])
+    rows, stays = [], chance.choice([1, 3, 10, 60])
     is_nullable = chance.random() < 0.5
     for row in range(count):
         if row == 0 or chance.randrange(stays) == 0:

@@ -80,7 +80,7 @@ static Rows random_rows(size_t count) {
         made.names.push_back(std::string(1, static_cast<char>('a' + column)) + (below(2) ? "é" : ""));
         made.kinds.push_back(below(2) ? hv::nullable(kind) : kind), made.formats.push_back(format);
     }
-    const size_t stays = 1 + below(6); // about as many rows in a run
+    const size_t stays = 1 + below(below(3) ? 6 : 80); // about as many rows in a run
     for (size_t row = 0; row < count; row++) {
         made.rows.push_back(row ? made.rows.back() : Row(made.kinds.size()));
         for (size_t column = 0; column < made.kinds.size(); column++)

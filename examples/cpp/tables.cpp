@@ -81,6 +81,34 @@ static void check_parts() {
     CHECK(other == table && moved.rows() == 0 && moved.empty());
     moved = other.clone();
     CHECK(moved.equals(table));
+    const Table none(std::vector<hv::NamedColumn>(), 3);
+    CHECK(none != Table(std::vector<hv::NamedColumn>(), 2) && table != none);
+    CHECK(few != few.with_column({"at", few["at"], "ttm"}) && few != table.select({"station", "at"}));
+}
+
+// Columns of floats, asked by numbers that they do not have.
+static void check_floats() {
+    const std::vector<float> narrow{-16777216.0f, -16777218.0f, 0.1f};
+    const std::vector<double> wide{9007199254740994.0, 9007199254740996.0, 0.1};
+    const Table table{{"narrow", narrow}, {"wide", wide}, {"row", {0, 1, 2}}};
+    CHECK(table.at("narrow").logical_type == "f" && table["narrow"].kind().number == HV_I32);
+    CHECK(rows_of(table.filter_by("narrow", "<", -16777217)["row"]) == numbers({1}));
+    CHECK(rows_of(table.filter_by("narrow", ">", -16777217)["row"]) == numbers({0, 2}));
+    CHECK(table.filter_by("narrow", "==", -16777217).rows() == 0 && table.filter_by("narrow", "!=", 0.1).rows() == 3);
+    CHECK(table.filter_by("narrow", "==", 0.1f).rows() == 1 && table.filter_by("wide", "==", 0.1).rows() == 1);
+    CHECK(rows_of(table.filter_by("wide", "<=", int64_t{9007199254740995})["row"]) == numbers({0, 2}));
+    CHECK(table.filter_by("wide", "<", UINT64_MAX).rows() == 3);
+    CHECK(table.filter_by("wide", "<", std::nan("")).rows() == 0);
+    const hv::TableGroups groups = table.with_column({"key", {1, 1, 2}}).group_by({"key"});
+    const hv::NamedColumn sums = groups.fold({"sum", Fold::sum, "narrow"});
+    CHECK(sums.logical_type == "g" && hv::Floats<double>(sums.column.clone()).at(0) == -33554434.0);
+    CHECK(groups.fold({"most", Fold::greatest, "narrow"}).logical_type == "f");
+    const std::vector<std::optional<double>> some{std::nullopt, std::nullopt, 2.5};
+    const Table missing{{"key", {1, 1, 2}}, {"x", some}};
+    const hv::Floats<double> found(missing.group_by({"key"}).fold({"sum", Fold::sum, "x"}).column.clone());
+    CHECK(!found.at(0) && found.at(1) == 2.5);
+    check_refused(HV_TYPE_MISMATCH, "column 'wide': a float is not compared with a text",
+                  [&] { table.filter_by("wide", "<", "1"); });
 }
 
 static void check_rows() {
@@ -316,6 +344,68 @@ static void check_damaged(const hv::Bytes &bytes) {
     std::cout << refused << " of " << tried << " damaged files refused\n";
 }
 
+// ---- Files that are put together by hand ----
+
+struct Part {
+    hv::Bytes message, footer;
+};
+
+// The parts of a column, kept in a form.
+static Part part_of(const hv::NamedColumn &named, uint64_t version, hv::detail::KeptForm kept, hv::Bytes message) {
+    return {message, hv::detail::footer_of_column(named, message.size(), version, kept)};
+}
+
+// A file of these parts, with bytes after the columns, and with its number of rows in these bytes.
+static hv::Bytes file_of(uint64_t version, const hv::Bytes &rows, const std::vector<Part> &parts,
+                         const hv::Bytes &after) {
+    hv::Bytes bytes = hv::detail::head_of_table(version), footer{8};
+    footer.insert(footer.end(), rows.begin(), rows.end());
+    for (const Part &part : parts) {
+        hv::detail::put_sized(bytes, hv::detail::column_field, part.message);
+        hv::detail::put_sized(footer, 2, part.footer);
+    }
+    bytes.insert(bytes.end(), after.begin(), after.end());
+    hv::detail::put_sized(bytes, hv::detail::footer_field, footer);
+    bytes.push_back(hv::detail::tail_key);
+    hv::detail::put_low_bytes(bytes, static_cast<hv::detail::Wide>(footer.size()), 8);
+    return bytes;
+}
+
+static bool is_table(const hv::Bytes &bytes) {
+    try {
+        Table::from_bytes(bytes);
+        return true;
+    } catch (const hv::Error &error) {
+        CHECK(error.number == HV_BAD_METADATA);
+        return false;
+    }
+}
+
+static void check_parts_of_files() {
+    using namespace hv::detail;
+    const hv::NamedColumn named("a", Column::of<int8_t>({1, 2}));
+    const Part part = part_of(named, 1, kept_rows, named.column.to_bytes());
+    CHECK(file_of(1, {2}, {part}, {}) == Table{named.clone()}.to_bytes());
+    CHECK(!is_table(file_of(1, {0x82, 0}, {part}, {}))); // a longer varint
+    CHECK(!is_table(file_of(1, {3}, {part}, {})) && !is_table(file_of(1, {2}, {part, part}, {}))); // a name twice
+    CHECK(!is_table(file_of(1, {2}, {part}, {0x1a, 0})) && is_table(file_of(1, {0x80, 1}, {}, {})));
+    const Part second = part_of(named, 2, kept_rows, named.column.to_bytes());
+    CHECK(!is_table(file_of(2, {2}, {second}, {})) && !is_table(file_of(2, {2}, {part}, {})));
+    const auto in_differences = [](const Column &column, int64_t each, KeptForm kept) {
+        const Column differences = Column::of({each, each}).encode_rows();
+        return file_of(2, {2}, {part_of({"a", column}, 2, kept, differences.to_bytes())}, {});
+    };
+    CHECK(is_table(in_differences(Column::of<int8_t>({1, 2}), 1, kept_flat)));
+    CHECK(is_table(in_differences(Column::of<int8_t>({1, 2}), 1, kept_runs)));
+    CHECK(!is_table(in_differences(Column::of<int8_t>({1, 2}), 1, static_cast<KeptForm>(3))));
+    CHECK(!is_table(in_differences(Column::of<int8_t>({100, -56}), 100, kept_flat))); // 200 does not fit
+    CHECK(!is_table(in_differences(Column::of<int8_t>({100, -56}), 100, kept_runs)));
+    Part longer = part;
+    put_number(longer.footer, 7, 0);
+    check_refused(HV_BAD_METADATA, "x, of 73 bytes, is not the file of a table",
+                  [&] { read_footer(hv::StoredFile(file_of(1, {2}, {longer}, {}), "x")); });
+}
+
 // ---- Arrow ----
 
 static void check_arrow() {
@@ -337,6 +427,9 @@ static void check_arrow() {
     check_refused(HV_UNSUPPORTED, "a table comes from batches that have columns",
                   [&] { Table::from_arrow(schema.children[0], array.children[0]); });
     hv_arrow_release(&schema, &array);
+    const Table flat{{"share", table["share"].decode(), "g"}};
+    flat.to_arrow(&stream);
+    CHECK(Table::from_arrow(&stream)["share"].form() == hv::Form::flat);
     table.slice(0, 0).to_arrow(&stream);
     CHECK(Table::from_arrow(&stream) == table.slice(0, 0));
     check_refused(HV_UNSUPPORTED, "a table without columns does not go out to Arrow",
@@ -347,12 +440,14 @@ static void check_arrow() {
 
 int main() {
     check_parts();
+    check_floats();
     check_rows();
     check_order();
     check_groups();
     check_refusals();
     check_files();
     check_bytes_of_page();
+    check_parts_of_files();
     const Table table = readings();
     check_damaged(table.to_bytes());
     const std::vector<int64_t> levels(200, 7);
