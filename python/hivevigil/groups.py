@@ -15,13 +15,16 @@ if TYPE_CHECKING:
 FOLDS = ("sum", "rows", "count", "least", "greatest", "first", "last")  # as hivevigil.h numbers them
 
 
+_PLACED = ("utf8", "binary", "bool", "decimal")  # values that the folds of integers answer by places in their order
+
+
 class Groups:
-    """The groups of a column of numbers by keys of any type but lists. As with itertools.groupby, each run of equal
-    neighbouring keys is a group, null equal to null: keys that are sorted come once each.
+    """The groups of a column by keys of any type but lists. As with itertools.groupby, each run of equal neighbouring
+    keys is a group, null equal to null: keys that are sorted come once each.
 
     Each method returns two flat columns: the key of each group, and its answer, which is null where no value of the
-    group is valid (a count is 0). `size()` counts rows; all others look only at the values that are not null. Decimals
-    are counted, and have sums and means.
+    group is valid (a count is 0). `size()` counts rows; all others look only at the values that are not null. Numbers
+    have sums and means; lists are only counted.
     """
 
     __slots__ = ("_keys", "_values")
@@ -65,29 +68,43 @@ class Groups:
 
     def size(self) -> tuple[Column, Column]:
         """The number of rows of each group, null or not, 'u64?'."""
-        return self._folded("rows")
+        return self._beside(self._values.constant(0, len(self._values), "u8"))._folded("rows")
 
     def count(self) -> tuple[Column, Column]:
         """The number of values of each group that are not null, 'u64?'."""
-        return self._folded("count")
+        if self._holds(*WHOLE_NUMBERS):
+            return self._folded("count")
+        return self._beside(self._values.is_valid().cast("u8"))._folded("sum")
 
     def min(self) -> tuple[Column, Column]:
-        """The least value of each group."""
+        """The least value of each group; of texts by their bytes, and False is below True."""
         self._without_nan("min")
-        return self._folded("least")
+        return self._chosen("least")
 
     def max(self) -> tuple[Column, Column]:
-        """The greatest value of each group."""
+        """The greatest value of each group, in the order of `min`."""
         self._without_nan("max")
-        return self._folded("greatest")
+        return self._chosen("greatest")
 
     def first(self) -> tuple[Column, Column]:
         """The first value of each group that is not null."""
-        return self._folded("first")
+        return self._chosen("first")
 
     def last(self) -> tuple[Column, Column]:
         """The last value of each group that is not null."""
-        return self._folded("last")
+        return self._chosen("last")
+
+    def _beside(self, values: Column) -> Groups:
+        """Other values, by the same keys."""
+        return Groups(self._keys, values)
+
+    def _chosen(self, fold: str) -> tuple[Column, Column]:
+        """A value of each group: of other values than integers by their places in the order of the distinct ones."""
+        if not self._holds(*_PLACED):
+            return self._folded(fold)
+        places, values = _places_of(self._values)
+        keys, chosen = self._beside(places)._folded(fold)
+        return keys, values.take(chosen)
 
     def _without_nan(self, call: str) -> None:
         """Refuses NaNs, which the order of keys has next to all numbers."""
@@ -101,7 +118,7 @@ class Groups:
     def _each(self, answer: Callable[[Column], Any], name: str) -> tuple[Column, Column]:
         """The keys, and what is answered of the rows of each group, as a column of a type."""
         kind = type(self._values)
-        keys, sizes = Groups(self._keys, kind.constant(0, len(self._values), "u8")).size()
+        keys, sizes = self.size()
         rows: list[Any] = sizes.to_list()
         stops = list(accumulate(rows))
         answers = []
@@ -119,6 +136,16 @@ class Groups:
         ask(calls.hv_fold_by, self._keys, values, number, keys._handle, answers._handle)
         keys._meaning(self._keys._logical)
         return keys, answers._meaning(None if fold in ("rows", "count") else self._values._logical)
+
+
+def _places_of(values: Column) -> tuple[Column, Column]:
+    """The place of each row among the distinct values in order, in runs and null where the row is; and these values."""
+    kind, name = type(values), values.type.rstrip("?")
+    runs = list(values.runs())
+    order = sorted({run.value for run in runs if run.value is not None})
+    place_of = {value: place for place, value in enumerate(order)}
+    places = kind.of([None if run.value is None else place_of[run.value] for run in runs], "u64?")
+    return kind.from_runs([run.stop for run in runs], places), kind.of(order, f"{name}?")
 
 
 def _float_sum(part: Column) -> Any:

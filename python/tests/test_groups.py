@@ -8,7 +8,7 @@ import pytest
 from hivevigil import Column, Table, _chunk_groups, errors
 from hypothesis import given
 from hypothesis import strategies as st
-from rows import BITS, least_and_greatest, samples
+from rows import BITS, TYPES, least_and_greatest, samples
 
 FLOATS = st.sampled_from([0.1, 1.0, 1e16, -1e16, 5e-324, 1.7976931348623157e308, math.inf, -math.inf, math.nan])
 KEYED = {
@@ -54,6 +54,28 @@ def test_folds(keys, values):
         found_keys, found = getattr(groups, name)()
         assert found_keys.to_list() == [key for key, _ in due] and found.to_list() == answers
         assert found.type == types.get(name, values.type) + "?" and found.form == found_keys.form == "flat"
+
+
+@given(samples(), samples(types=tuple(name for name in TYPES if name not in BITS)))
+def test_folds_of_other_values(keys, values):
+    rows = min(len(keys.rows), len(values.rows))
+    due = groups_of(keys.rows[:rows], values.rows[:rows])
+    groups = values.column[:rows].group_by(keys.column[:rows])
+    for name in ("size", "count", "min", "max", "first", "last"):
+        found_keys, found = getattr(groups, name)()
+        assert found_keys.to_list() == [key for key, _ in due]
+        assert found.to_list() == [answer(name, part) for _, part in due]
+        assert found.type == ("u64" if name in ("size", "count") else values.type) + "?"
+        assert found.form == found_keys.form == "flat"
+
+
+def test_lists_are_counted():
+    lists = Column.from_lists([1, 2, 3], [0, 1, 2, 0], [1, 1, 1, 0], [True, False, True, True])
+    groups = lists.group_by([1, 1, 2, 2])
+    assert groups.size()[1].to_list() == [2, 2] and groups.count()[1].to_list() == [1, 2]
+    for name in ("sum", "mean", "min", "max", "first", "last"):
+        with pytest.raises((errors.Unsupported, TypeError)):
+            getattr(groups, name)()
 
 
 def test_groups_of_a_list():
@@ -150,7 +172,7 @@ def test_refusals():
     keys, texts = Column.of([1, 1, 2]), Column.of(["a", "b", "c"])
     lists = Column.from_lists([1, 2, 3], [0, 1, 2], [1, 1, 1])
     with pytest.raises(errors.Unsupported):
-        texts.group_by(keys).first()
+        texts.group_by(keys).sum()
     with pytest.raises(errors.Unsupported):
         keys.group_by(lists).count()
     with pytest.raises(errors.ColumnLength) as refused:

@@ -3,8 +3,8 @@ ghost use Rattle.std.specs.Prelude.{IsOkUnless};
 
 use crate::request::FloatType;
 use column_base::{VortexError, VortexResult};
-pub use column_words::{parse_float as read_float, parse_format as read_format};
 use column_words::split_mark;
+pub use column_words::{parse_float as read_float, parse_format as read_format};
 use float_bits::FloatFormat;
 use std::alloc::Allocator;
 
