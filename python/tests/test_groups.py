@@ -150,6 +150,25 @@ def test_sums_and_means_of_groups_in_parts(drawn, cuts):
         assert alike(found[fold].to_list(), [due_of(name, fold, part) for _, part in due]), fold
 
 
+OTHERS = {
+    "utf8": st.sampled_from([None, "", "a", "zz", "\u00e4", "\U0001f41d"]), "bool": st.sampled_from([None, False, True]),
+    "decimal(9, 2)": st.none() | st.integers(-(10**9) + 1, 10**9 - 1).map(lambda digits: Decimal(f"{digits}E-2")),
+}  # fmt: skip
+
+
+@given(st.data(), st.lists(st.integers(0, 2), max_size=20).map(sorted), st.lists(st.integers(0, 20), max_size=3))
+def test_other_values_of_groups_in_parts(data, keys, cuts):
+    columns = {name: [data.draw(rows) for _ in keys] for name, rows in OTHERS.items()}
+    table = Table({"key": Column.of(keys, "u8"), **{name: Column.of(rows, f"{name}?") for name, rows in columns.items()}})
+    folds = ("size", "count", "min", "max", "first", "last")
+    asked = {f"{fold} of {name}": (name, fold) for name in columns for fold in folds}
+    ends = sorted(min(cut, len(keys)) for cut in cuts)
+    parts = [table.slice(start, stop) for start, stop in zip([0, *ends], [*ends, len(keys)])]
+    found = _chunk_groups.joined(_chunk_groups.Groups.of(part, "key", asked) for part in parts).table()
+    for label, (name, fold) in asked.items():
+        assert found[label].to_list() == [answer(fold, part) for _, part in groups_of(keys, columns[name])], label
+
+
 def test_a_sum_of_decimals_that_has_no_room_names_its_group():
     most = Decimal(10**38 - 1)
     groups = Column.of([most, most, most]).group_by([1, 2, 2])
