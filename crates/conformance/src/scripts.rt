@@ -49,6 +49,34 @@ const BAD_LINES: &[&str] = &[
     "col i32? Null",
     "col i32 1\t2",
     "col i32 0x10",
+    "floats",
+    "floats f8 1",
+    "floats F64 1",
+    "floats f64?? 1",
+    "floats i64 1",
+    "floats f64 null",
+    "floats f64? Null",
+    "floats f64 +1.5",
+    "floats f64 NaN",
+    "floats f64 -nan",
+    "floats f64 infinity",
+    "floats f64 +inf",
+    "floats f64 1E5",
+    "floats f64 1e+5",
+    "floats f64 1e",
+    "floats f64 .",
+    "floats f64 -",
+    "floats f64 1.0.0",
+    "floats f64 1,5",
+    "floats f64 1.5f",
+    "floats f64 0x",
+    "floats f64 0x+1",
+    "floats f64 0xg",
+    "floats f64 0X1",
+    "floats f64 -0x1",
+    "floats f64 0x10000000000000000",
+    "floats f32 0x100000000",
+    "floats f16 0x10000",
     "runs i32",
     "runs i32 u32 0 / 1",
     "runs i32 u32 -1 10 10 / 1",
@@ -105,6 +133,15 @@ const BAD_LINES: &[&str] = &[
     "fill +1",
     "fill Null",
     "fill 0x1",
+    "float",
+    "float show",
+    "float Rows",
+    "float rows 1",
+    "float at",
+    "float at -1",
+    "float at 1 2",
+    "float sum 1",
+    "float minmax 0",
     "sum 1",
     "minmax 1",
     "constant true",
@@ -157,6 +194,7 @@ const LINES_OF_A_COLUMN: &[&str] = &[
     "repeat 0 1",
     "cast u8",
     "fill 0",
+    "float rows",
     "sum",
     "kernels all",
     "thresholds zero",
@@ -294,14 +332,18 @@ const SERVED: &[u8] =
     runs i8 u8 0 5 1 2 5 / 4 5 6\nfilter 01111\ntake 1 0 3 0\nkernels none\nencode\nsum\nminmax\nconstant\nsorted\n\
     strict\ncast i16\nencode\ntake 0 null\nfill 0\nkernels all\nthresholds crate\nencode\nslice 0 1\nshow\nmeta\n\
     read 08 01\nruns i8 u8 1 3 2 4 / 4 5\nmeta\nsum\nminmax\nconstant\nsorted\nstrict\n\
-    append 5\nrepeat 6 2\nshow\n";
+    append 5\nrepeat 6 2\nshow\n\
+    floats f64? 1.5 null nan -0.0\nfloat rows\nfloat at 0\nfloat sum\nfloat minmax\n\
+    floats f16 0.1\nencode\nfloat rows\ncol u8 1\nfloat sum\n";
 
 const SERVED_ANSWERS: &[u8] =
     b"ok\nok\nruns u8? u8 offset 0 length 3 ends 2 3 values 7 null\nrows 7 7 null\nrefused 8 3 3\nok\nok\nok\nok\n\
     sum 16\nok\nok\nok\nok\nok\nok\nsum 22\nminmax 5 6\nconstant false\nsorted false\nstrict false\n\
     ok\nok\nok\nok\nok\nok\nok\nok\nconst i16 6 length 1\nnot runs\nread u16 runs 0 offset 0\n\
     ok\nmeta 10 02 18 01\nsum 14\nminmax 4 5\nconstant false\nsorted true\nstrict false\n\
-    ok\nok\nruns i8 u8 offset 0 length 6 ends 1 4 6 values 4 5 6\n";
+    ok\nok\nruns i8 u8 offset 0 length 6 ends 1 4 6 values 4 5 6\n\
+    ok\nrows 1.5 null nan -0.0\nvalue 1.5\nsum nan\nminmax -0.0 1.5\n\
+    ok\nok\nrows 0.099975586\nok\nrefused 12\n";
 
 // Are these the answers of the first lines, each of them whole?
 fn are_first_answers(out: &[u8]) -> bool {

@@ -8,3 +8,6 @@ pub mod Outcomes
 pub mod NewOrders
 pub mod RowsBehind
 pub mod AnswerLines
+pub mod FloatAnswers
+pub mod FloatKeys
+pub mod FloatLines

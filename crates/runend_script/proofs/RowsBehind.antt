@@ -21,6 +21,7 @@ use Rattle.runend_array.specs.declared.array_ref.ArrayRef.{ArrayRef}
 use Rattle.runend_builder.specs.Builder.{Built, append_fault, scalar_row}
 use Rattle.runend_builder.specs.Encoded.{IsEncodedRows}
 use Rattle.runend_script.specs.Scalars.{ReadsScalar}
+use Rattle.runend_script.specs.declared.command.RowWords.TheVariants.{Integers}
 use Rattle.runend_script.specs.Lengthened.{IsAppended, IsEncodingOf, IsLengthened, IsRepeated, ListsArray, ListsRows, lengthening_fault}
 use Rattle.runend_script.specs.declared.scripts.Reply.TheVariants.{Done}
 
@@ -90,7 +91,7 @@ lists_none (column.List e n) words other = tt
 
 -- a builder's fault at the rows that words stand for
 listed_fault : {A : Type 0} (before batch : ArrayRef A) (ptype : PType) (nullability : Nullability) (words : List (List ℕ)) (fault : Option VortexError) → dtype_of before ≡ column.Primitive ptype nullability
-    → dtype_of batch ≡ column.Primitive ptype nullability → (listed : ListsArray (column.Primitive ptype nullability) words (Some batch))
+    → dtype_of batch ≡ column.Primitive ptype nullability → (listed : ListsArray (Integers ptype) nullability words (Some batch))
     → option_or (list_fault (dtype_of before)) (lengthening_fault before (dtype_of batch) (length (rows batch))) ≡ fault → lengthening_fault before (dtype_of before) (length listed.0) ≡ fault
 listed_fault before batch ptype nullability words fault typed batch_typed listed is =
     let long : length (rows batch) ≡ length listed.0 = ap length listed.2 ∙ length-map (map (option_map Number) listed.0) (option_map Single) ∙ length-map listed.0 (option_map Number) in
@@ -99,7 +100,7 @@ listed_fault before batch ptype nullability words fault typed batch_typed listed
 
 -- an `append` line that is done
 pub appended_done : {A : Type 0} (before batch after : ArrayRef A) (ptype : PType) (nullability : Nullability) (words : List (List ℕ)) → dtype_of before ≡ column.Primitive ptype nullability
-    → dtype_of batch ≡ column.Primitive ptype nullability → ListsArray (column.Primitive ptype nullability) words (Some batch)
+    → dtype_of batch ≡ column.Primitive ptype nullability → ListsArray (Integers ptype) nullability words (Some batch)
     → option_or (list_fault (dtype_of before)) (lengthening_fault before (dtype_of batch) (length (rows batch))) ≡ None → IsLengthened before (rows batch) after
     → IsAppended before words (Ok Done) after
 appended_done before batch after ptype nullability words typed batch_typed listed none whole = (
@@ -111,7 +112,7 @@ appended_done before batch after ptype nullability words typed batch_typed liste
 
 -- and one that is refused
 pub appended_refused : {A : Type 0} (before batch after : ArrayRef A) (ptype : PType) (nullability : Nullability) (words : List (List ℕ)) (error : VortexError)
-    → dtype_of before ≡ column.Primitive ptype nullability → dtype_of batch ≡ column.Primitive ptype nullability → ListsArray (column.Primitive ptype nullability) words (Some batch)
+    → dtype_of before ≡ column.Primitive ptype nullability → dtype_of batch ≡ column.Primitive ptype nullability → ListsArray (Integers ptype) nullability words (Some batch)
     → IsErrorFor (option_or (list_fault (dtype_of before)) (lengthening_fault before (dtype_of batch) (length (rows batch)))) error → IsAppended before words (Err error) after
 appended_refused before batch after ptype nullability words error typed batch_typed listed (inl short) = inl short
 appended_refused before batch after ptype nullability words error typed batch_typed listed (inr fault) =

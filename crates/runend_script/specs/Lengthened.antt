@@ -1,6 +1,7 @@
 -- Columns that get rows behind their own.
 use Rattle.std.specs.Prelude.{◌≡◌, ◌⊎◌, ◌++◌, ℕ, ℤ, List, Option, Some, None, Result, Ok, Err, length, map, option_map, replicate}
 use Rattle.column_base.specs.declared.dtype.DType.{DType}
+use Rattle.column_base.specs.declared.dtype.Nullability.{Nullability}
 use Rattle.column_base.specs.declared.dtype.DType.TheVariants as column
 use Rattle.column_base.specs.declared.error.VortexError.{VortexError}
 use Rattle.column_base.specs.declared.error.VortexError.TheVariants.{OutOfMemory}
@@ -13,6 +14,8 @@ use Rattle.runend_builder.specs.Builder.{append_fault, scalar_row}
 use Rattle.runend_builder.specs.Encoded.{IsEncodedRows}
 use Rattle.runend_script.specs.Rows.{ReadsRows}
 use Rattle.runend_script.specs.Scalars.{ReadsScalar}
+use Rattle.runend_script.specs.declared.command.RowWords.{RowWords}
+use Rattle.runend_script.specs.declared.command.RowWords.TheVariants.{Integers}
 use Rattle.runend_script.specs.declared.scripts.Reply.{Reply}
 use Rattle.runend_script.specs.declared.scripts.Reply.TheVariants.{Bad, Done}
 
@@ -35,15 +38,14 @@ integer_rows numbers = map (option_map Single) (map (option_map Number) numbers)
 -- the rows that the words stand for in a type of integers, one for one, or none exactly where a word stands for no row
 -- of it
 abbrev pub ListsRows : DType → List (List ℕ) → Option (List (Option ℤ)) → Type 0
-ListsRows (column.Primitive ptype nullability) words numbers = ReadsRows ptype nullability words numbers
+ListsRows (column.Primitive ptype nullability) words numbers = ReadsRows (Integers ptype) nullability words numbers
 ListsRows dtype words None = Unit {0}
 ListsRows dtype words (Some numbers) = ⊥
 
--- the array has the rows that the words stand for, in the type, or there is none exactly where a word stands for no row
--- of it
-abbrev pub ListsArray : {A : Type 0} → DType → List (List ℕ) → Option (ArrayRef A) → Type 0
-ListsArray dtype words None = ListsRows dtype words None
-ListsArray dtype words (Some array) = (numbers : List (Option ℤ)) × ListsRows dtype words (Some numbers) × (rows array ≡ integer_rows numbers)
+-- the array has the rows that the words stand for, or there is none exactly where a word stands for no row
+abbrev pub ListsArray : {A : Type 0} → RowWords → Nullability → List (List ℕ) → Option (ArrayRef A) → Type 0
+ListsArray reading nullability words None = ReadsRows reading nullability words None
+ListsArray reading nullability words (Some array) = (numbers : List (Option ℤ)) × ReadsRows reading nullability words (Some numbers) × (rows array ≡ integer_rows numbers)
 
 -- what comes of an `append` line: bad, and the column stays, where a word stands for no row of its type; done, and the
 -- column is the encoding of its rows and behind them of those of the words; or refused, as a builder refuses these

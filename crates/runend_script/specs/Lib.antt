@@ -11,3 +11,4 @@ pub mod Lengthened
 pub mod Reordered
 pub mod Outcomes
 pub mod AnswerLines
+pub mod FloatLines

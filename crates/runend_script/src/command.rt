@@ -1,7 +1,11 @@
 //! The commands of the script.
+ghost use Rattle.std.specs.Prelude.{◌≡◌};
+ghost use Rattle.runend_script.specs.Rows.{stored_ptype};
+
 use crate::words::Words;
 use column_base::{Nullability, PType};
-use column_words::{parse_count, parse_ptype, parse_type};
+use column_floats::{FloatFormat, key_type};
+use column_words::{parse_count, parse_format, parse_ptype, parse_type, split_mark};
 
 /// The word between the ends and the values of a `runs` line.
 pub const SLASH: &str = "/";
@@ -39,11 +43,45 @@ pub enum RowOrder {
     Reversed,
 }
 
+/// Says what the words of rows that are not null stand for.
+#[derive(Clone, Copy)]
+pub enum RowWords {
+    /// Has words of integers of this type.
+    Integers(PType),
+    /// Has words of floats of this format, which are stored by their keys.
+    Floats(FloatFormat),
+}
+
+impl RowWords {
+    /// Returns the type in which the rows are stored.
+    pub fn stored_type(self) -> PType
+        ensures { result ≡ stored_ptype self }
+    {
+        match self {
+            RowWords::Integers(ptype) => ptype,
+            RowWords::Floats(format) => key_type(format),
+        }
+    }
+}
+
+/// Says what a column of floats is asked.
+#[derive(Clone, Copy)]
+pub enum FloatQuestion {
+    /// Asks for all rows.
+    Rows,
+    /// Asks for the row of this number, counted from 0.
+    At(usize),
+    /// Asks for the sum.
+    Sum,
+    /// Asks for the least and the greatest number.
+    MinMax,
+}
+
 /// A command on the column.
 #[derive(Clone, Copy)]
 pub enum ScriptCommand<'a> {
     /// A flat column of the listed rows replaces the column. The words are yet to be read.
-    Col(PType, Nullability, Words<'a>),
+    Col(RowWords, Nullability, Words<'a>),
     /// A run column of the listed runs replaces the column. The words are yet to be read.
     Runs(RunsLine<'a>),
     /// The column is written as runs.
@@ -85,6 +123,8 @@ pub enum ScriptCommand<'a> {
     Sorted,
     /// Whether the rows are strictly sorted is shown.
     Strict,
+    /// Shows what the column is asked as one of floats.
+    Floats(FloatQuestion),
     /// The session is set, and the column stays.
     Set(Setting),
     /// The bytes of the column's metadata record are shown.
@@ -113,9 +153,9 @@ pub struct RunsLine<'a> {
     pub values: Words<'a>,
 }
 
-/// Returns what the line says. The words behind the type of a `col` line are not looked at, nor are the ends and values
-/// of a `runs` line, the bits of a `filter` line, the indices of a `take` line, the rows of an `append` line, the value
-/// of a `fill` or `repeat` line and the bytes of a `read` line.
+/// Returns what the line says. The words behind the type of a `col` or `floats` line are not looked at, nor are the
+/// ends and values of a `runs` line, the bits of a `filter` line, the indices of a `take` line, the rows of an `append`
+/// line, the value of a `fill` or `repeat` line and the bytes of a `read` line.
 pub fn read_line(line: &str) -> Line<'_> {
     let mut words = Words::new(line);
     let Some(name) = words.next() else {
@@ -160,6 +200,7 @@ fn read_name<'a>(name: &str) -> Option<ScriptCommand<'a>> {
 fn read_longer<'a>(name: &str, words: Words<'a>) -> Option<ScriptCommand<'a>> {
     match name {
         "col" => read_col(words),
+        "floats" => read_floats(words),
         "runs" => read_runs(words),
         "at" => read_at(words),
         "slice" => read_slice(words),
@@ -169,6 +210,7 @@ fn read_longer<'a>(name: &str, words: Words<'a>) -> Option<ScriptCommand<'a>> {
         "repeat" => read_repeat(words),
         "cast" => read_cast(words),
         "fill" => read_fill(words),
+        "float" => read_question(words),
         "kernels" | "thresholds" => read_setting(name, words),
         "read" => Some(ScriptCommand::Read(words)),
         _ => None,
@@ -178,7 +220,26 @@ fn read_longer<'a>(name: &str, words: Words<'a>) -> Option<ScriptCommand<'a>> {
 // The command of a `col` line. The words behind its type are its rows.
 fn read_col(mut words: Words<'_>) -> Option<ScriptCommand<'_>> {
     let (ptype, nullability) = parse_type(words.next()?)?;
-    Some(ScriptCommand::Col(ptype, nullability, words))
+    Some(ScriptCommand::Col(RowWords::Integers(ptype), nullability, words))
+}
+
+// The command of a `floats` line. The words after its type are its rows.
+fn read_floats(mut words: Words<'_>) -> Option<ScriptCommand<'_>> {
+    let (name, nullability) = split_mark(words.next()?);
+    let format = parse_format(name)?;
+    Some(ScriptCommand::Col(RowWords::Floats(format), nullability, words))
+}
+
+// The command of a `float` line: what a column of floats is asked.
+fn read_question(mut words: Words<'_>) -> Option<ScriptCommand<'_>> {
+    let question = match words.next()? {
+        "rows" => FloatQuestion::Rows,
+        "at" => FloatQuestion::At(parse_count(words.next()?)?),
+        "sum" => FloatQuestion::Sum,
+        "minmax" => FloatQuestion::MinMax,
+        _ => return None,
+    };
+    ended(words, ScriptCommand::Floats(question))
 }
 
 // The command of an `at` line: the index of a row.

@@ -3,8 +3,10 @@
 
 mod answer;
 mod command;
+mod floats;
 mod input;
 mod lengthened;
+mod listed;
 mod message;
 mod output;
 mod reads;

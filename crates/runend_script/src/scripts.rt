@@ -1,15 +1,13 @@
 //! Runs a script of commands on one column.
-ghost use Rattle.std.specs.Prelude.{◌≡◌, ◌≢◌, ◌⊎◌, ◌↔◌, ℕ, List, IfOk, IfSome, IsOkUnless, IsTrue, MatchResult, OnErr};
-ghost use Rattle.std.specs.Iterator.{AlwaysYields, IsFinite};
+ghost use Rattle.std.specs.Prelude.{◌≡◌, ◌≢◌, ◌↔◌, IfOk, IsOkUnless, IsTrue, OnErr};
 ghost use Rattle.std.specs.String.{string_bytes};
-ghost use Rattle.runend_array.specs.Array.{column_of, dtype_of};
-ghost use Rattle.runend_array.specs.Column.{AreParts, column_of_runs, runs_of};
-ghost use Rattle.runend_array.specs.Fault.{PartsFault};
+ghost use Rattle.runend_array.specs.Array.{column_of};
 ghost use Rattle.runend_commands.specs.declared.command.Answer.TheVariants.{Done};
 ghost use Rattle.runend_script.specs.declared.command.ScriptCommand.TheVariants as line;
+ghost use Rattle.runend_script.specs.declared.command.FloatQuestion.{FloatQuestion};
 ghost use Rattle.runend_script.specs.AnswerLines.{AddsLines};
-ghost use Rattle.runend_script.specs.Lengthened.{IsAppended, IsRepeated, ListsArray};
-ghost use Rattle.runend_script.specs.Listed.{AreRunsOf, IsFlatOf};
+ghost use Rattle.runend_script.specs.FloatLines.{IsFloatReply};
+ghost use Rattle.runend_script.specs.Lengthened.{IsAppended, IsRepeated};
 ghost use Rattle.runend_script.specs.Messages.{IsMessageReply};
 ghost use Rattle.runend_script.specs.Outcomes.{IsOutcome};
 ghost use Rattle.runend_script.specs.Replies.{IsKeptOrStep, IsReplyOf, IsReplyTo, Tells};
@@ -17,20 +15,22 @@ ghost use Rattle.runend_script.specs.Session.{IsSessionAfter};
 ghost use Rattle.runend_script.specs.Words.{words_of};
 
 use crate::answer::{answer_line, has_answer_line, refusal_line};
-use crate::command::{Line, RunsLine, SLASH, ScriptCommand, Setting, read_line};
+use crate::command::{FloatQuestion, Line, RowWords, ScriptCommand, Setting, read_line};
+use crate::floats::float_line;
 use crate::lengthened::{with_batch, with_value};
+use crate::listed::{plain_of, runs_of_line};
 use crate::message::message_line;
 use crate::record::{meta_line, read_record};
 use crate::reordered::reorder;
 use crate::session::set_session;
 use crate::shown::{counts_line, form_line, push_line, rows_line};
-use crate::values::{read_indices, read_mask, read_scalar, read_values};
+use crate::values::{read_indices, read_mask, read_scalar};
 use crate::words::Words;
-use column_base::{DType, Nullability, PType, VortexError, VortexResult};
+use column_base::{DType, VortexError, VortexResult};
 use runend_commands::{Answer, Command as ColumnCommand, execute_one};
 use std::alloc::{AllocError, Allocator};
 use std::mem::replace;
-use vortex_runend::{ArrayRef, ExecutionCtx, PrimitiveArray, RunEnd};
+use vortex_runend::{ArrayRef, ExecutionCtx};
 
 /// What a script prints: its answer lines, each with a line feed, and whether the last of them says
 /// that a line was no command, which ended the script.
@@ -183,8 +183,8 @@ fn perform<A: Allocator + Copy>(
     ensures session { IsSessionAfter command.entry column.old ctx.old ctx.new }
 {
     let listed = match command {
-        ScriptCommand::Col(ptype, nullability, words) => {
-            plain_of(*ctx.allocator(), ptype, nullability, words)?
+        ScriptCommand::Col(reading, nullability, words) => {
+            plain_of(*ctx.allocator(), reading, nullability, words)?
         }
         ScriptCommand::Runs(line) => runs_of_line(line, ctx)?,
         ScriptCommand::Set(setting) => return Ok(set_beside(setting, column, ctx)),
@@ -218,79 +218,6 @@ fn set_beside<A: Allocator + Copy>(
     Reply::Done
 }
 
-// The flat column of the rows that the words stand for, or `None` exactly where a word stands for none.
-fn plain_of<'a, I: Iterator<Item = &'a str> + Drop, A: Allocator + Copy>(
-    alloc: A,
-    ptype: PType,
-    nullability: Nullability,
-    words: I,
-) -> VortexResult<Option<ArrayRef<A>>>
-    requires can { I.can_next words }
-    requires finite { IsFinite (I.remaining words) }
-    ensures only { IsOkUnless result VortexError.OutOfMemory }
-    ensures flat { IfOk result (λ made. IfSome made (λ array. IsFlatOf ptype (column_of array))) }
-    ensures typed { IfOk result (λ made. IfSome made (λ array. dtype_of array ≡ DType.Primitive ptype nullability)) }
-    ensures rows { (taken : List (List ℕ)) → AlwaysYields I.next_gives (λ word. word.now) words taken →
-        IfOk result (ListsArray (DType.Primitive ptype nullability) taken) }
-{
-    let Some(listed) = read_values(alloc, ptype, nullability, words)? else {
-        return Ok(None);
-    };
-    let array = PrimitiveArray::new_unchecked(listed.numbers, listed.validity);
-    Ok(Some(ArrayRef::Primitive(array)))
-}
-
-// The run column of the line, or `None` where a word of it stands for no end or no row. Refused as
-// `try_new_offset_length` is, and as `OutOfMemory`.
-fn runs_of_line<A: Allocator + Copy>(
-    line: RunsLine<'_>,
-    ctx: &mut ExecutionCtx<A>,
-) -> VortexResult<Option<ArrayRef<A>>>
-    ensures runs { IfOk result (λ made. IfSome made
-        (λ array. AreRunsOf line.entry.ptype line.entry.ends_ptype line.entry.offset line.entry.length
-        (column_of array))) }
-    ensures session { ctx.new ≡ ctx.old }
-{
-    let alloc = *ctx.allocator();
-    let words = line.ends.take_while(|word| *word != SLASH);
-    let Some(ends) = plain_of(alloc, line.ends_ptype, Nullability::NonNullable, words)? else {
-        return Ok(None);
-    };
-    match plain_of(alloc, line.ptype, line.nullability, line.values) {
-        Ok(Some(values)) => {
-            let array = runs_of_parts(ends, values, line.offset, line.length, ctx)?;
-            Ok(Some(array))
-        }
-        Ok(None) => {
-            drop(ends);
-            Ok(None)
-        }
-        Err(error) => {
-            drop(ends);
-            Err(error)
-        }
-    }
-}
-
-// The run column of these parts. Refused as `try_new_offset_length` is, and as `OutOfMemory`.
-fn runs_of_parts<A: Allocator + Copy>(
-    ends: ArrayRef<A>,
-    values: ArrayRef<A>,
-    offset: usize,
-    length: usize,
-    ctx: &mut ExecutionCtx<A>,
-) -> VortexResult<ArrayRef<A>>
-    ensures parts { MatchResult result
-        (λ array. AreParts (column_of ends) (column_of values) offset length ×
-        (column_of array ≡ column_of_runs (runs_of (column_of ends) (column_of values) offset length)))
-        (λ error. (error ≡ VortexError.OutOfMemory) ⊎ PartsFault (column_of ends)
-        (column_of values) offset length error) }
-    ensures session { ctx.new ≡ ctx.old }
-{
-    let runs = RunEnd::try_new_offset_length(ends, values, offset, length, ctx)?;
-    ArrayRef::of_runs(*ctx.allocator(), runs)
-}
-
 // Does the command on the column that stands.
 #[tactic(auto, using(crate::proofs::Outcomes::of_others))]
 fn perform_on<A: Allocator + Copy>(
@@ -302,6 +229,8 @@ fn perform_on<A: Allocator + Copy>(
     ensures kept { OnErr result (column.new ≡ column.old) }
     ensures session { ctx.new ≡ ctx.old }
     ensures message { command.entry ≡ line.Bytes → IsMessageReply (column_of column.old) result }
+    ensures floats { (question : FloatQuestion) → command.entry ≡ line.Floats question →
+        IsFloatReply question column.old result }
 {
     match command {
         ScriptCommand::Append(words) => append_reply(words, column, ctx),
@@ -328,7 +257,8 @@ fn append_reply<A: Allocator + Copy>(
     let DType::Primitive(ptype, nullability) = column.dtype() else {
         return Ok(Reply::Bad);
     };
-    let Some(batch) = plain_of(*ctx.allocator(), ptype, nullability, words)? else {
+    let reading = RowWords::Integers(ptype);
+    let Some(batch) = plain_of(*ctx.allocator(), reading, nullability, words)? else {
         return Ok(Reply::Bad);
     };
     let whole = with_batch(column, &batch, ctx);
@@ -370,11 +300,14 @@ fn perform_step<A: Allocator + Copy>(
     ensures kept { OnErr result (column.new ≡ column.old) }
     ensures session { ctx.new ≡ ctx.old }
     ensures message { command.entry ≡ line.Bytes → IsMessageReply (column_of column.old) result }
+    ensures floats { (question : FloatQuestion) → command.entry ≡ line.Floats question →
+        IsFloatReply question column.old result }
 {
     match command {
         ScriptCommand::Show => Ok(Reply::Line(form_line(*ctx.allocator(), column)?)),
         ScriptCommand::Rows => Ok(Reply::Line(rows_line(*ctx.allocator(), column)?)),
         ScriptCommand::Counts => Ok(Reply::Line(counts_line(column, ctx)?)),
+        ScriptCommand::Floats(question) => float_reply(question, column, ctx),
         ScriptCommand::Meta => Ok(Reply::Line(meta_line(column, ctx)?)),
         ScriptCommand::Bytes => message_reply(*ctx.allocator(), column),
         ScriptCommand::Read(words) => match read_record(words, ctx)? {
@@ -401,6 +334,19 @@ fn message_reply<A: Allocator + Copy>(alloc: A, array: &ArrayRef<A>) -> VortexRe
     ensures { IsMessageReply (column_of array.now) result }
 {
     let line = message_line(alloc, array)?;
+    Ok(Reply::Line(line))
+}
+
+// The line of what the column is asked as one of floats. Refused as `float_line` is.
+fn float_reply<A: Allocator + Copy>(
+    question: FloatQuestion,
+    array: &ArrayRef<A>,
+    ctx: &mut ExecutionCtx<A>,
+) -> VortexResult<Reply<A>>
+    ensures answered { IsFloatReply question array.now result }
+    ensures session { ctx.new ≡ ctx.old }
+{
+    let line = float_line(question, array, ctx)?;
     Ok(Reply::Line(line))
 }
 

@@ -7,16 +7,18 @@ ghost use Rattle.column_base.specs.Validity.{form_of};
 ghost use Rattle.column_base.specs.Mask.{mask_bits, IsNormalMask};
 ghost use Rattle.column_core.specs.Optionals.{optionals};
 ghost use Rattle.column_words.specs.Bits.{IsBitWord, bit_word};
-ghost use Rattle.runend_script.specs.Rows.{PushesRows, ReadsNumber, ReadsRows, ReadsValue, parsed_rows};
+ghost use Rattle.runend_script.specs.Rows.{PushesRows, ReadsNumber, ReadsRows, ReadsValue, parsed_rows, stored_ptype};
 ghost use Rattle.runend_script.specs.Scalars.{ReadsOwned, ReadsScalar};
 
+use crate::command::RowWords;
 use crate::words::Words;
 use column_base::{
     BitBufferMut, DType, Mask, NativePType, Nullability, PType, PrimitiveValues, Validity,
     VortexError, VortexResult,
 };
 use column_core::{PrimitiveArray, Scalar, ScalarValue};
-use column_words::{parse_bits, parse_integer};
+use column_words::{parse_bits, parse_float, parse_integer};
+use float_bits::total_key;
 use std::alloc::Allocator;
 
 /// Stored numbers, and which rows of them are there.
@@ -30,30 +32,30 @@ pub struct ParsedRows<A: Allocator> {
 /// type. Under null the number 0 is stored. Refused only as `OutOfMemory`.
 pub fn read_values<'a, I: Iterator<Item = &'a str> + Drop, A: Allocator + Copy>(
     alloc: A,
-    ptype: PType,
+    reading: RowWords,
     nullability: Nullability,
     words: I,
 ) -> VortexResult<Option<ParsedRows<A>>>
     requires can { I.can_next words }
     requires finite { IsFinite (I.remaining words) }
     ensures only { IsOkUnless result VortexError.OutOfMemory }
-    ensures typed { IfOk result (λ read. IfSome read (λ listed. ptype_of listed.numbers ≡ ptype)) }
+    ensures typed { IfOk result (λ read. IfSome read (λ listed. ptype_of listed.numbers ≡ stored_ptype reading)) }
     ensures nullable { IfOk result (λ read. IfSome read
         (λ listed. nullability_in (form_of listed.validity) ≡ nullability)) }
     ensures counted { IfOk result (λ read. IfSome read (λ listed.
         HasLength (form_of listed.validity) (length (numbers listed.numbers)))) }
     ensures rows { (taken : List (List ℕ)) → AlwaysYields I.next_gives (λ word. word.now) words taken →
-        IfOk result (λ read. ReadsRows ptype nullability taken (option_map parsed_rows read)) }
+        IfOk result (λ read. ReadsRows reading nullability taken (option_map parsed_rows read)) }
 {
-    match ptype {
-        PType::U8 => read_natives::<u8, I, A>(alloc, nullability, words),
-        PType::U16 => read_natives::<u16, I, A>(alloc, nullability, words),
-        PType::U32 => read_natives::<u32, I, A>(alloc, nullability, words),
-        PType::U64 => read_natives::<u64, I, A>(alloc, nullability, words),
-        PType::I8 => read_natives::<i8, I, A>(alloc, nullability, words),
-        PType::I16 => read_natives::<i16, I, A>(alloc, nullability, words),
-        PType::I32 => read_natives::<i32, I, A>(alloc, nullability, words),
-        PType::I64 => read_natives::<i64, I, A>(alloc, nullability, words),
+    match reading.stored_type() {
+        PType::U8 => read_natives::<u8, I, A>(alloc, reading, nullability, words),
+        PType::U16 => read_natives::<u16, I, A>(alloc, reading, nullability, words),
+        PType::U32 => read_natives::<u32, I, A>(alloc, reading, nullability, words),
+        PType::U64 => read_natives::<u64, I, A>(alloc, reading, nullability, words),
+        PType::I8 => read_natives::<i8, I, A>(alloc, reading, nullability, words),
+        PType::I16 => read_natives::<i16, I, A>(alloc, reading, nullability, words),
+        PType::I32 => read_natives::<i32, I, A>(alloc, reading, nullability, words),
+        PType::I64 => read_natives::<i64, I, A>(alloc, reading, nullability, words),
     }
 }
 
@@ -113,7 +115,8 @@ pub fn read_indices<A: Allocator + Copy>(
         Some(_) => Nullability::Nullable,
         None => Nullability::NonNullable,
     };
-    let Some(listed) = read_values(alloc, PType::I64, nullability, words)? else {
+    let listed = read_values(alloc, RowWords::Integers(PType::I64), nullability, words)?;
+    let Some(listed) = listed else {
         return Ok(None);
     };
     let indices = PrimitiveArray::new_unchecked(listed.numbers, listed.validity);
@@ -122,11 +125,13 @@ pub fn read_indices<A: Allocator + Copy>(
 
 fn read_natives<'a, T: NativePType, I: Iterator<Item = &'a str> + Drop, A: Allocator + Copy>(
     alloc: A,
+    reading: RowWords,
     nullability: Nullability,
     words: I,
 ) -> VortexResult<Option<ParsedRows<A>>>
     requires can { I.can_next words }
     requires finite { IsFinite (I.remaining words) }
+    requires stored { T.PTYPE ≡ stored_ptype reading }
     ensures only { IsOkUnless result VortexError.OutOfMemory }
     ensures typed { IfOk result (λ read. IfSome read (λ listed. ptype_of listed.numbers ≡ T.PTYPE)) }
     ensures nullable { IfOk result (λ read. IfSome read
@@ -134,11 +139,11 @@ fn read_natives<'a, T: NativePType, I: Iterator<Item = &'a str> + Drop, A: Alloc
     ensures counted { IfOk result (λ read. IfSome read (λ listed.
         HasLength (form_of listed.validity) (length (numbers listed.numbers)))) }
     ensures rows { (taken : List (List ℕ)) → AlwaysYields I.next_gives (λ word. word.now) words taken →
-        IfOk result (λ read. ReadsRows T.PTYPE nullability taken (option_map parsed_rows read)) }
+        IfOk result (λ read. ReadsRows reading nullability taken (option_map parsed_rows read)) }
 {
     let mut items = Vec::new(alloc);
     let mut valid = BitBufferMut::with_capacity(alloc, 0)?;
-    let read = push_rows::<T, I, A>(&mut items, &mut valid, nullability, words);
+    let read = push_rows::<T, I, A>(&mut items, &mut valid, reading, nullability, words);
     if let Ok(true) = read {
         let validity = match nullability {
             Nullability::NonNullable => Validity::NonNullable,
@@ -158,20 +163,23 @@ fn read_natives<'a, T: NativePType, I: Iterator<Item = &'a str> + Drop, A: Alloc
 fn push_rows<'a, T: NativePType, I: Iterator<Item = &'a str> + Drop, A: Allocator + Copy>(
     items: &mut Vec<T, A>,
     valid: &mut BitBufferMut<A>,
+    reading: RowWords,
     nullability: Nullability,
     words: I,
 ) -> VortexResult<bool>
     requires can { I.can_next words }
     requires finite { IsFinite (I.remaining words) }
+    requires stored { T.PTYPE ≡ stored_ptype reading }
     requires counted { length items.old.items ≡ length valid.old }
     ensures only { IsOkUnless result VortexError.OutOfMemory }
     ensures counted { IfOk result (λ found. length items.new.items ≡ length valid.new) }
     ensures rows { (taken : List (List ℕ)) → AlwaysYields I.next_gives (λ word. word.now) words taken →
-        IfOk result (λ found. PushesRows T.PTYPE nullability taken (optionals (map T.number items.old.items) valid.old)
-        found (optionals (map T.number items.new.items) valid.new)) }
+        IfOk result (λ found. PushesRows reading nullability taken
+        (optionals (map T.number items.old.items) valid.old) found
+        (optionals (map T.number items.new.items) valid.new)) }
 {
     for word in words {
-        let Some(row) = parse_row::<T>(word, nullability) else {
+        let Some(row) = parse_row::<T>(reading, word, nullability) else {
             return Ok(false);
         };
         valid.append(row.is_some())?;
@@ -182,19 +190,30 @@ fn push_rows<'a, T: NativePType, I: Iterator<Item = &'a str> + Drop, A: Allocato
 
 // The row that a word stands for: `Some(None)` for `null` where rows may be null, otherwise the
 // number as `parse_native` reads it. `None` where the word stands for no row of the type.
-fn parse_row<T: NativePType>(word: &str, nullability: Nullability) -> Option<Option<T>>
-    ensures { ReadsValue T.number T.PTYPE nullability word.now result }
+fn parse_row<T: NativePType>(
+    reading: RowWords,
+    word: &str,
+    nullability: Nullability,
+) -> Option<Option<T>>
+    requires { T.PTYPE ≡ stored_ptype reading }
+    ensures { ReadsValue T.number reading nullability word.now result }
 {
     if nullability == Nullability::Nullable && word == "null" {
         return Some(None);
     }
-    Some(Some(parse_native(word)?))
+    Some(Some(parse_native(reading, word)?))
 }
 
-// The value of the number that a word stands for, exactly where the word is an optional minus and
-// decimal digits, and the type has the number.
-fn parse_native<T: NativePType>(word: &str) -> Option<T>
-    ensures { ReadsNumber T.number T.PTYPE word.now result }
+// Returns the value of the number that a word means, exactly where it means one: an integer that the type has, or the
+// key of a float.
+fn parse_native<T: NativePType>(reading: RowWords, word: &str) -> Option<T>
+    requires { T.PTYPE ≡ stored_ptype reading }
+    ensures { ReadsNumber T.number reading word.now result }
 {
-    T::narrow(parse_integer(word)?)
+    match reading {
+        RowWords::Integers(_) => T::narrow(parse_integer(word)?),
+        RowWords::Floats(format) => {
+            T::narrow(i128::from(total_key(format, parse_float(format, word)?)))
+        }
+    }
 }

@@ -22,11 +22,11 @@ returns-in-Ok-true-clause-rows g c taken given =
     let valid = c.push_rows-read.new.valid in
     let before = optionals (map g.T.NativePType.number c.new-items.result.items) c.in_ok-valid.valid in
     let none : before ≡ [] = rw c.new-items.ensures.items refl in
-    let read = behind_none g.T.NativePType.PTYPE c.args.nullability taken before (optionals (map g.T.NativePType.number items) valid) (rw c.in-Ok-true.field-0-test at (c.in-Ok-true.ensures.rows taken given)) none in
+    let read = behind_none c.args.reading c.args.nullability taken before (optionals (map g.T.NativePType.number items) valid) (rw c.in-Ok-true.field-0-test at (c.in-Ok-true.ensures.rows taken given)) none in
     let told : ((c.args.nullability ≡ NonNullable) × (form_of c.match-nullability.validity ≡ NeverNull)) ⊎ (validity_flags c.match-nullability.validity (length valid) ≡ valid) =
     elim c.match-nullability.branch [
       | in-NonNullable w ↦ inl (w.in-NonNullable.is, rw w.validity-is refl)
       | in-Nullable w ↦ inr (rw w.validity-is (rw w.freeze.ensures at w.from_bits-validity.ensures.flags))
     ] in
-    flagged g.T.NativePType.number g.T.NativePType.PTYPE c.args.nullability taken items valid (form_of c.match-nullability.validity) (numbers c.wrap-numbers.result) c.in-Ok-true.ensures.counted told
+    flagged g.T.NativePType.number c.args.reading c.args.nullability taken items valid (form_of c.match-nullability.validity) (numbers c.wrap-numbers.result) c.in-Ok-true.ensures.counted told
     c.wrap-numbers.ensures.shows read
