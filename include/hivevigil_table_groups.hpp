@@ -27,10 +27,10 @@ public:
     Column sizes() const { return folded(ones(), Fold::rows); }
     // What is asked of a column in each group, flat, of a type that has null, and null where the group has no value
     // that is not null (a count: 0): the sum of integers in i64 or u64, of floats the exact sum as a double, rounded
-    // once, of decimals in 38 digits; rows and counts in u64; of integers, times and floats the least, greatest, first
-    // or last value. Refused as HV_CAST_OUT_OF_RANGE for the first group (first field, from 0) whose sum does not fit,
-    // and as HV_UNSUPPORTED where a column is not asked this, also for the least and greatest of floats of which one is
-    // NaN.
+    // once, of decimals in 38 digits; rows and counts in u64; the least, greatest, first or last value of all but lists:
+    // texts by their bytes, and false below true. Refused as HV_CAST_OUT_OF_RANGE for the first group (first field, from
+    // 0) whose sum does not fit, and as HV_UNSUPPORTED where a column is not asked this, also for the least and greatest
+    // of floats of which one is NaN.
     NamedColumn fold(const GroupAnswer &asked) const;
     // The keys, then the answers, a row for each group.
     Table agg(const std::vector<GroupAnswer> &answers) const;
@@ -44,9 +44,43 @@ private:
     std::vector<uint64_t> stops() const;
     template <class Answer, class Work> std::vector<std::optional<Answer>> each(const Column &values, Work work) const;
     Column answer(const NamedColumn &values, Fold by) const;
+    Column chosen(const Column &values, Fold by) const;
     Column sums_of_floats(const NamedColumn &values) const;
     Column sums_of_decimals(const Column &values) const;
 };
+
+namespace detail {
+
+// 1 at each row that is not null, else 0, in runs.
+inline Column ones_of_valid(const Column &values) {
+    const bool is_list = values.kind().number == HV_LIST;
+    const Column valid = is_list ? values.decode().list_validity() : values.is_valid();
+    std::vector<uint64_t> stops, ones;
+    for (const Run &run : valid.encode_rows().runs()) {
+        stops.push_back(run.stop);
+        ones.push_back(std::get<bool>(run.value));
+    }
+    return Column::runs(Column::of(stops), Column::of(ones), 0, values.size());
+}
+
+// The place of each row among the distinct values in order, in runs and null where the row is; and these values.
+struct Places {
+    Column places, values;
+};
+inline Places places_of(const Column &column) {
+    const Ranks found = ranks_of(column, Order::ascending, Nulls::first);
+    std::vector<std::optional<uint64_t>> places;
+    std::vector<uint64_t> rows; // of each distinct value one
+    for (size_t run = 0; run < found.ranks.size(); run++) {
+        const size_t rank = found.ranks[run]; // 0 of null
+        places.push_back(rank ? std::optional<uint64_t>(rank - 1) : std::nullopt);
+        if (rank > rows.size()) rows.resize(rank);
+        if (rank) rows[rank - 1] = run ? found.stops[run - 1] : 0;
+    }
+    return {Column::runs(Column::of(found.stops), Column::of(places), 0, column.size()), column.take(Column::of(rows))};
+}
+
+} // namespace detail
 
 inline TableGroups Table::group_by(const std::vector<std::string> &names) const { return TableGroups(*this, names); }
 
@@ -101,12 +135,20 @@ inline Column TableGroups::answer(const NamedColumn &values, Fold by) const {
     const bool is_extreme = by == Fold::least || by == Fold::greatest;
     if (is_extreme && detail::has_nan(column, format))
         throw Error(HV_UNSUPPORTED, {}, "a row is NaN, which has no place among the numbers of its group");
-    if (by != Fold::sum) return folded(column, by);
+    if (by == Fold::count && !detail::is_integer(column.kind())) return folded(detail::ones_of_valid(column), Fold::sum);
+    if (by != Fold::sum) return chosen(column, by);
     if (is_float) return sums_of_floats(values);
     if (column.kind().number == HV_DECIMAL) return sums_of_decimals(column);
     if (detail::is_logical_type(format) && format.compare(0, 2, "tD") != 0)
         throw Error(HV_UNSUPPORTED, {}, "rows of the logical type " + format + " have no sum");
     return folded(column, by);
+}
+
+// A value of each group: of other values than integers by their places among the distinct ones, of lists by none.
+inline Column TableGroups::chosen(const Column &values, Fold by) const {
+    if (detail::is_integer(values.kind()) || values.kind().number == HV_LIST) return folded(values, by);
+    const detail::Places found = detail::places_of(values);
+    return found.values.take(folded(found.places, by));
 }
 
 // Where each group stops.
@@ -139,7 +181,19 @@ inline Column TableGroups::sums_of_floats(const NamedColumn &values) const {
         const FloatSum found = Floats<double>(std::move(part)).sum();
         return found.rows ? std::optional<double>(found.total) : std::nullopt;
     };
-    return Floats<double>::of(each<double>(doubles, sum)).keys().decode();
+    std::vector<int64_t> keys;
+    std::vector<bool> valid;
+    for (const auto &total : each<double>(doubles, sum)) {
+        uint64_t number = 0;
+        if (total) std::memcpy(&number, &*total, sizeof number);
+        keys.push_back(detail::key_of_bits(number, 64));
+        valid.push_back(total.has_value());
+    }
+    Bytes bits;
+    const hv_validity validity = detail::nulls_by(valid, bits);
+    Column answers;
+    detail::ask([&](auto *error) { return hv_i64(keys.data(), keys.size(), validity, answers.raw(), error); });
+    return answers;
 }
 
 inline Column TableGroups::sums_of_decimals(const Column &values) const {
