@@ -52,10 +52,21 @@ fn choices_are_due<A: Allocator + Copy>(alloc: A, forms: (Form, Form)) -> Vortex
     let mut dice = Dice::new(3);
     let mask = [Some(0), Some(1), Some(0), None, Some(1)];
     let mask = plain::column_of::<Truths, A>(&mut ctx, &mut dice, &mask, plain::Form::Runs)?;
-    let left = column_of(&mut ctx, &LEFT, forms.0)?;
-    let right = column_of(&mut ctx, &RIGHT, forms.1)?;
-    let chosen = [Some(150), Some(LARGE), Some(-LARGE), None, None];
-    Ok(shows(if_else(&mask, &left, &right, &mut ctx), &chosen))
+    let chosen = chosen_by(&mask, forms, &mut ctx);
+    drop(mask);
+    let rows = [Some(150), Some(LARGE), Some(-LARGE), None, None];
+    Ok(shows(chosen, &rows))
+}
+
+// Returns the rows that a mask chooses of the two columns, in two forms.
+fn chosen_by<A: Allocator + Copy>(
+    mask: &ArrayRef<A>,
+    forms: (Form, Form),
+    ctx: &mut ExecutionCtx<A>,
+) -> VortexResult<ArrayRef<A>> {
+    let left = column_of(ctx, &LEFT, forms.0)?;
+    let right = column_of(ctx, &RIGHT, forms.1)?;
+    if_else(mask, &left, &right, ctx)
 }
 
 #[test]

@@ -6,9 +6,15 @@ mod columns;
 #[cfg(test)]
 mod decimal_columns;
 #[cfg(test)]
+mod decimal_integers;
+#[cfg(test)]
+mod decimal_outcomes;
+#[cfg(test)]
 mod decimal_picks;
 #[cfg(test)]
 mod decimal_refused;
+#[cfg(test)]
+mod decimal_scales;
 #[cfg(test)]
 mod decimal_sums;
 #[cfg(test)]
