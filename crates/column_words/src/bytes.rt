@@ -1,5 +1,5 @@
 //! Bytes as words: two hexadecimal digits for each.
-ghost use Rattle.std.specs.Prelude.{◌≡◌, ◌↔◌, ◌++◌, [], ◌∷◌, Ok, IfSome, IsOkUnless, IsSome, OnOk};
+ghost use Rattle.std.specs.Prelude.{◌≡◌, ◌↔◌, ◌++◌, [], ◌∷◌, Ok, IfOk, IfSome, IsOkUnless, IsSome, OnErr, OnOk};
 ghost use Rattle.std.specs.Iterator.{IsFinite};
 ghost use Rattle.std.specs.String.{string_bytes};
 ghost use Rattle.hex.specs.Hex.{decode_of, encode_upper};
@@ -44,20 +44,41 @@ fn decode_byte(word: &str) -> Option<[u8; 1]>
     <[u8; 1] as FromHex>::from_hex(word).ok()
 }
 
-/// Puts the bytes right behind the text, each as two upper case hexadecimal digits behind a space.
+/// Puts the bytes right after the text, each as two upper case hexadecimal digits after a space. Where memory is
+/// refused, the text stays as it was.
 pub fn push_bytes<A: Allocator + Copy>(text: &mut String<A>, bytes: &[u8]) -> Result<(), AllocError>
-    ensures { OnOk result (string_bytes text.new ≡ string_bytes text.old ++ behind_spaces (byte_words bytes.now)) }
+    ensures written { OnOk result (string_bytes text.new ≡
+        string_bytes text.old ++ behind_spaces (byte_words bytes.now)) }
+    ensures kept { OnErr result (string_bytes text.new ≡ string_bytes text.old) }
 {
-    for byte in bytes {
-        text.push_str(" ")?;
-        push_byte(text, *byte)?;
-    }
-    Ok(())
+    let words = words_of_bytes(*text.allocator(), bytes)?;
+    text.push_str(words.as_str())
 }
 
-/// Puts two upper case hexadecimal digits of the byte right behind the text.
-pub fn push_byte<A: Allocator + Copy>(text: &mut String<A>, byte: u8) -> Result<(), AllocError>
-    ensures { OnOk result (string_bytes text.new ≡ string_bytes text.old ++ encode_upper (byte ∷ [])) }
+// Returns the words of the bytes, each after a space.
+fn words_of_bytes<A: Allocator + Copy>(alloc: A, bytes: &[u8]) -> Result<String<A>, AllocError>
+    ensures { IfOk result (λ words. string_bytes words ≡ behind_spaces (byte_words bytes.now)) }
 {
-    write!(text, "{byte:02X}")
+    let mut words = String::new(alloc);
+    for byte in bytes {
+        words.push_str(" ")?;
+        push_byte(&mut words, *byte)?;
+    }
+    Ok(words)
+}
+
+/// Puts two upper case hexadecimal digits of the byte right after the text. Where memory is refused, the text stays as
+/// it was.
+pub fn push_byte<A: Allocator + Copy>(text: &mut String<A>, byte: u8) -> Result<(), AllocError>
+    ensures written { OnOk result (string_bytes text.new ≡ string_bytes text.old ++ encode_upper (byte ∷ [])) }
+    ensures kept { OnErr result (string_bytes text.new ≡ string_bytes text.old) }
+{
+    let digits = digits_of_byte(*text.allocator(), byte)?;
+    text.push_str(digits.as_str())
+}
+
+fn digits_of_byte<A: Allocator + Copy>(alloc: A, byte: u8) -> Result<String<A>, AllocError>
+    ensures { IfOk result (λ digits. string_bytes digits ≡ encode_upper (byte ∷ [])) }
+{
+    format!(in alloc; "{byte:02X}")
 }

@@ -1,5 +1,5 @@
 //! Floats as words: a name, their bits in hexadecimal digits, or a decimal.
-ghost use Rattle.std.specs.Prelude.{◌≡◌, ◌≢◌, ◌↔◌, ◌++◌, ℕ, List, IfSome, IsTrue, MatchOption, OnOk, from_bits};
+ghost use Rattle.std.specs.Prelude.{◌≡◌, ◌≢◌, ◌↔◌, ◌++◌, ℕ, List, IfSome, IsTrue, MatchOption, OnErr, OnOk, from_bits};
 ghost use Rattle.std.specs.Float.{binary32, binary64};
 ghost use Rattle.std.specs.List.{AllPass};
 ghost use Rattle.std.specs.String.{string_bytes};
@@ -127,18 +127,19 @@ fn nearest_double(text: &str) -> Option<u64>
 
 /// Puts the word of the float with these bits right after the text: of a NaN its bits, of any other float `inf`, `-inf`
 /// or a decimal that reads back as the same float, which is the shortest one in all that was tried. For 16 bits that is
-/// the word of the same float of 32 bits.
+/// the word of the same float of 32 bits. Where memory is refused, the text stays as it was.
 pub fn push_float<A: Allocator + Copy>(
     text: &mut String<A>,
     format: FloatFormat,
     bits: u64,
 ) -> Result<(), AllocError>
-    ensures { OnOk result ((word : List ℕ) × (string_bytes text.new ≡ string_bytes text.old ++ word) ×
+    ensures written { OnOk result ((word : List ℕ) × (string_bytes text.new ≡ string_bytes text.old ++ word) ×
         IsWrittenFloat format bits word) }
+    ensures kept { OnErr result (string_bytes text.new ≡ string_bytes text.old) }
 {
     if is_nan(format, bits) {
-        text.push_str("0x")?;
-        return write!(text, "{bits:x}");
+        let word = format!(in *text.allocator(); "0x{bits:x}")?;
+        return text.push_str(word.as_str());
     }
     push_number(text, format, bits)
 }
@@ -149,8 +150,9 @@ fn push_number<A: Allocator + Copy>(
     format: FloatFormat,
     bits: u64,
 ) -> Result<(), AllocError>
-    ensures { OnOk result ((word : List ℕ) × (string_bytes text.new ≡ string_bytes text.old ++ word) ×
+    ensures written { OnOk result ((word : List ℕ) × (string_bytes text.new ≡ string_bytes text.old ++ word) ×
         IsFloatText format bits word) }
+    ensures kept { OnErr result (string_bytes text.new ≡ string_bytes text.old) }
 {
     match format {
         FloatFormat::F16 => {
@@ -163,15 +165,17 @@ fn push_number<A: Allocator + Copy>(
 }
 
 fn push_single<A: Allocator + Copy>(text: &mut String<A>, bits: u32) -> Result<(), AllocError>
-    ensures { OnOk result ((word : List ℕ) × (string_bytes text.new ≡ string_bytes text.old ++ word) ×
+    ensures written { OnOk result ((word : List ℕ) × (string_bytes text.new ≡ string_bytes text.old ++ word) ×
         IsNumberText binary32 13 5 (from_bits binary32 bits) word) }
+    ensures kept { OnErr result (string_bytes text.new ≡ string_bytes text.old) }
 {
     text.push_str(Buffer::new().format(f32_from_bits_with_nan(bits)))
 }
 
 fn push_double<A: Allocator + Copy>(text: &mut String<A>, bits: u64) -> Result<(), AllocError>
-    ensures { OnOk result ((word : List ℕ) × (string_bytes text.new ≡ string_bytes text.old ++ word) ×
+    ensures written { OnOk result ((word : List ℕ) × (string_bytes text.new ≡ string_bytes text.old ++ word) ×
         IsNumberText binary64 16 4 (from_bits binary64 bits) word) }
+    ensures kept { OnErr result (string_bytes text.new ≡ string_bytes text.old) }
 {
     text.push_str(Buffer::new().format(f64_from_bits_with_nan(bits)))
 }

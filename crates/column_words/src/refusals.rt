@@ -1,21 +1,32 @@
 //! Refusals as words.
-ghost use Rattle.std.specs.Prelude.{◌≡◌, ◌++◌, OnOk};
+ghost use Rattle.std.specs.Prelude.{◌≡◌, ◌++◌, IfOk, OnErr, OnOk};
 ghost use Rattle.std.specs.String.{string_bytes};
 ghost use Rattle.column_words.specs.Refusals.{behind_spaces, field_words, refusal_text};
 
 use column_base::VortexError;
 use std::alloc::{AllocError, Allocator};
 
-/// Puts `refused`, the error's number and its fields in order right behind the text, parted by spaces.
+/// Puts `refused`, the error's number and its fields in order right after the text, separated by spaces. Where memory
+/// is refused, the text stays as it was.
 pub fn push_refusal_words<A: Allocator + Copy>(
     text: &mut String<A>,
     error: VortexError,
 ) -> Result<(), AllocError>
-    ensures { OnOk result (string_bytes text.new ≡ string_bytes text.old ++ refusal_text error) }
+    ensures written { OnOk result (string_bytes text.new ≡ string_bytes text.old ++ refusal_text error) }
+    ensures kept { OnErr result (string_bytes text.new ≡ string_bytes text.old) }
+{
+    let words = refusal_words(*text.allocator(), error)?;
+    text.push_str(words.as_str())
+}
+
+// Returns the text of a refusal.
+fn refusal_words<A: Allocator + Copy>(alloc: A, error: VortexError) -> Result<String<A>, AllocError>
+    ensures { IfOk result (λ words. string_bytes words ≡ refusal_text error) }
 {
     let number = error.number();
-    write!(text, "refused {number}")?;
-    push_fields(text, error)
+    let mut words = format!(in alloc; "refused {number}")?;
+    push_fields(&mut words, error)?;
+    Ok(words)
 }
 
 // The fields of the error in order, each as a word behind a space.

@@ -1,11 +1,12 @@
 //! Rows that are null or integers, and totals, as words.
-ghost use Rattle.std.specs.Prelude.{◌≡◌, ◌↔◌, ◌++◌, IsTrue, OnOk};
+ghost use Rattle.std.specs.Prelude.{◌≡◌, ◌↔◌, ◌++◌, IsTrue, OnErr, OnOk};
 ghost use Rattle.std.specs.String.{string_bytes};
 ghost use Rattle.column_core.specs.ScalarView.{sees};
 ghost use Rattle.column_words.specs.Rows.{IsNullOrNumber, row_word, total_word};
 
 use column_core::ScalarView;
 use column_sums::SumValue;
+use itoa::Buffer;
 use std::alloc::{AllocError, Allocator};
 
 /// Returns whether it is null, or an integer.
@@ -18,30 +19,33 @@ pub fn is_null_or_number<A: Allocator>(row: ScalarView<'_, A>) -> bool
     }
 }
 
-/// Puts the word of the row, which is null or an integer, right behind the text.
+/// Puts the word of the row, which is null or an integer, right after the text. Where memory is refused, the text stays
+/// as it was.
 pub fn push_row_word<A: Allocator + Copy>(
     text: &mut String<A>,
     row: ScalarView<'_, A>,
 ) -> Result<(), AllocError>
     requires { IsNullOrNumber (sees row) }
-    ensures { OnOk result (string_bytes text.new ≡ string_bytes text.old ++ row_word (sees row.entry)) }
+    ensures written { OnOk result (string_bytes text.new ≡ string_bytes text.old ++ row_word (sees row.entry)) }
+    ensures kept { OnErr result (string_bytes text.new ≡ string_bytes text.old) }
 {
     match row {
-        ScalarView::Unsigned(number) => write!(text, "{number}"),
-        ScalarView::Signed(number) => write!(text, "{number}"),
+        ScalarView::Unsigned(number) => text.push_str(Buffer::new().format(number)),
+        ScalarView::Signed(number) => text.push_str(Buffer::new().format(number)),
         _ => text.push_str("null"),
     }
 }
 
-/// Puts the digits of the total right behind the text.
+/// Puts the digits of the total right after the text. Where memory is refused, the text stays as it was.
 pub fn push_total_word<A: Allocator + Copy>(
     text: &mut String<A>,
     total: SumValue,
 ) -> Result<(), AllocError>
-    ensures { OnOk result (string_bytes text.new ≡ string_bytes text.old ++ total_word total) }
+    ensures written { OnOk result (string_bytes text.new ≡ string_bytes text.old ++ total_word total) }
+    ensures kept { OnErr result (string_bytes text.new ≡ string_bytes text.old) }
 {
     match total {
-        SumValue::Unsigned(number) => write!(text, "{number}"),
-        SumValue::Signed(number) => write!(text, "{number}"),
+        SumValue::Unsigned(number) => text.push_str(Buffer::new().format(number)),
+        SumValue::Signed(number) => text.push_str(Buffer::new().format(number)),
     }
 }

@@ -1,5 +1,5 @@
 //! Types of rows as words: a name, with a question mark behind it where rows may be null.
-ghost use Rattle.std.specs.Prelude.{◌≡◌, ◌≢◌, ◌++◌, ℕ, List, MatchOption, OnOk, codes};
+ghost use Rattle.std.specs.Prelude.{◌≡◌, ◌≢◌, ◌++◌, ℕ, List, MatchOption, OnErr, OnOk, codes};
 ghost use Rattle.std.specs.String.{string_bytes};
 ghost use Rattle.column_base.specs.declared.dtype.PType.{PType};
 ghost use Rattle.column_base.specs.declared.dtype.Nullability.{Nullability};
@@ -64,17 +64,21 @@ pub fn name_of(ptype: PType) -> &'static str
     }
 }
 
-/// Puts the name of a type right behind the text, and a question mark behind it where rows may be null.
+/// Puts the name of a type right after the text, and then a question mark where rows may be null. Where memory is
+/// refused, the text stays as it was.
 pub fn push_marked<A: Allocator + Copy>(
     text: &mut String<A>,
     name: &str,
     nullability: Nullability,
 ) -> Result<(), AllocError>
-    ensures { OnOk result (string_bytes text.new ≡ string_bytes text.old ++ marked name.now nullability) }
+    ensures written { OnOk result (string_bytes text.new ≡ string_bytes text.old ++ marked name.now nullability) }
+    ensures kept { OnErr result (string_bytes text.new ≡ string_bytes text.old) }
 {
-    text.push_str(name)?;
     match nullability {
-        Nullability::NonNullable => Ok(()),
-        Nullability::Nullable => text.push_str("?"),
+        Nullability::NonNullable => text.push_str(name),
+        Nullability::Nullable => {
+            let marked = format!(in *text.allocator(); "{name}?")?;
+            text.push_str(marked.as_str())
+        }
     }
 }

@@ -19,4 +19,4 @@ pub returns-in_ok-push_str-in-Some-2 : goal.returns-in_ok-push_str-in-Some-2
 returns-in_ok-push_str-in-Some-2 g c =
     let other : c.in-Some-2.bits ≢ quiet_nan c.args.format = search rules in
     rw c.in-Some-2.is (written_pushed c.push_float.result c.args.format c.in-Some-2.bits (string_bytes c.args.line.now) (string_bytes c.push_str-in-Some-2.new.self) (string_bytes c.push_float.new.text)
-    other c.in_ok-push_str-in-Some-2.ensures.bytes c.push_float.ensures)
+    other c.in_ok-push_str-in-Some-2.ensures.bytes c.push_float.ensures.written)
