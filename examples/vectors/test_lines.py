@@ -1,0 +1,260 @@
+#!/usr/bin/env python3
+"""Tests of the models: known answers by hand, other programs' answers where there are some, and the stored lines.
+
+    python3 -B examples/vectors/test_lines.py
+
+`struct` rounds to 16 and 32 bits, `repr` writes the shortest decimal, `hash` of Python is SipHash-1-3, and `decimal`
+works with decimals: each by code of its own. Arithmetic of floats is held against NumPy where that is installed.
+"""
+
+from __future__ import annotations
+
+import decimal
+import random
+import struct
+import subprocess
+import sys
+import unittest
+from fractions import Fraction
+from functools import partial
+from pathlib import Path
+
+import decimals
+import floats
+from float_columns import any_bits, bits
+from float_pairs import partner
+from floats import F16, F32, F64, FORMATS, OPERATIONS, Format, NotThere
+from groups import folded, running
+from lines import GROUPS, STORED, new_lines, stored_lines
+from orders import counted
+from pairs import picked, truth
+from siphash import hash_of, siphash
+from words import Type, encoded_form, flat_form, order, runs_of, stored, word
+from writer import Refusal
+
+VECTORS = Path(__file__).resolve().parents[2] / "crates/vectors/stdin"
+try:
+    import numpy
+except ImportError:
+    numpy = None
+
+
+class Words(unittest.TestCase):
+    def test_rows_have_the_words_of_the_page(self) -> None:
+        rows = [None, True, -3, 'a b\n"\\', b"\0\xff", [1, None], ""]
+        expected = ["null", "true", "-3", '"a\\sb\\n\\"\\\\"', "x00FF", "[1,null]", '""']
+        self.assertEqual([word(row) for row in rows], expected)
+
+    def test_types_have_the_words_of_the_page(self) -> None:
+        types = [Type("u8", True), Type((5, -2), False), Type("list(u8)", False)]
+        self.assertEqual([str(type) for type in types], ["u8?", "decimal(5,-2)", "list(u8)"])
+
+    def test_forms(self) -> None:
+        self.assertEqual(flat_form(Type("u8", True), []), "flat u8? valid")
+        self.assertEqual(flat_form(Type("u8", True), [None, 1]), "flat u8? bits null 1")
+        self.assertEqual(flat_form(Type("u8", True), [None]), "flat u8? invalid null")
+        expected = "runs u8 0 3 2 3 { flat u8 nonnull 7 8 }"
+        self.assertEqual(encoded_form(Type("u8", False), [7, 7, 8]), expected)
+        self.assertTrue(encoded_form(Type("u8", False), [1] * 256).startswith("runs u16 0 256 256 {"))
+
+    def test_a_boolean_equals_no_integer(self) -> None:
+        self.assertEqual(runs_of([1, True, True, None, None]), ([1, 3, 5], [1, True, None]))
+
+    def test_null_comes_first_and_texts_go_by_their_bytes(self) -> None:
+        self.assertEqual(sorted(["é", "z", None, ""], key=order), [None, "", "z", "é"])
+
+    def test_zero_is_stored_under_null(self) -> None:
+        self.assertEqual(stored(Type("i8", True), [3, None]), "3 0")
+        self.assertEqual(stored(Type("bool", True), [None, True]), "false true")
+
+
+class Hashes(unittest.TestCase):
+    def test_no_bytes(self) -> None:
+        # What Rust's DefaultHasher answers, which is SipHash-1-3 with keys of 0 too.
+        self.assertEqual(siphash(b""), 15130871412783076140)
+
+    @unittest.skipUnless(sys.hash_info.algorithm == "siphash13", "another hash of Python")
+    def test_python_hashes_bytes_alike(self) -> None:
+        data = [bytes(range(length)) for length in range(1, 40)]
+        # With this seed the keys are 0.
+        command = [sys.executable, "-c", f"print(*map(hash, {data}))"]
+        said = subprocess.run(command, env={"PYTHONHASHSEED": "0"}, capture_output=True, text=True, check=True)
+        self.assertEqual([siphash(part) for part in data], [int(number) % 2**64 for number in said.stdout.split()])
+
+    def test_forms_of_the_same_rows_have_one_hash(self) -> None:
+        self.assertEqual(hash_of(Type("u8", False), [1, 1]), hash_of(Type("u8", True), [1, 1]))
+        self.assertNotEqual(hash_of(Type("u8", False), [1]), hash_of(Type((3, 0), False), [1]))
+
+
+class Rows(unittest.TestCase):
+    def test_null_is_unknown(self) -> None:
+        self.assertIs(truth(False, "and", None), False)
+        self.assertIsNone(truth(True, "and", None))
+        self.assertIs(truth(None, "or", True), True)
+        self.assertIsNone(truth(None, "or", False))
+
+    def test_picks(self) -> None:
+        self.assertEqual([picked(None, name, 2) for name in ("coalesce", "lesser", "greater")], [2, None, None])
+        self.assertEqual([picked(3, name, 2) for name in ("coalesce", "lesser", "greater")], [3, 2, 3])
+
+    def test_folds(self) -> None:
+        values, ends = [1, None, 5, None], [3, 4]
+        expected = {"sum": [6, None], "rows": [3, 1], "count": [2, 0], "first": [1, None], "last": [5, None]}
+        for fold, answers in expected.items():
+            self.assertEqual(folded(fold, values, ends, Type("u64", True)), answers)
+        self.assertEqual(folded("sum", [1, 2**63 - 1, 1], [1, 3], Type("i64", True)), Refusal("14 1", early=False))
+
+    def test_totals(self) -> None:
+        self.assertEqual(running([2, 3, 5], [None, 4, -1], Type("i64", True)), [None, 4, 2])
+        self.assertEqual(running([2], [2**63], Type("u64", True)), Refusal("14 0", early=False))
+
+    def test_counts(self) -> None:
+        self.assertEqual(counted(["b", None, "a", "b"]), [(None, 1), ("a", 1), ("b", 2)])
+
+
+def shortest_of_repr(number: float) -> tuple[str, int]:
+    """Returns the digits that `repr` writes of a positive float, and how many are before the point."""
+    mantissa, _, exponent = repr(number).partition("e")
+    whole, _, part = mantissa.partition(".")
+    digits = (whole + part).lstrip("0")
+    return digits.rstrip("0"), len(whole) + int(exponent or 0) - len(whole + part) + len(digits)
+
+
+class Floats(unittest.TestCase):
+    def setUp(self) -> None:
+        self.random = random.Random(7)
+
+    def any_float(self, format: Format) -> int:
+        """Returns the bits of a finite float."""
+        while format.is_nan(found := any_bits(self.random, format)) or format.is_infinite(found):
+            pass
+        return found
+
+    def test_each_float_is_the_nearest_to_its_number(self) -> None:
+        for format in FORMATS.values():
+            for found in [self.any_float(format) for _ in range(1000)]:
+                minus = bool(format.sign_of(found))
+                self.assertEqual(format.nearest(format.number(found), minus), found)
+                self.assertEqual(format.bits_of_key(format.key(found)), found)
+
+    def test_struct_rounds_alike(self) -> None:
+        for found in [self.any_float(F64) for _ in range(3000)]:
+            number = F64.value(found)
+            for format in (F16, F32):
+                letter, bits_letter = format.letters
+                try:
+                    (expected,) = struct.unpack(f"<{bits_letter}", struct.pack(f"<{letter}", number))
+                except OverflowError:
+                    expected = format.infinity + format.sign * (number < 0)
+                self.assertEqual(format.nearest(F64.number(found), bool(F64.sign_of(found))), expected)
+
+    def test_repr_writes_the_same_digits(self) -> None:
+        powers = [power << 52 for power in range(1, 2047, 9)]
+        for found in powers + [self.any_float(F64) % F64.sign for _ in range(300)]:
+            if found:
+                self.assertEqual(floats.shortest(F64, found), shortest_of_repr(F64.value(found)))
+
+    def test_words_of_the_page(self) -> None:
+        cases = [(F64, "1e16", "1e16"), (F64, "1e15", "1000000000000000.0"), (F32, "1e13", "1e13"), (F64, "-0", "-0.0")]
+        cases += [(F64, "0.00001", "0.00001"), (F64, "0.000001", "1e-6"), (F32, "0.1", "0.1")]
+        cases += [(F16, "0.1", "0.099975586")]
+        cases += [(F32, "0.000001", "0.000001"), (F64, "nan", "0x7ff8000000000000"), (F16, "-inf", "-inf")]
+        for format, text, expected in cases:
+            self.assertEqual(floats.word(format, floats.read(format, text)), expected)
+
+    def test_casts(self) -> None:
+        self.assertEqual(floats.cast(F32, F16, F32.nearest(Fraction(3, 2))), F16.nearest(Fraction(3, 2)))
+        self.assertEqual(floats.cast(F32, F64, 0xFFC00001), 0xFFF8000020000000)
+        for found in (F32.nearest(65536), F32.nearest(Fraction(1, 3)), 0x7F800001):
+            self.assertRaises(NotThere, floats.cast, F32, F16, found)
+        self.assertEqual(floats.rounded(F32, F16, 0x7F800001), F16.quiet_nan)
+        self.assertEqual(floats.to_integer(F64, "u8", F64.nearest(255)), 255)
+        self.assertRaises(NotThere, floats.to_integer, F64, "u8", F64.nearest(256))
+        self.assertRaises(NotThere, floats.of_integer, F32, 2**24 + 1)
+
+    def test_sums_are_rounded_once(self) -> None:
+        rows = [F64.nearest(number) for number in (2**53, 1, -(2**53))]
+        self.assertEqual(floats.total(F64, rows), F64.nearest(1))
+        self.assertEqual(floats.total(F32, [F32.sign, None]), F64.sign)
+        self.assertEqual(floats.total(F32, []), 0)
+        self.assertEqual(floats.total(F32, [F32.infinity, F32.infinity + F32.sign]), F64.quiet_nan)
+
+    def test_arithmetic_of_special_floats(self) -> None:
+        one, infinity = F64.nearest(1), F64.infinity
+        cases = [(one, "/", 0, infinity), (0, "/", 0, F64.quiet_nan), (infinity, "-", infinity, F64.quiet_nan)]
+        cases += [(0, "+", F64.sign, 0), (F64.sign, "-", 0, F64.sign), (one, "/", infinity + F64.sign, F64.sign)]
+        for left, operation, right, expected in cases:
+            self.assertEqual(floats.arithmetic(F64, operation, left, right), expected)
+
+    @unittest.skipUnless(numpy, "no NumPy")
+    def test_numpy_works_alike(self) -> None:
+        work = {"+": numpy.add, "-": numpy.subtract, "*": numpy.multiply, "/": numpy.divide}
+        for format, kind, kind_of_bits in ((F32, "f4", "u4"), (F64, "f8", "u8")):
+            for _ in range(500):
+                left, right = any_bits(self.random, format), bits(self.random, format, self.random.random() < 0.3)
+                right = partner(self.random, format, left) if self.random.random() < 0.3 else right
+                x, y = (numpy.array([row], kind_of_bits).view(kind) for row in (left, right))
+                for operation in OPERATIONS:
+                    with numpy.errstate(all="ignore"):
+                        made = work[operation](x, y)
+                    expected = format.quiet_nan if numpy.isnan(made[0]) else int(made.view(kind_of_bits)[0])
+                    self.assertEqual(floats.arithmetic(format, operation, left, right), expected)
+
+
+class Decimals(unittest.TestCase):
+    def test_precision_and_scale_of_answers(self) -> None:
+        self.assertEqual(decimals.answer_kind("+", (5, 2), (9, 2)), (10, 2))
+        self.assertIsNone(decimals.answer_kind("-", (5, 2), (5, 1)))
+        self.assertEqual(decimals.answer_kind("*", (5, 2), (3, 1)), (9, 3))
+        self.assertEqual(decimals.answer_kind("*", (38, 100), (38, 27)), (38, 127))
+        self.assertIsNone(decimals.answer_kind("*", (38, 100), (38, 28)))
+
+    def test_decimal_rescales_alike(self) -> None:
+        chance = random.Random(5)
+        context = decimal.Context(prec=400, Emin=-999, Emax=999, traps=[])
+        for _ in range(1000):
+            number = chance.choice([chance.randint(-(10**38), 10**38), chance.randint(-999, 999) * 10**20])
+            scale, to, precision = chance.randint(-40, 40), chance.randint(-40, 40), chance.randint(0, 60)
+            found = decimals.rescaled([None, number], scale, to, partial(decimals.has_digits, precision))
+            context.clear_flags()
+            step = decimal.Decimal(1).scaleb(-to, context)
+            moved = decimal.Decimal(number).scaleb(-scale, context).quantize(step, context=context)
+            if context.flags[decimal.Inexact]:
+                self.assertEqual(found, Refusal("14 1 inexact", early=False))
+                continue
+            whole = int(moved.scaleb(to, context))
+            fits = whole == 0 or len(str(abs(whole))) <= min(precision, 38)
+            self.assertEqual(found, [None, whole] if fits else Refusal("14 1", early=False))
+
+    def test_sums(self) -> None:
+        most = 10**38 - 1
+        cases = {((most, 1), (1, 1)): "refused 14 1", ((most, 1), (None, 9), (-1, 1)): str(most - 1)}
+        cases |= {((10**37, 20),): "refused 14 9", ((None, 3), (7, 0)): "0 empty", ((-3, 5),): "-15"}
+        for runs, expected in cases.items():
+            self.assertEqual(decimals.exact_sum(list(runs)), expected)
+            rows = [(value, 1) for value, count in runs for _ in range(count)]
+            self.assertEqual(decimals.exact_sum(rows), expected)
+
+
+class Lines(unittest.TestCase):
+    def test_the_stored_lines_of_each_group_are_made_again(self) -> None:
+        stored = VECTORS.read_text(encoding="utf-8").split("\n")
+        for group in STORED:
+            lines = stored_lines(group)
+            start = stored.index(lines[0])
+            self.assertGreater(len(lines), 900)
+            self.assertEqual(stored[start : start + len(lines)], lines)
+
+    def test_a_seed_makes_the_same_lines_again_and_another_makes_others(self) -> None:
+        for group in GROUPS:
+            lines = new_lines(group, 7, 20, wide=False)
+            self.assertEqual(lines, new_lines(group, 7, 20, wide=False))
+            self.assertNotEqual(lines, new_lines(group, 8, 20, wide=False))
+
+    def test_wide_columns_have_hundreds_of_rows(self) -> None:
+        longest = max(len(line) for line in new_lines("rows", 7, 40, wide=True))
+        self.assertGreater(longest, max(len(line) for line in new_lines("rows", 7, 40, wide=False)))
+
+
+if __name__ == "__main__":
+    unittest.main()
