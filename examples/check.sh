@@ -105,7 +105,8 @@ run "c/arrow_memory.c" built "$cc" "$c_flags -O0 $wraps" examples/c/arrow_memory
 # broken messages, in the same way: a hundred thousand here, a million in nine seconds
 run "c/messages_broken.c$arrow_how" built "$cc" "$c_flags $arrow_flags $wraps" examples/c/messages_broken.c
 
-# tables in C, also with each request for memory refused
+# decimals of two scales, and tables in C, also with each request for memory refused
+run "c/decimal_scales.c$arrow_how" built "$cc" "$c_flags $arrow_flags $wraps" examples/c/decimal_scales.c
 run "c/tables.c$arrow_how" built "$cc" "$c_flags $arrow_flags $wraps" examples/c/tables.c
 
 # the stored messages, which each version from 1.0.0 on reads as their rows and writes as their bytes
@@ -130,7 +131,7 @@ fi
 # what a program includes that takes every warning for an error
 headers_alone() {
     warned="-Wall -Wextra -Wpedantic -Wshadow -Wconversion -Wno-string-conversion -Werror -Iinclude -fsyntax-only"
-    for header in hivevigil hivevigil_errors hivevigil_helpers hivevigil_arrow hivevigil_arrow_errors hivevigil_table hivevigil_table_errors; do
+    for header in hivevigil hivevigil_errors hivevigil_helpers hivevigil_decimals hivevigil_arrow hivevigil_arrow_errors hivevigil_table hivevigil_table_errors; do
         echo "#include <$header.h>" >"$work/alone.c"
         cp "$work/alone.c" "$work/alone.cpp"
         $cc -std=c99 $warned "$work/alone.c" && $cxx -std=c++17 $warned "$work/alone.cpp" || return 1

@@ -393,9 +393,9 @@ HV_ANSWER hv_decimal_to_integers(const hv_column *decimals, uint8_t to, hv_colum
 /* The decimals at each place of two columns added, subtracted or multiplied (HV_ADD, HV_SUBTRACT, HV_MULTIPLY), exactly,
  * null where either is null, in the form and at the cost of hv_combine. Sums and differences are at the scale of both
  * columns, in one digit more than the greater precision; products at the sum of the scales, in one digit more than both
- * precisions together; in 38 digits at most. 13 unless both are of decimals; then 12 for sums of two scales, and for a
- * product whose scale is not from -128 to 127; then 11 (left, right); then 14 (row) for the first row whose answer has
- * more digits; 23 for another operator. */
+ * precisions together; in 38 digits at most. 13 unless both are of decimals; then 12 for sums of two scales, which
+ * hivevigil_decimals.h brings to one, and for a product whose scale is not from -128 to 127; then 11 (left, right);
+ * then 14 (row) for the first row whose answer has more digits; 23 for another operator. */
 HV_ANSWER hv_decimal_combine(const hv_column *left, uint8_t operator_, const hv_column *right, hv_column *out,
                              hv_error *error);
 

@@ -15,6 +15,7 @@
 #ifndef HIVEVIGIL_TABLE_H
 #define HIVEVIGIL_TABLE_H
 #include "hivevigil_arrow.h"
+#include "hivevigil_decimals.h"
 #include "hivevigil_helpers.h"
 #include "hivevigil_table_errors.h"
 #ifdef __cplusplus
@@ -249,8 +250,18 @@ HV_ANSWER hv_table_filter(const hv_session *session, const hv_table *table, cons
     return hv_table_each_by(table, work, mask, out, error);
 }
 
+/* Copies of two columns that are joined, of decimals as decimals of one type. */
+static inline int32_t hv_table_joined(const hv_column *first, const hv_column *second, hv_column *lent,
+                                      hv_error *error) {
+    if (hv_kind_of(first).number == HV_DECIMAL && hv_kind_of(second).number == HV_DECIMAL)
+        return hv_decimal_aligned(first, second, &lent[0], &lent[1], error);
+    const int32_t answer = hv_clone(first, &lent[0], error);
+    return answer ? answer : hv_clone(second, &lent[1], error);
+}
+
 /* The rows of a table, then those of another, which has columns of the same names, types and logical types; a type has
- * null where it has in one of them. 201 where one has a column that the other has not, 12 for two types. */
+ * null where it has in one of them, and decimals of two types become decimals of hv_decimal_common_kind. 201 where one
+ * has a column that the other has not, 12 for two types, 14 (row, 0) as hv_decimal_aligned has it. */
 HV_ANSWER hv_table_append(const hv_session *session, const hv_table *first, const hv_table *second, hv_table *out,
                           hv_error *error) {
     hv_table made;
@@ -266,8 +277,7 @@ HV_ANSWER hv_table_append(const hv_session *session, const hv_table *first, cons
         answer = hv_table_find(second, first->names[i], &place, error);
         if (!answer && strcmp(first->logical_types[i], second->logical_types[place]) != 0)
             answer = hv_arrow_refuse(HV_TYPE_MISMATCH, 0, 0, error);
-        if (!answer) answer = hv_clone(&first->columns[i], &lent[0], error);
-        if (!answer) answer = hv_clone(&second->columns[place], &lent[1], error);
+        if (!answer) answer = hv_table_joined(&first->columns[i], &second->columns[place], lent, error);
         if (!answer) answer = hv_arrow_concat(session, lent, 2, &joined, error);
         if (!answer) answer = hv_table_add(&made, first->names[i], first->logical_types[i], &joined, error);
         hv_free(&joined);
