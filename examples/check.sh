@@ -85,7 +85,7 @@ if $cc $watched "$work/empty.c" -o "$work/empty" 2>/dev/null && "$work/empty"; t
     for test in errors answers refusals levels forms constants lists groups pairs sorts sums totals floats float_casts float_pairs decimals decimal_casts builders messages arrow_arrays; do
         run "c/$test.c under sanitizers" built "$cc" "$c_flags $watched" "examples/c/$test.c"
     done
-    for test in demo numbers decimal_casts spans tables table_rows; do
+    for test in demo numbers decimal_casts decimal_scales spans tables table_rows; do
         has "$cxx" && run "cpp/$test.cpp under sanitizers" built "$cxx" "$cxx_flags $watched" "examples/cpp/$test.cpp"
     done
     has "$cxx" && run "cpp/spans.cpp in C++20, under sanitizers" built "$cxx" "$cxx_flags -std=c++20 $watched" \
@@ -136,7 +136,7 @@ headers_alone() {
         cp "$work/alone.c" "$work/alone.cpp"
         $cc -std=c99 $warned "$work/alone.c" && $cxx -std=c++17 $warned "$work/alone.cpp" || return 1
     done
-    for test in demo numbers decimal_casts spans tables table_rows table_tool; do
+    for test in demo numbers decimal_casts decimal_scales spans tables table_rows table_tool; do
         $cxx -std=c++17 $warned "examples/cpp/$test.cpp" && $cxx -std=c++20 $warned "examples/cpp/$test.cpp" || return 1
     done
     echo "those of C and C++, and what is made of their templates"
@@ -150,7 +150,7 @@ tables_page() {
 if has "$cxx"; then
     run "headers alone, with every warning" headers_alone
     run "the page of tables, in C++" tables_page
-    for test in demo numbers decimal_casts spans tables table_rows; do run "cpp/$test.cpp" built "$cxx" "$cxx_flags -O2" "examples/cpp/$test.cpp"; done
+    for test in demo numbers decimal_casts decimal_scales spans tables table_rows; do run "cpp/$test.cpp" built "$cxx" "$cxx_flags -O2" "examples/cpp/$test.cpp"; done
     run "cpp/spans.cpp in C++20" built "$cxx" "$cxx_flags -std=c++20 -O2" examples/cpp/spans.cpp
 else
     skip "cpp/demo.cpp" "$cxx"

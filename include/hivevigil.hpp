@@ -197,14 +197,8 @@ public:
             [&](auto *other, auto *out, auto *error) { return hv_take_from(&session, &handle, other, out, error); },
             detail::words_of_other("codes are integers, not ", kind()));
     }
-    Column compare(Operator by, const Column &right, const hv_session &session = initial_session()) const {
-        return beside(
-            right,
-            [&](auto *other, auto *out, auto *error) {
-                return hv_compare(&session, &handle, static_cast<uint8_t>(by), other, out, error);
-            },
-            detail::words_of_two(kind(), " is not compared with ", right.kind()));
-    }
+    // Row by row; null where either is null. Decimals of two scales are compared exactly.
+    Column compare(Operator by, const Column &right, const hv_session &session = initial_session()) const;
     // The same with one value. Any number is compared with integers and decimals: each i8 is less than 300.
     Column compare(Operator by, const Value &right, const hv_session &session = initial_session()) const {
         const detail::Comparison asked = detail::comparison(by, right, kind());

@@ -38,7 +38,7 @@ constexpr AtScale at_scale(Wide number, int from, int to) {
 } // namespace detail
 
 // A number: high * 2^64 + low, the last `scale` digits of which are after the point. {1050, 0, 2} is 10.50, and equal
-// to {105, 0, 1}.
+// to {105, 0, 1}; numbers of two scales are in the order of their values.
 struct Decimal {
     uint64_t low = 0;
     int64_t high = 0;
@@ -58,6 +58,13 @@ struct Decimal {
         return !same.past && !same.rest && same.floor == right.digits();
     }
     friend constexpr bool operator!=(Decimal left, Decimal right) { return !(left == right); }
+    friend constexpr bool operator<(Decimal left, Decimal right) {
+        const detail::AtScale same = detail::at_scale(left.digits(), left.scale, right.scale);
+        return same.past ? same.past < 0 : same.floor < right.digits();
+    }
+    friend constexpr bool operator>(Decimal left, Decimal right) { return right < left; }
+    friend constexpr bool operator<=(Decimal left, Decimal right) { return !(right < left); }
+    friend constexpr bool operator>=(Decimal left, Decimal right) { return !(left < right); }
 };
 
 // The number with `scale` digits after the point, in place of its own.

@@ -5,14 +5,16 @@
 //     hv::Column total = price * amount + fee;
 //     hv::Column due = paid.less_than(total) & ~closed;
 //
-// Integers are of one type, in which the answer is too. Decimals give decimals, exactly: sums of one scale, in a digit
-// more than either side, and products at the sum of the scales, in all digits of both and one more, of 38 at most.
-// Refused as HV_UNSUPPORTED for columns that an operator does not serve, as HV_TYPE_MISMATCH for two types or scales, as
-// HV_COLUMN_LENGTH, and as HV_CAST_OUT_OF_RANGE where the type does not have the answer of a row, which is the first
-// field.
+// Integers are of one type, in which the answer is too. Decimals give decimals, exactly: sums at the greater scale of
+// both, in a digit more than either side has there, and products at the sum of the scales, in all digits of both and
+// one more, of 38 at most. Decimals of two types are compared, added, subtracted and picked from as decimals of
+// hv_decimal_common_kind. Refused as HV_UNSUPPORTED for columns that an operator does not serve, as HV_TYPE_MISMATCH
+// for two types, as HV_COLUMN_LENGTH, and as HV_CAST_OUT_OF_RANGE where the type does not have a row, or the answer of
+// one, which is the first field; comparisons are not refused so.
 #ifndef HIVEVIGIL_PAIRS_HPP
 #define HIVEVIGIL_PAIRS_HPP
 #include "hivevigil.hpp"
+#include "hivevigil_decimals.h"
 
 namespace hv {
 
@@ -33,6 +35,43 @@ inline const char *done_by(Pairing by) {
 // Whether an operator is asked of two columns of decimals that it adds, subtracts or multiplies.
 inline bool are_decimals(const Column &left, Pairing by, const Column &right) {
     return by <= Pairing::multiply && left.kind().number == HV_DECIMAL && right.kind().number == HV_DECIMAL;
+}
+
+// ---- Decimals of two types ----
+
+inline bool are_of_two_scales(const Column &left, const Column &right) {
+    const hv_kind one = left.kind(), other = right.kind();
+    return one.number == HV_DECIMAL && other.number == HV_DECIMAL &&
+           (one.precision != other.precision || one.scale != other.scale);
+}
+
+// The same decimals in another precision and scale and in the form of the column; the row that does not fit is refused
+// in words.
+inline Column cast_in_form(const Column &column, hv_kind kind) {
+    Column made;
+    hv_error fields{};
+    const int32_t answer = hv_decimal_cast_in_form(column.raw(), kind.precision, kind.scale, made.raw(), &fields);
+    ask([&](auto *error) { return *error = fields, answer; },
+        [&](int32_t number) { return words_of_scaled(column, kind, number, static_cast<size_t>(fields.first)); });
+    return made;
+}
+
+// Both columns of decimals as decimals of one type.
+inline std::pair<Column, Column> aligned(const Column &left, const Column &right) {
+    const hv_kind kind = hv_decimal_common_kind(left.kind(), right.kind());
+    Column first = cast_in_form(left, kind);
+    return {std::move(first), cast_in_form(right, kind)};
+}
+
+inline void check_sizes(const Column &left, const Column &right) {
+    if (left.size() != right.size()) throw Error(HV_COLUMN_LENGTH, {left.size(), right.size(), 0});
+}
+
+// Whether an operator takes two columns of decimals only at one scale, and these are not: sums and picks.
+inline bool are_to_align(const Column &left, Pairing by, const Column &right) {
+    if (by == Pairing::add || by == Pairing::subtract)
+        return are_of_two_scales(left, right) && left.kind().scale != right.kind().scale;
+    return by >= Pairing::coalesce && are_of_two_scales(left, right);
 }
 
 // The type of the answers, without null.
@@ -72,13 +111,20 @@ constexpr uint8_t count_digits(Wide number) {
     return digits;
 }
 
-// A decimal in each row of a column next to one of decimals: at the scale of that, and of a product at its own. In as
-// few digits as it has.
+// The least scale from `least` on at which a number has a place: zeros at its end need none.
+constexpr int8_t scale_from(int8_t least, Decimal number) {
+    Wide digits = number.digits();
+    int8_t scale = number.scale;
+    for (; scale > least && digits % 10 == 0; scale--) digits /= 10;
+    return std::max(least, scale);
+}
+
+// A decimal in each row of a column next to one of decimals: of a product at its own scale, else at that of the column,
+// or where it has no place there at the least one where it has. In as few digits as it has.
 inline Column decimals_beside(const Column &column, Pairing by, Decimal number) {
-    const int8_t scale = by == Pairing::multiply ? number.scale : column.kind().scale;
+    const int8_t scale = by == Pairing::multiply ? number.scale : scale_from(column.kind().scale, number);
     const AtScale there = at_scale(number.digits(), number.scale, scale);
-    const bool exact = !there.past && !there.rest;
-    const uint8_t digits = exact ? std::min(count_digits(there.floor), uint8_t{38}) : uint8_t{38};
+    const uint8_t digits = there.past ? uint8_t{38} : std::min(count_digits(there.floor), uint8_t{38});
     return Column::constant(kinds::decimal(digits, scale), Value(number), column.size());
 }
 
@@ -100,6 +146,11 @@ template <class T> using IfNumber = std::enable_if_t<is_number<T> || std::is_sam
 
 inline Column Column::combine(Pairing by, const Column &right) const {
     if (&right == this) return clone().combine(by, right);
+    if (detail::are_to_align(*this, by, right)) {
+        detail::check_sizes(*this, right);
+        const auto both = detail::aligned(*this, right);
+        return both.first.combine(by, both.second);
+    }
     Column out;
     hv_error fields{};
     const auto call = detail::are_decimals(*this, by, right) ? hv_call_decimal_combine : hv_call_combine;
@@ -118,12 +169,38 @@ inline Column Column::is_valid() const { return part(hv_call_is_valid); }
 inline Column Column::choose(const Column &left, const Column &right) const {
     if (&left == this || &left == &right) return choose(left.clone(), right);
     if (&right == this) return choose(left, right.clone());
+    if (kind().number == HV_BOOL && detail::are_of_two_scales(left, right)) {
+        detail::check_sizes(left, right);
+        detail::check_sizes(*this, left);
+        const auto both = detail::aligned(left, right);
+        return choose(both.first, both.second);
+    }
     const std::string types = detail::words_of_types(left, right);
     return made([&](auto *out, auto *error) { return hv_if_else(&handle, &left.handle, &right.handle, out, error); },
                 [&](int32_t answer) { return answer == HV_TYPE_MISMATCH ? types + " are not chosen from" : ""; });
 }
 
+inline Column Column::compare(Operator by, const Column &right, const hv_session &session) const {
+    if (detail::are_of_two_scales(*this, right)) {
+        Column first, second;
+        hv_error fields{};
+        const int32_t answer = hv_decimal_aligned(&handle, &right.handle, &first.handle, &second.handle, &fields);
+        if (!answer) return first.compare(by, second, session);
+        if (answer != HV_CAST_OUT_OF_RANGE) throw Error(answer, fields);
+        return compared(by, right); // 38 digits do not hold both at one scale
+    }
+    return beside(
+        right,
+        [&](auto *other, auto *out, auto *error) {
+            return hv_compare(&session, &handle, static_cast<uint8_t>(by), other, out, error);
+        },
+        detail::words_of_two(kind(), " is not compared with ", right.kind()));
+}
 inline Column Column::compared(Operator by, const Column &right) const {
+    if (detail::are_of_two_scales(*this, right))
+        return beside(right, [&](auto *other, auto *out, auto *error) {
+            return hv_decimal_compare(&handle, static_cast<uint8_t>(by), other, out, error);
+        });
     return beside(
         right,
         [&](auto *other, auto *out, auto *error) {

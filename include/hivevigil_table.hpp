@@ -138,7 +138,8 @@ public:
     // none of these columns changes. Refused as HV_UNSUPPORTED for lists, and for no key.
     Table sort(const std::vector<SortKey> &keys, Nulls nulls = Nulls::first) const;
     // The rows of this table, then those of another, which has columns of the same names and types; a type has null
-    // where it has in one of them. Refused as HV_TABLE_NO_COLUMN and HV_TYPE_MISMATCH.
+    // where it has in one of them, and decimals of two types become those of hv_decimal_common_kind. Refused as
+    // HV_TABLE_NO_COLUMN and HV_TYPE_MISMATCH, and as HV_CAST_OUT_OF_RANGE for a row that has more digits there.
     Table append(const Table &other) const;
     // The rows by runs of neighbours that are equal in these columns (hivevigil_table_groups.hpp).
     TableGroups group_by(const std::vector<std::string> &names) const;
@@ -386,8 +387,12 @@ template <class T> Table Table::filter_by(const std::string &name, const std::st
 
 namespace detail {
 
-// The rows of a column, then those of another of its type.
+// The rows of a column, then those of another of its type, or of decimals of another scale.
 inline Column joined(const Column &first, const Column &second) {
+    if (are_of_two_scales(first, second)) {
+        const auto both = aligned(first, second);
+        return joined(both.first, both.second);
+    }
     hv_column lent[] = {*first.raw(), *second.raw()};
     Column out;
     ask([&](auto *error) { return hv_arrow_concat(&initial_session(), lent, 2, out.raw(), error); },
