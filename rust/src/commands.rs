@@ -107,7 +107,7 @@ impl Column {
     }
 
     /// Returns numbers at another scale, with null where a row is.
-    fn scaled(&self, kind: Kind) -> Result<Column, Error> {
+    pub(crate) fn scaled(&self, kind: Kind) -> Result<Column, Error> {
         self.part(|column, out, fields| unsafe {
             match kind.is_decimal() {
                 true => raw::hv_decimal_cast(column, kind.precision, kind.scale, out, fields),
@@ -115,7 +115,10 @@ impl Column {
             }
         })
         .map_err(|error| match error.kind() {
-            Some(ErrorKind::CastOutOfRange) => self.first_misfit(kind).unwrap_or(error),
+            Some(ErrorKind::CastOutOfRange) => match self.first_misfit(kind) {
+                Some(misfit) => error.in_words_of(misfit),
+                None => error,
+            },
             _ => error,
         })
     }
@@ -165,8 +168,20 @@ impl Column {
         .map_err(|error| error.of_other("codes are integers, not", self.kind()))
     }
 
-    /// Compares row by row, null where either row is null.
+    /// Compares row by row, null where either row is null; decimals of two scales exactly.
+    ///
+    /// ```
+    /// use hivevigil::{Column, Decimal, Kind, Operator, Value};
+    /// let prices = Column::constant(Kind::decimal(4, 2), Decimal::new(101, 2), 3)?;
+    /// let finer = Column::constant(Kind::decimal(6, 3), Decimal::new(1005, 3), 3)?;
+    /// assert_eq!(prices.compare(Operator::Greater, &finer)?.at(2)?, Value::Truth(true));
+    /// # Ok::<(), hivevigil::Error>(())
+    /// ```
     pub fn compare(&self, operator: Operator, right: &Column) -> Result<Column, Error> {
+        if self.kind().is_other_decimal(right.kind()) {
+            return self
+                .compared_exactly(operator, right, |left, right| left.compare(operator, right));
+        }
         let (session, left, operator) = (Session::initial(), self.handle.get(), operator as u8);
         let (kind, other) = (self.kind(), right.kind());
         self.beside(right, |right, out, fields| unsafe {

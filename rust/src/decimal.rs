@@ -2,7 +2,8 @@
 use std::cmp::Ordering;
 use std::fmt;
 
-/// A number of `digits`, the last `scale` of which are after the point. Two are equal where they are the same number.
+/// A number of `digits`, the last `scale` of which are after the point. Two are equal where they are the same number, and
+/// in the order of their numbers.
 ///
 /// ```
 /// use hivevigil::{Column, Decimal, Kind};
@@ -10,6 +11,7 @@ use std::fmt;
 /// assert_eq!((price.to_string(), price), ("10.50".to_string(), Decimal::new(105, 1)));
 /// assert_eq!(Decimal::new(-7, 4).to_string(), "-0.0007");
 /// assert_eq!(Decimal::new(12, -2).to_string(), "1200");
+/// assert!(Decimal::new(1005, 3) < Decimal::new(101, 2));
 /// let prices = Column::constant(Kind::decimal(10, 2), price, 3)?;
 /// assert_eq!(prices.at(2)?.to_string(), "10.50");
 /// # Ok::<(), hivevigil::Error>(())
@@ -69,6 +71,24 @@ impl PartialEq for Decimal {
 }
 
 impl Eq for Decimal {}
+
+/// Compares the numbers, also those of two scales, exactly.
+impl Ord for Decimal {
+    fn cmp(&self, other: &Decimal) -> Ordering {
+        match self.at_scale(other.scale) {
+            AtScale::Exact(digits) => digits.cmp(&other.digits),
+            AtScale::Above(digits) if digits < other.digits => Ordering::Less,
+            AtScale::Above(_) => Ordering::Greater,
+            AtScale::Outside(side) => side,
+        }
+    }
+}
+
+impl PartialOrd for Decimal {
+    fn partial_cmp(&self, other: &Decimal) -> Option<Ordering> {
+        Some(self.cmp(other))
+    }
+}
 
 /// "10.50", and of a negative scale "1200".
 impl fmt::Display for Decimal {

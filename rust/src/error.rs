@@ -289,6 +289,11 @@ impl Error {
         self.with(Detail::PairOverflow(left, sign, right, kind.not_nullable()))
     }
 
+    /// Says what another refusal of the same kind does, with these fields.
+    pub(crate) fn in_words_of(self, other: Error) -> Error {
+        self.with(other.detail)
+    }
+
     /// Names the row of the value.
     pub(crate) fn at_row(self, at: usize) -> Error {
         let row = Some(at);

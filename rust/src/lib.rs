@@ -37,6 +37,7 @@ mod parts;
 mod questions;
 mod raw;
 mod same;
+mod scales;
 mod show;
 mod sorts;
 mod table;

@@ -1,5 +1,6 @@
 //! The rows of two columns worked place by place.
 use crate::column::turn_of;
+use crate::scales::check_lengths;
 use crate::{raw, Column, Decimal, Error, ErrorKind, Kind, Operator, Value};
 use std::ptr;
 
@@ -41,6 +42,17 @@ impl Pairing {
         self as u8 <= Pairing::Multiply as u8 && left.is_decimal() && right.is_decimal()
     }
 
+    /// Returns whether it takes decimals only at one scale, and these are not: sums and picks.
+    fn is_at_one_scale(self, left: Kind, right: Kind) -> bool {
+        match self {
+            Pairing::Add | Pairing::Subtract => {
+                left.is_other_decimal(right) && left.scale != right.scale
+            }
+            Pairing::Coalesce | Pairing::Lesser | Pairing::Greater => left.is_other_decimal(right),
+            _ => false,
+        }
+    }
+
     /// Returns the type of the answers, without null.
     fn answers(self, left: Kind, right: Kind) -> Kind {
         let digits = match self {
@@ -59,10 +71,10 @@ impl Pairing {
 /// Works two columns place by place, at the cost of the runs of both. The answers are in runs, as few as possible, or
 /// in a constant where both columns are constants that have a row. Refused as `ColumnLength` where they differ in rows.
 impl Column {
-    /// Adds the two integers at each place, in their type, null where either is null; decimals of one scale exactly, in
-    /// one digit more than either side has, of 38 at most. Refused as `Unsupported` unless both columns are of integers
-    /// or both of decimals, as `TypeMismatch` for two types of integers or two scales, and as `CastOutOfRange` where the
-    /// type does not have a sum: the first field is the first such row.
+    /// Adds the two integers at each place, in their type, null where either is null; decimals exactly, at the greater
+    /// scale of both, in one digit more than either side has there, of 38 at most. Refused as `Unsupported` unless both
+    /// columns are of integers or both of decimals, as `TypeMismatch` for two types of integers, and as `CastOutOfRange`
+    /// where the type does not have a sum, or a row at the greater scale: the first field is the first such row.
     ///
     /// ```
     /// use hivevigil::{Column, Kind};
@@ -119,9 +131,10 @@ impl Column {
         self.paired(Pairing::Or, right)
     }
 
-    /// Returns the left row at each place, or the right one where that is null. Refused as `Unsupported` unless both
-    /// columns are of integers, of decimals or of booleans, and as `TypeMismatch` for two types, two scales of decimals
-    /// too.
+    /// Returns the left row at each place, or the right one where that is null; decimals of two types as those of one
+    /// that has the digits of both. Refused as `Unsupported` unless both columns are of integers, of decimals or of
+    /// booleans, as `TypeMismatch` for two types, and as `CastOutOfRange` for a row that has more than 38 digits at the
+    /// greater scale.
     ///
     /// ```
     /// use hivevigil::Column;
@@ -153,9 +166,10 @@ impl Column {
         self.part(|column, out, fields| unsafe { raw::hv_is_valid(column, out, fields) })
     }
 
-    /// Returns the left row where this mask is true, the right one where it is false, and null where it is null.
-    /// Refused as `Unsupported` unless this column is of booleans and the others are of integers, of decimals or of
-    /// booleans, then as `TypeMismatch` for two types, then as `ColumnLength`.
+    /// Returns the left row where this mask is true, the right one where it is false, and null where it is null;
+    /// decimals of two types as [`Column::coalesce`] has them. Refused as `Unsupported` unless this column is of
+    /// booleans and the others are of integers, of decimals or of booleans, then as `TypeMismatch` for two types, then
+    /// as `ColumnLength`.
     ///
     /// ```
     /// use hivevigil::{Column, Value};
@@ -171,6 +185,12 @@ impl Column {
         }
         if ptr::eq(right, self) {
             return self.choose(left, &right.try_clone()?);
+        }
+        if self.kind().not_nullable() == Kind::BOOL && left.kind().is_other_decimal(right.kind()) {
+            check_lengths(left, right)?;
+            check_lengths(self, left)?;
+            let (left, right) = left.aligned(right)?;
+            return self.choose(&left, &right);
         }
         let _turn = turn_of(&[self, left, right]);
         Column::made(|out, fields| unsafe {
@@ -205,8 +225,8 @@ impl Column {
             })
     }
 
-    /// Says whether the two rows at each place are equal, null where either is null. Refused as `Unsupported` for lists
-    /// and as `TypeMismatch` for two types.
+    /// Says whether the two rows at each place are equal, null where either is null; decimals of two scales are compared
+    /// exactly. Refused as `Unsupported` for lists and as `TypeMismatch` for two types.
     ///
     /// ```
     /// use hivevigil::{Column, Value};
@@ -260,6 +280,11 @@ impl Column {
     }
 
     fn compared(&self, operator: Operator, right: &Column) -> Result<Column, Error> {
+        if self.kind().is_other_decimal(right.kind()) {
+            return self.compared_exactly(operator, right, |left, right| {
+                left.compared(operator, right)
+            });
+        }
         self.combined(operator as u8, right).map_err(|error| {
             let words = "is not compared with";
             error.about(
@@ -272,6 +297,11 @@ impl Column {
     }
 
     fn paired(&self, by: Pairing, right: &Column) -> Result<Column, Error> {
+        if by.is_at_one_scale(self.kind(), right.kind()) {
+            check_lengths(self, right)?;
+            let (left, right) = self.aligned(right)?;
+            return left.paired(by, &right);
+        }
         let made = match by.is_of_decimals(self.kind(), right.kind()) {
             true => self.decimals_combined(by as u8, right),
             false => self.combined(by as u8, right),

@@ -45,7 +45,7 @@ fn same_runs(left: &Column, right: &Column) -> Result<bool, Error> {
 }
 
 /// Returns the run if it has the row, else the next one.
-fn reaching(
+pub(crate) fn reaching(
     run: Option<Run>,
     row: usize,
     others: &mut impl Iterator<Item = Result<Run, Error>>,

@@ -1,6 +1,7 @@
 //! Rows and sums.
 use crate::raw::RawValue;
 use crate::{Column, Decimal};
+use std::cmp::Ordering;
 use std::fmt;
 
 /// A row.
@@ -91,6 +92,20 @@ pub enum Operator {
     Less = 4,
     /// `<=`
     LessOrEqual = 5,
+}
+
+impl Operator {
+    /// Returns whether it holds of two values in this order.
+    pub(crate) fn holds(self, order: Ordering) -> bool {
+        match self {
+            Operator::Equal => order.is_eq(),
+            Operator::NotEqual => order.is_ne(),
+            Operator::Greater => order.is_gt(),
+            Operator::GreaterOrEqual => order.is_ge(),
+            Operator::Less => order.is_lt(),
+            Operator::LessOrEqual => order.is_le(),
+        }
+    }
 }
 
 /// Names what is answered of the values in a group, by the numbers of `hivevigil.h`. Each but `Rows` looks only at the

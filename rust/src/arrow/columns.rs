@@ -4,6 +4,7 @@ use super::error::ask;
 use super::{ArrowArray, ArrowError, ArrowSchema};
 use crate::column::turn_of;
 use crate::raw::Handle;
+use crate::scales::at_one_type;
 use crate::{Column, Error, Fields, Session};
 use std::ffi::CString;
 use std::ptr;
@@ -188,7 +189,9 @@ fn imported(
 }
 
 /// Joins columns of one type, but for null, one after the other: runs over flat values where each is runs or a
-/// constant, else flat; lists as lists. Refused as `TypeMismatch` for two types, and as `Unsupported` for no columns.
+/// constant, else flat; lists as lists; decimals of several types as those of one that has the digits of each. Refused
+/// as `TypeMismatch` for two types, as `Unsupported` for no columns, and as `CastOutOfRange` for a row that has more
+/// than 38 digits at the greatest scale.
 ///
 /// ```
 /// use hivevigil::{arrow::concat, Column, Form};
@@ -198,10 +201,13 @@ fn imported(
 /// # Ok::<(), hivevigil::Error>(())
 /// ```
 pub fn concat(columns: &[&Column]) -> Result<Column, Error> {
-    let copies = columns
-        .iter()
-        .map(|column| column.try_clone())
-        .collect::<Result<Vec<_>, _>>()?;
+    let copies = match at_one_type(columns)? {
+        Some(copies) => copies,
+        None => columns
+            .iter()
+            .map(|column| column.try_clone())
+            .collect::<Result<Vec<_>, _>>()?,
+    };
     let mut handles = handles_of(&copies);
     let session = Session::initial();
     let _turn = turn_of(columns);

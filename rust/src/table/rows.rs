@@ -57,7 +57,9 @@ impl Table {
     }
 
     /// Returns the rows of this table, then those of another, which has columns of the same names, types and logical
-    /// types, in any order; a type has null where it has in one of them. Refused as `OtherColumns`.
+    /// types, in any order; a type has null where it has in one of them, and decimals of two types become decimals of
+    /// one that has the digits of both. Refused as `OtherColumns`, and as `CastOutOfRange` for a row that has more than
+    /// 38 digits at the greater scale.
     ///
     /// ```
     /// use hivevigil::{Column, Table};
@@ -132,7 +134,8 @@ impl Table {
         Ok(Table { entries, rows })
     }
 
-    /// Finds how the columns of another table differ in names, types and logical types, but for null.
+    /// Finds how the columns of another table differ in names, types and logical types, but for null and for the digits
+    /// of decimals.
     fn difference(&self, other: &Table) -> Option<Difference> {
         let only_other = other.names().find(|name| self.get(name).is_none());
         let differs = |entry: &Entry| match other.entry(&entry.name) {
@@ -147,7 +150,7 @@ impl Table {
 impl Entry {
     fn difference(&self, other: &Entry) -> Option<Difference> {
         let (first, next) = (self.column.kind(), other.column.kind());
-        if first.nullable() != next.nullable() {
+        if first.nullable() != next.nullable() && !first.is_other_decimal(next) {
             return Some(Difference::Kinds {
                 name: self.name.clone(),
                 first,
