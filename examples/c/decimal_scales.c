@@ -385,14 +385,17 @@ static void check_refusals(void) {
     const int64_t numbers[2] = {4, 5};
     const hv_pair pairs[2] = {{1, 0}, {2, 0}};
     hv_column cents = one_row(5, 4, 2), far = one_row(5, 4, 126), wrong = HV_EMPTY, two = HV_EMPTY, none = HV_EMPTY;
-    hv_column out = one_row(7, 1, 0), other = one_row(8, 1, 0);
+    hv_column out = one_row(7, 1, 0), other = one_row(8, 1, 0), apart = HV_EMPTY;
     CHECK(!hv_i64(numbers, 2, NOT_NULLABLE, &wrong, &error));
     CHECK(!hv_decimals(pairs, 2, 38, 3, NOT_NULLABLE, &two, &error));
+    CHECK(!hv_decimals(pairs, 2, 38, 126, NOT_NULLABLE, &apart, &error));
     CHECK_REFUSED(hv_decimal_aligned(&cents, &wrong, &out, &other, &error), HV_UNSUPPORTED, 0, 0, 0);
     CHECK_REFUSED(hv_decimal_aligned(&wrong, &cents, &out, &other, &error), HV_UNSUPPORTED, 0, 0, 0);
     CHECK_REFUSED(hv_decimal_aligned(&far, &cents, &out, &other, &error), HV_CAST_OUT_OF_RANGE, 0, 0, 0);
     CHECK_REFUSED(hv_decimal_compare(&wrong, HV_EQ, &wrong, &out, &error), HV_UNSUPPORTED, 0, 0, 0);
     CHECK_REFUSED(hv_decimal_compare(&two, HV_EQ, &cents, &out, &error), HV_COLUMN_LENGTH, 2, 1, 0);
+    CHECK_REFUSED(hv_decimal_compare(&apart, HV_EQ, &cents, &out, &error), HV_COLUMN_LENGTH, 2, 1, 0);
+    CHECK_REFUSED(hv_decimal_compare(&cents, HV_EQ, &apart, &out, &error), HV_COLUMN_LENGTH, 1, 2, 0);
     CHECK(hv_decimal_aligned(&none, &cents, &out, &other, NULL) == HV_NO_COLUMN);
     CHECK(hv_decimal_aligned(&cents, &none, &out, &other, NULL) == HV_NO_COLUMN);
     CHECK(hv_decimal_compare(&none, HV_EQ, &cents, &out, NULL) == HV_NO_COLUMN);
@@ -404,7 +407,7 @@ static void check_refusals(void) {
     CHECK(!hv_decimal_aligned(&cents, &two, &out, &other, NULL) && hv_length(&out) == 1 && hv_length(&other) == 2);
     CHECK_ROWS(&out, "0:50");
     CHECK_ROWS(&other, "0:1 0:2");
-    hv_free(&cents), hv_free(&far), hv_free(&wrong), hv_free(&two), hv_free(&out), hv_free(&other);
+    hv_free(&cents), hv_free(&far), hv_free(&wrong), hv_free(&two), hv_free(&apart), hv_free(&out), hv_free(&other);
 }
 
 /* ---- Each request for memory refused in turn ---- */

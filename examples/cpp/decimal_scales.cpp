@@ -405,6 +405,8 @@ static void check_refusals() {
     check_refused(HV_COLUMN_LENGTH, 1, lengths, [&] { (void)cents.combine(Pairing::coalesce, two); });
     check_refused(HV_COLUMN_LENGTH, 1, lengths, [&] { (void)cents.equal_to(two); });
     check_refused(HV_COLUMN_LENGTH, 1, lengths, [&] { (void)cents.compare(Operator::less, two); });
+    check_refused(HV_COLUMN_LENGTH, 1, lengths, [&] { (void)far.compare(Operator::less, two); });
+    check_refused(HV_COLUMN_LENGTH, 1, lengths, [&] { (void)(far + two); });
     check_refused(HV_COLUMN_LENGTH, 1, lengths, [&] { (void)mask.choose(far, two); });
     check_refused(HV_COLUMN_LENGTH, 1, lengths, [&] { (void)mask.choose(two, two.cast(hv::kinds::decimal(9, 5))); });
     check_refused(HV_UNSUPPORTED, 0, "the call does not serve columns of this type or form",

@@ -453,6 +453,9 @@ fn refusals_come_in_the_order_of_one_type() {
         cents.coalesce(&two),
         cents.eq_rows(&two),
         cents.compare(Operator::Less, &two),
+        far.compare(Operator::Less, &two),
+        far.eq_rows(&two),
+        far.checked_add(&two),
         mask.choose(&far, &two),
         mask.choose(&two, &two.cast(Kind::decimal(9, 5)).unwrap()),
     ];
