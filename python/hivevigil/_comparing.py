@@ -16,7 +16,7 @@ from ._library import calls, session
 from ._making import is_array
 from ._types import TYPES, WHOLE_NUMBERS, range_of
 from ._values import is_missing, is_truth, is_whole, operator_of, passed, stored
-from .errors import CastOutOfRange, TypeMismatch, in_words
+from .errors import CastOutOfRange, ColumnLength, TypeMismatch, in_words
 from .logical import LogicalType
 
 if TYPE_CHECKING:
@@ -149,7 +149,9 @@ def with_column(column: Column, sign: str, right: Column) -> Column:
     if _floats.is_float(column._logical) and _floats.is_float(right._logical):
         return _float_columns.with_column(column, sign, right)
     number = operator_of(sign)
-    if _decimals.is_decimal(column) and _decimals.is_decimal(right) and column._length == right._length:
+    if _decimals.is_decimal(column) and _decimals.is_decimal(right):
+        if column._length != right._length:
+            raise ColumnLength(column._length, right._length)
         try:
             column, right = _decimals.at_one_scale([column, right], "compare")
         except CastOutOfRange:

@@ -264,6 +264,9 @@ def test_pairs_that_do_not_go_together():
             cents - Column.of([0, 0], other)
         with pytest.raises(errors.ColumnLength):
             cents.coalesce(Column.of([0, 0], other))
+        with pytest.raises(errors.ColumnLength) as refused:
+            cents.compare("<", Column.of([0, 0], other))
+        assert refused.value.fields == (1, 2, 0)
     with pytest.raises(errors.TypeMismatch, match=r"^decimal\(4, 2\) and i64 are not picked from$"):
         cents.lesser(Column.of([5], "i64"))
     with pytest.raises(errors.Unsupported, match=r"^decimal\(4, 2\) and decimal\(6, 3\) are not connected$"):
