@@ -106,8 +106,14 @@ run "c/arrow_memory.c" built "$cc" "$c_flags -O0 $wraps" examples/c/arrow_memory
 run "c/messages_broken.c$arrow_how" built "$cc" "$c_flags $arrow_flags $wraps" examples/c/messages_broken.c
 
 # decimals of two scales, and tables in C, also with each request for memory refused
-run "c/decimal_scales.c$arrow_how" built "$cc" "$c_flags $arrow_flags $wraps" examples/c/decimal_scales.c
-run "c/tables.c$arrow_how" built "$cc" "$c_flags $arrow_flags $wraps" examples/c/tables.c
+for test in decimal_scales tables table_order table_groups; do
+    run "c/$test.c$arrow_how" built "$cc" "$c_flags $arrow_flags $wraps" "examples/c/$test.c"
+done
+table_files_read() {
+    $cc $c_flags $1 examples/c/table_files.c lib/libhivevigil.a -o "$work/table_files" &&
+        timeout 200 "$work/table_files" examples/corpus
+}
+run "c/table_files.c$arrow_how" table_files_read "$arrow_flags $wraps"
 
 # the stored messages, which each version from 1.0.0 on reads as their rows and writes as their bytes
 corpus_read() {
@@ -131,7 +137,8 @@ fi
 # what a program includes that takes every warning for an error
 headers_alone() {
     warned="-Wall -Wextra -Wpedantic -Wshadow -Wconversion -Wno-string-conversion -Werror -Iinclude -fsyntax-only"
-    for header in hivevigil hivevigil_errors hivevigil_helpers hivevigil_decimals hivevigil_arrow hivevigil_arrow_errors hivevigil_table hivevigil_table_errors; do
+    for header in hivevigil hivevigil_errors hivevigil_helpers hivevigil_decimals hivevigil_arrow hivevigil_arrow_errors \
+        hivevigil_table hivevigil_table_errors hivevigil_table_order hivevigil_table_groups hivevigil_table_file hivevigil_stored_file; do
         echo "#include <$header.h>" >"$work/alone.c"
         cp "$work/alone.c" "$work/alone.cpp"
         $cc -std=c99 $warned "$work/alone.c" && $cxx -std=c++17 $warned "$work/alone.cpp" || return 1
@@ -141,15 +148,20 @@ headers_alone() {
     done
     echo "those of C and C++, and what is made of their templates"
 }
-# the program in C++ that docs/TABLES.md shows
+# the programs in C++ and C that docs/TABLES.md shows
 tables_page() {
-    sed -n '/^    #include/,/^    }$/s/^    //p' docs/TABLES.md >"$work/page.cpp"
-    (cd "$work" && "$cxx" -std=c++17 -Wall -Wextra -Werror "-I$top/include" page.cpp "$top/lib/libhivevigil.a" -o page &&
-        [ "$(./page)" = "$(printf 'north 903\nsouth 43')" ]) && echo "docs/TABLES.md, in C++"
+    for page in "page.cpp $cxx -std=c++17" "page.c $cc -std=c11"; do
+        first=$([ "${page%% *}" = page.c ] && echo '<hivevigil_table_file.h>' || echo '<hivevigil_table.hpp>')
+        sed -n "/^    #include $first/,/^    }\$/s/^    //p" docs/TABLES.md >"$work/${page%% *}"
+        (cd "$work" && ${page#* } -Wall -Wextra -Werror "-I$top/include" "${page%% *}" "$top/lib/libhivevigil.a" -o page &&
+            ./page >"$work/${page%% *}.said") || return 1
+    done
+    [ "$(cat "$work/page.cpp.said")" = "$(printf 'north 903\nsouth 43')" ] &&
+        [ "$(cat "$work/page.c.said")" = 'HV_OK: 903 43' ] && echo "docs/TABLES.md, in C++ and C"
 }
 if has "$cxx"; then
     run "headers alone, with every warning" headers_alone
-    run "the page of tables, in C++" tables_page
+    run "the page of tables, in C++ and C" tables_page
     for test in demo numbers decimal_casts decimal_scales spans tables table_rows; do run "cpp/$test.cpp" built "$cxx" "$cxx_flags -O2" "examples/cpp/$test.cpp"; done
     run "cpp/spans.cpp in C++20" built "$cxx" "$cxx_flags -std=c++20 -O2" examples/cpp/spans.cpp
 else
@@ -219,11 +231,20 @@ else
     skip "python/demo.py and threads.py" "$python"
 fi
 
-# the files of tables that C++ and Python write of the same rows
+# the files of tables that C++ and Python, or C and Python, write of the same rows
 table_files_agree() {
     $cxx $cxx_flags ${1:--O2} examples/cpp/table_tool.cpp lib/libhivevigil.a -o "$work/table_tool" &&
         timeout 300 "$python" -B examples/cpp/table_files.py "$work/table_tool" --tables "$2"
 }
+table_files_of_c_agree() {
+    $cc $c_flags ${1:--O2} -Iexamples/c examples/c/table_tool.c lib/libhivevigil.a -o "$work/table_tool_of_c" &&
+        timeout 300 "$python" -B examples/cpp/table_files.py "$work/table_tool_of_c" --c --tables "$2"
+}
+if has "$python" && "$python" -c 'import ctypes' 2>/dev/null; then
+    run "c/table_tool.c with cpp/table_files.py$arrow_how" table_files_of_c_agree "$arrow_flags" 60
+else
+    skip "c/table_tool.c" "$python"
+fi
 if has "$cxx" && has "$python" && "$python" -c 'import ctypes' 2>/dev/null; then
     run "cpp/table_files.py" table_files_agree "" 200
     [ "$arrow_how" ] && run "cpp/table_files.py$arrow_how" table_files_agree "$watched" 30
@@ -335,14 +356,19 @@ messages_agree() {
     $cc $c_flags -O2 examples/bytes/reader.c lib/libhivevigil.a -o "$work/reader" &&
         timeout 200 "$1" examples/bytes/messages.py try "$work/reader" 20000 1
 }
+tables_agree() {
+    $cc $c_flags -O2 examples/bytes/table_reader.c lib/libhivevigil.a -o "$work/table_reader" &&
+        timeout 200 "$1" -B examples/bytes/tables.py "$work/table_reader" 2000 1
+}
 vectors_agree() { timeout 100 "$1" examples/bytes/vectors.py <crates/vectors/stdin; }
 if has protoc && found=$(python_with google.protobuf); then
     run "bytes/messages.py" messages_agree "$found"
+    run "bytes/tables.py" tables_agree "$found"
     run "bytes/vectors.py" vectors_agree "$found"
     run "corpus/make.py --check" timeout 100 "$found" -B examples/corpus/make.py --check
     run "corpus/make_tables.py --check" timeout 100 "$found" -B examples/corpus/make_tables.py --check
 else
-    skip "bytes/messages.py, bytes/vectors.py, corpus/make.py, make_tables.py" \
+    skip "bytes/messages.py, bytes/tables.py, bytes/vectors.py, corpus/make.py, make_tables.py" \
         "protoc and protobuf for Python (protobuf-compiler, python3-protobuf)"
 fi
 

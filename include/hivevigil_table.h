@@ -11,7 +11,8 @@
  * A call answers 0, a number of hivevigil.h, or one of hivevigil_table_errors.h, which has the sentences of all;
  * `error` is not null. After a refusal every table and column is as it was, `out` too. After 0 `out` has the table that
  * was made, whose columns share buffers with those of the first, and the one that it had before is freed: `out` may be
- * the table that is lent. hivevigil_table.hpp has more of them in C++: order, groups, files. */
+ * the table that is lent. Order is in hivevigil_table_order.h, groups in hivevigil_table_groups.h, files in
+ * hivevigil_table_file.h. */
 #ifndef HIVEVIGIL_TABLE_H
 #define HIVEVIGIL_TABLE_H
 #include "hivevigil_arrow.h"
@@ -250,6 +251,61 @@ HV_ANSWER hv_table_filter(const hv_session *session, const hv_table *table, cons
     return hv_table_each_by(table, work, mask, out, error);
 }
 
+/* ---- Conditions ---- */
+
+/* What rows of a column are compared with: a value of their type, as hv_compare_scalar takes it, or, where `value` is
+ * null, a double, by IEEE 754, which is for floats only (logical types "e", "f" and "g"), and the only one for them. */
+typedef struct hv_table_condition {
+    const char *column;
+    uint8_t operator_; /* HV_EQ to HV_LE: `row operator value` */
+    const hv_value *value;
+    const uint8_t *text;
+    size_t text_len;
+    double number;
+} hv_table_condition;
+
+static inline bool hv_table_is_float(const hv_column *column, const char *logical_type) {
+    const uint8_t number = hv_kind_of(column).number;
+    const char letter = number == HV_I16 ? 'e' : number == HV_I32 ? 'f' : number == HV_I64 ? 'g' : 0;
+    return letter && logical_type[0] == letter && !logical_type[1];
+}
+
+/* Floats of any width, next to a double. */
+static inline int32_t hv_table_compare_floats(const hv_column *floats, uint8_t operator_, double number,
+                                              hv_column *out, hv_error *error) {
+    hv_column doubles = HV_EMPTY;
+    uint64_t bits;
+    memcpy(&bits, &number, sizeof bits);
+    int32_t answer = hv_float_cast(floats, HV_I64, 0, &doubles, error);
+    if (!answer) answer = hv_float_compare(&doubles, operator_, bits, 1, out, error);
+    hv_free(&doubles);
+    return answer;
+}
+
+/* Row by row of a column whether the condition holds, null where the row is. */
+static inline int32_t hv_table_mask(const hv_session *session, const hv_column *column, const char *logical_type,
+                                    const hv_table_condition *condition, hv_column *out, hv_error *error) {
+    const bool is_double = !condition->value;
+    if (hv_table_is_float(column, logical_type) != is_double) return hv_arrow_refuse(HV_TYPE_MISMATCH, 0, 0, error);
+    if (is_double) return hv_table_compare_floats(column, condition->operator_, condition->number, out, error);
+    return hv_compare_scalar(session, column, condition->operator_, condition->value, condition->text,
+                             condition->text_len, out, error);
+}
+
+/* The rows at which a condition holds. 201; 12 for a value that is not of the column's type; 13 for lists; 23 for no
+ * operator. */
+HV_ANSWER hv_table_filter_by(const hv_session *session, const hv_table *table, const hv_table_condition *condition,
+                             hv_table *out, hv_error *error) {
+    hv_column mask = HV_EMPTY;
+    size_t place = 0;
+    int32_t answer = hv_table_find(table, condition->column, &place, error);
+    if (!answer)
+        answer = hv_table_mask(session, &table->columns[place], table->logical_types[place], condition, &mask, error);
+    if (!answer) answer = hv_table_filter(session, table, &mask, out, error);
+    hv_free(&mask);
+    return answer;
+}
+
 /* Copies of two columns that are joined, of decimals as decimals of one type. */
 static inline int32_t hv_table_joined(const hv_column *first, const hv_column *second, hv_column *lent,
                                       hv_error *error) {
@@ -289,12 +345,6 @@ HV_ANSWER hv_table_append(const hv_session *session, const hv_table *first, cons
 
 /* ---- Arrow ---- */
 
-static inline bool hv_table_is_float(const hv_column *column, const char *logical_type) {
-    const uint8_t number = hv_kind_of(column).number;
-    const char letter = number == HV_I16 ? 'e' : number == HV_I32 ? 'f' : number == HV_I64 ? 'g' : 0;
-    return letter && logical_type[0] == letter && !logical_type[1];
-}
-
 /* Does a format of Arrow say what integers mean: dates, times, timestamps, durations, or floats by their keys? */
 static inline bool hv_table_is_logical_type(const char *format) {
     const char *units = "smun";
@@ -306,14 +356,17 @@ static inline bool hv_table_is_logical_type(const char *format) {
     return format[1] == 's' ? format[3] == ':' : strchr("tD", format[1]) && !format[3];
 }
 
-/* The bits of floats: in runs where the column is, else flat. */
+/* The bits of floats: flat where the column is, else in runs. */
 static inline int32_t hv_table_bits(const hv_column *column, hv_column *out, hv_error *error) {
-    hv_column ends = HV_EMPTY, values = HV_EMPTY, bits = HV_EMPTY;
-    if (hv_form(column) != HV_FORM_RUNS) return hv_float_decode(column, out, error);
-    int32_t answer = hv_ends(column, &ends, error);
-    if (!answer) answer = hv_values(column, &values, error);
+    hv_column runs = HV_EMPTY, ends = HV_EMPTY, values = HV_EMPTY, bits = HV_EMPTY;
+    const uint8_t form = hv_form(column);
+    if (form == HV_FORM_FLAT) return hv_float_decode(column, out, error);
+    int32_t answer = form == HV_FORM_RUNS ? hv_clone(column, &runs, error) : hv_encode_rows(column, &runs, error);
+    if (!answer) answer = hv_ends(&runs, &ends, error);
+    if (!answer) answer = hv_values(&runs, &values, error);
     if (!answer) answer = hv_float_decode(&values, &bits, error);
-    if (!answer) answer = hv_runs(&ends, &bits, hv_offset(column), hv_length(column), out, error);
+    if (!answer) answer = hv_runs(&ends, &bits, hv_offset(&runs), hv_length(&runs), out, error);
+    hv_free(&runs);
     hv_free(&ends);
     hv_free(&values);
     hv_free(&bits);

@@ -66,7 +66,7 @@ static inline int print_value(char *to, size_t room, hv_value value, const uint8
 }
 
 /* All rows as text, in memory that is good until the next call. Takes no memory of malloc. */
-static inline const char *rows_of(hv_column *column) {
+static inline const char *rows_of(const hv_column *column) {
     static char shown[1 << 16];
     size_t used = 0;
     shown[0] = 0;

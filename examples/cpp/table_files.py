@@ -1,10 +1,10 @@
 #!/usr/bin/env python3
 """Files of tables that C++ and Python write of the same rows, held against each other byte by byte: read and written
-again, and chosen, sorted, grouped and joined by both.
+again, and chosen, sorted, grouped and joined by both. With --c the program is that of C.
 
-    python3 table_files.py TOOL [--tables N] [--seed N]
+    python3 table_files.py TOOL [--c] [--tables N] [--seed N]
 
-TOOL is table_tool.cpp, built. Needs the Python package, which is taken from ../../python.
+TOOL is table_tool.cpp, or ../c/table_tool.c, built. Needs the Python package, which is taken from ../../python.
 """
 
 import argparse
@@ -81,8 +81,8 @@ def some_table(chance: random.Random, count: int) -> Table:
 class Tool:
     """The program, in a folder of its own."""
 
-    def __init__(self, path: str, folder: Path) -> None:
-        self.path, self.folder = str(Path(path).resolve()), folder
+    def __init__(self, path: str, folder: Path, is_c: bool) -> None:
+        self.path, self.folder, self.is_c = str(Path(path).resolve()), folder, is_c
 
     def makes(self, command: str, due: bytes, *words: object) -> None:
         """Of from.hv the program makes these bytes."""
@@ -134,6 +134,15 @@ def check_groups(chance: random.Random, tool: Tool, table: Table) -> bool:
     return True
 
 
+def value_of_c(value: int, column: Column) -> int:
+    """A value that C takes next to a column: of its type, or next to floats a double."""
+    if column.logical_type is not None:
+        return int(float(value))
+    bits = int(column.type.strip("?")[1:])
+    least = 0 if column.type[0] == "u" else -(2 ** (bits - 1))
+    return least + (value - least) % 2**min(bits, 63)
+
+
 def check_condition(chance: random.Random, tool: Tool, table: Table) -> None:
     numbers = [name for name, column in table.items()
                if column.type[0] in "iu" and str(column.logical_type or "float").startswith("float")
@@ -141,6 +150,8 @@ def check_condition(chance: random.Random, tool: Tool, table: Table) -> None:
     if numbers:
         name, sign = chance.choice(numbers), chance.choice(["==", "!=", "<", "<=", ">", ">="])
         value = chance.choice([chance.randint(-4, 9), chance.randint(-(2**63), 2**63 - 1)])
+        if tool.is_c:
+            value = value_of_c(value, table[name])
         tool.makes("filter", table.filter_by(name, sign, value).to_bytes(), name, sign, value)
 
 
@@ -175,12 +186,13 @@ def check_corpus(tool: Tool) -> int:
 def main() -> None:
     parser = argparse.ArgumentParser()
     parser.add_argument("tool")
+    parser.add_argument("--c", action="store_true")
     parser.add_argument("--tables", type=int, default=60)
     parser.add_argument("--seed", type=int, default=1)
     asked = parser.parse_args()
     answered = 0
     with tempfile.TemporaryDirectory() as folder:
-        tool = Tool(asked.tool, Path(folder))
+        tool = Tool(asked.tool, Path(folder), asked.c)
         stored = check_corpus(tool)
         for number in range(asked.tables):
             chance = random.Random(f"{asked.seed} {number}")
@@ -192,7 +204,7 @@ def main() -> None:
             for _ in range(3):
                 check_damaged(chance, tool, table)
     assert answered > asked.tables // 4
-    print(f"{stored} stored and {asked.tables} random tables the same from C++ and Python, groups of {answered}")
+    print(f"{stored} stored and {asked.tables} random tables the same from {'C' if asked.c else 'C++'} and Python, groups of {answered}")
 
 
 if __name__ == "__main__":

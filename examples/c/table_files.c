@@ -1,0 +1,577 @@
+/* Files of tables in C: the stored ones of examples/corpus and those that docs/BYTES.md shows, read as their rows and
+ * written as their bytes; each truncated, longer or changed one; files that are replaced whole or not at all; footers;
+ * and each request for memory refused in turn (linked with the malloc of refusing_malloc.h).
+ *
+ *     table_files FOLDER      FOLDER: examples/corpus */
+#include "hivevigil_table_file.h"
+#include "check.h"
+#include "refusing_malloc.h"
+#include <dirent.h>
+#include <signal.h>
+#include <sys/resource.h>
+
+enum { LINE = 1 << 17 };
+static hv_session session;
+static hv_error error;
+
+static size_t bytes_of(const char *digits, uint8_t *bytes) {
+    size_t len = 0;
+    for (const char *at = digits; *at && *at != '\n'; at += *at == ' ' ? 1 : 2)
+        if (*at != ' ') sscanf(at, "%2" SCNx8, &bytes[len++]);
+    return len;
+}
+
+static bool has_bytes(const hv_buffer *buffer, const uint8_t *bytes, size_t size) {
+    return buffer->size == size && memcmp(buffer->at, bytes, size) == 0;
+}
+
+/* Is this what a table is written as? */
+static bool is_written(const hv_table *table, uint8_t differences, const uint8_t *bytes, size_t size) {
+    hv_buffer made = HV_BUFFER_EMPTY;
+    CHECK(!hv_table_to_bytes(table, differences, &made, &error));
+    const bool found = has_bytes(&made, bytes, size);
+    hv_buffer_free(&made);
+    return found;
+}
+
+/* ---- The stored tables ---- */
+
+static FILE *opened(const char *folder, const char *name) {
+    char path[1024];
+    snprintf(path, sizeof path, "%s/%s", folder, name);
+    FILE *const file = fopen(path, "r");
+    CHECK(file);
+    return file;
+}
+
+/* The parts of a line, with a tab between them. */
+static void split(char *line, char **parts, size_t count) {
+    parts[0] = line;
+    for (size_t i = 1; i < count; i++) {
+        parts[i] = strchr(parts[i - 1], '\t');
+        CHECK(parts[i]);
+        *parts[i]++ = 0;
+    }
+}
+
+/* Is a column that which messages.txt has under this name? */
+static void check_stored_column(const char *folder, const char *name, const hv_column *column) {
+    static char line[LINE];
+    static uint8_t bytes[LINE], written[LINE];
+    FILE *const file = opened(folder, "messages.txt");
+    size_t size = 0, found = 0;
+    while (!size && fgets(line, sizeof line, file)) {
+        char *parts[4];
+        split(line, parts, 4);
+        if (!strcmp(parts[0], name)) size = bytes_of(parts[3], bytes);
+    }
+    CHECK(size && !hv_write(column, written, sizeof written, &found, &error));
+    CHECK(found == size && !memcmp(written, bytes, size));
+    fclose(file);
+}
+
+/* "name type form row row .." */
+static void check_described_column(char *words, const char *name, const hv_column *column) {
+    static const char *const types[] = {"u8", "u16", "u32", "u64", "i8", "i16", "i32", "i64"};
+    char *const found_name = strtok(words, " "), *const type = strtok(NULL, " "), *const form = strtok(NULL, " ");
+    const hv_kind kind = hv_kind_of(column);
+    CHECK(!strcmp(found_name, name));
+    CHECK(!strncmp(type, types[kind.number], strlen(types[kind.number])) && (strchr(type, '?') != NULL) == kind.nullable);
+    CHECK(hv_form(column) == (!strcmp(form, "flat") ? HV_FORM_FLAT : HV_FORM_RUNS));
+    CHECK_ROWS(column, form + strlen(form) + 1);
+}
+
+static size_t check_stored(const char *folder, bool differences) {
+    static char line[LINE];
+    static uint8_t bytes[LINE];
+    FILE *const file = opened(folder, differences ? "differences.txt" : "tables.txt");
+    size_t count = 0;
+    for (; fgets(line, sizeof line, file); count++) {
+        char *parts[3];
+        hv_table table = HV_TABLE_EMPTY;
+        split(line, parts, 3);
+        const size_t size = bytes_of(parts[2], bytes);
+        CHECK(!hv_table_from_bytes(bytes, size, &table, &error));
+        CHECK(table.rows == strtoul(parts[0], NULL, 10) && is_written(&table, differences, bytes, size));
+        char *words = parts[1];
+        for (size_t i = 0; i < table.count; i++) {
+            char *const end = strstr(words, differences ? ", " : ",");
+            if (end) *end = 0;
+            if (differences) check_described_column(words, table.names[i], &table.columns[i]);
+            else CHECK(!strcmp(words, table.names[i]));
+            if (!differences) check_stored_column(folder, words, &table.columns[i]);
+            words = end ? end + (differences ? 2 : 1) : NULL;
+        }
+        CHECK(table.count == 0 || !words);
+        hv_table_free(&table);
+    }
+    fclose(file);
+    return count;
+}
+
+/* ---- Those of docs/BYTES.md ---- */
+
+static const char *const days_digits =
+    "0a0968697665766967696c 1001 1a29 08011007 18022003 40004801 52020201 5a17 08011007 18012002 28043201 01 3a08"
+    "07000000 00000000 1a0e 0801100b 18032003 2801 3a026162 2251 0803 1226 0a03646179 1203746444 1829 20012802 3214"
+    "08011007 18012002 2802 3a08 07000000 07000000 1225 0a05706c616365 1200 180e 20002801 3214 0801100b 18012002 2801"
+    "62020202 6a0461626162 29 5100000000000000";
+static const char *const times_digits =
+    "0a0968697665766967696c 1002 1a2e 08011008 18022006 40004801 52020105 5a1c 08011008 18012002 2801 3a10"
+    "6400000000000000 3c00000000000000 2237 0806 1233 0a026174 12077473733a555443 182e 20002806 321c 08011008 18012002"
+    "2801 3a10 6400000000000000 9001000000000000 3801 29 3700000000000000";
+static uint8_t days[256], times[256];
+static size_t days_size, times_size;
+
+/* The days 7, 7 and null, as i32 in runs, and the text "ab" three times. */
+static void make_days(hv_table *table) {
+    const char *const names[] = {"day", "place"}, *const formats[] = {"tdD", NULL};
+    const int32_t items[] = {7, 7, 0};
+    const uint8_t valid[] = {0x03};
+    const hv_kind text = {HV_UTF8, 0, 0, 0};
+    const hv_value value = {2, 0, HV_TEXT, 0};
+    hv_column columns[2] = {HV_EMPTY, HV_EMPTY}, flat = HV_EMPTY;
+    CHECK(!hv_i32(items, 3, NULLS_BY(valid, 0), &flat, &error) && !hv_encode_rows(&flat, &columns[0], &error));
+    CHECK(!hv_constant(&text, &value, (const uint8_t *)"ab", 2, 3, &columns[1], &error));
+    CHECK(!hv_table_new(names, formats, columns, 2, table, &error));
+    hv_free(&flat);
+    hv_free(&columns[0]);
+    hv_free(&columns[1]);
+}
+
+static void make_times(hv_table *table) {
+    const char *const name[] = {"at"}, *const format[] = {"tss:UTC"};
+    const int64_t items[] = {100, 160, 220, 280, 340, 400};
+    hv_column column = HV_EMPTY;
+    CHECK(!hv_i64(items, 6, NOT_NULLABLE, &column, &error));
+    CHECK(!hv_table_new(name, format, &column, 1, table, &error));
+    hv_free(&column);
+}
+
+static void check_documented(void) {
+    hv_table table = HV_TABLE_EMPTY;
+    days_size = bytes_of(days_digits, days);
+    times_size = bytes_of(times_digits, times);
+    CHECK(days_size == 164 && times_size == 127);
+    make_days(&table);
+    CHECK(is_written(&table, 0, days, days_size) && is_written(&table, 1, days, days_size)); /* no shorter */
+    make_times(&table);
+    CHECK(is_written(&table, 1, times, times_size) && !is_written(&table, 0, times, times_size));
+    CHECK(!hv_table_from_bytes(days, days_size, &table, &error) && table.count == 2);
+    CHECK(!strcmp(table.logical_types[0], "tdD") && hv_form(&table.columns[1]) == HV_FORM_CONSTANT);
+    CHECK_ROWS(&table.columns[0], "7 7 null");
+    CHECK_ROWS(&table.columns[1], "\"ab\" \"ab\" \"ab\"");
+    CHECK(!hv_table_from_bytes(times, times_size, &table, &error) && table.count == 1);
+    CHECK(!strcmp(table.names[0], "at") && hv_form(&table.columns[0]) == HV_FORM_FLAT);
+    CHECK_ROWS(&table.columns[0], "100 160 220 280 340 400");
+    hv_table_free(&table);
+}
+
+/* ---- Damaged ---- */
+
+static hv_table kept = HV_TABLE_EMPTY; /* stays after a refusal */
+static long with_zeros = 0;            /* tables that have a zero byte in a name or a logical type */
+
+/* Bytes are refused, or are those of a table that is written so. */
+static bool is_refused_table(const uint8_t *bytes, size_t size) {
+    const hv_column *const columns = kept.columns;
+    FILL(error);
+    const int32_t answer = hv_table_from_bytes(bytes, size, &kept, &error);
+    if (!answer) {
+        CHECK(is_written(&kept, 0, bytes, size) || is_written(&kept, 1, bytes, size));
+        make_times(&kept);
+        return false;
+    }
+    CHECK((answer == HV_BAD_METADATA || answer == HV_UNSUPPORTED) && !error.first && !error.second && !error.third);
+    with_zeros += answer == HV_UNSUPPORTED;
+    CHECK(kept.columns == columns && kept.count == 1 && kept.rows == 6);
+    return true;
+}
+
+static void check_damaged(const uint8_t *whole, size_t size, long *refused_files, long *tried) {
+    static uint8_t bytes[1 << 12];
+    for (size_t shorter = 0; shorter < size; shorter++, ++*tried) CHECK(is_refused_table(whole, shorter));
+    memcpy(bytes, whole, size);
+    for (int byte = 0; byte < 256; byte++, ++*tried) {
+        bytes[size] = (uint8_t)byte;
+        CHECK(is_refused_table(bytes, size + 1));
+    }
+    *refused_files += (long)size + 256;
+    for (size_t at = 0; at < size; at++, bytes[at - 1] = whole[at - 1])
+        for (int byte = 0; byte < 256; byte++) {
+            bytes[at] = (uint8_t)byte;
+            if (bytes[at] == whole[at]) continue;
+            *refused_files += is_refused_table(bytes, size);
+            ++*tried;
+        }
+}
+
+/* A file with one part in another spelling: as many bytes as are left out at a place are put there or not, and the sizes
+ * around it are changed. */
+static size_t replaced(const uint8_t *from, size_t size, size_t at, size_t out, const char *in, uint8_t *to) {
+    uint8_t bytes[64];
+    const size_t count = bytes_of(in, bytes);
+    memcpy(to, from, at);
+    memcpy(to + at, bytes, count);
+    memcpy(to + at + count, from + at + out, size - at - out);
+    return size + count - out;
+}
+
+/* Fields that a reader may not pass over, by the places of docs/BYTES.md. */
+static void check_spellings(void) {
+    static uint8_t bytes[512];
+    const size_t footer = 13 + 43 + 16, rows = footer + 2; /* where the footer's field is, and its first */
+    CHECK(days[footer] == 0x22 && days[rows] == 0x08);
+    size_t size = replaced(days, days_size, rows + 1, 1, "8300", bytes); /* 3 as a longer varint */
+    bytes[footer + 1]++, bytes[size - 8]++;
+    CHECK(is_refused_table(bytes, size));
+    size = replaced(days, days_size, footer, 0, "1a00", bytes); /* an empty column, of which nothing is said */
+    CHECK(is_refused_table(bytes, size));
+    size = replaced(days, days_size, rows + 2, 0, "1000", bytes); /* one more field of the footer */
+    bytes[footer + 1] += 2, bytes[size - 8] += 2;
+    CHECK(is_refused_table(bytes, size));
+    memcpy(bytes, days, days_size);
+    bytes[rows + 2 + 2 + 2] = 'p'; /* "pay" and "place" */
+    CHECK(!is_refused_table(bytes, days_size));
+    memcpy(bytes, times, times_size);
+    bytes[12] = 1; /* a column in differences in version 1 */
+    CHECK(is_refused_table(bytes, times_size));
+    memcpy(bytes, times, times_size);
+    bytes[times_size - 10] = 2; /* the same rows in runs */
+    CHECK(is_refused_table(bytes, times_size) == false);
+    bytes[times_size - 10] = 3;
+    CHECK(is_refused_table(bytes, times_size));
+    bytes[times_size - 10] = 0; /* as rows, in version 2, whose columns are others than these */
+    CHECK(is_refused_table(bytes, times_size));
+}
+
+/* Two columns of one name. */
+static void check_names_twice(void) {
+    static uint8_t bytes[512];
+    const char *const names[] = {"a", "b"};
+    hv_column pair[2] = {HV_EMPTY, HV_EMPTY};
+    hv_table table = HV_TABLE_EMPTY;
+    hv_buffer made = HV_BUFFER_EMPTY;
+    make_days(&table);
+    CHECK(!hv_clone(&table.columns[0], &pair[0], &error) && !hv_clone(&table.columns[0], &pair[1], &error));
+    CHECK(!hv_table_new(names, NULL, pair, 2, &table, &error) && !hv_table_to_bytes(&table, 0, &made, &error));
+    CHECK(made.size < sizeof bytes);
+    memcpy(bytes, made.at, made.size);
+    size_t changed = 0;
+    for (size_t at = 0; at + 2 < made.size; at++)
+        if (bytes[at] == 0x0a && bytes[at + 1] == 1 && bytes[at + 2] == 'b') bytes[at + 2] = 'a', changed++;
+    CHECK(changed == 1 && is_refused_table(bytes, made.size));
+    hv_buffer_free(&made);
+    hv_table_free(&table);
+    hv_free(&pair[0]);
+    hv_free(&pair[1]);
+}
+
+/* A name with a zero byte is one of other languages: its footer is read. */
+static void check_zero_byte(const char *path) {
+    static uint8_t bytes[256];
+    hv_table_footer footer = HV_TABLE_FOOTER_EMPTY;
+    const char *const place[] = {"place"};
+    memcpy(bytes, days, days_size);
+    bytes[13 + 43 + 16 + 2 + 2 + 2 + 3] = 0; /* the second letter of "day" */
+    CHECK_REFUSED(hv_table_from_bytes(bytes, days_size, &kept, &error), HV_UNSUPPORTED, 0, 0, 0);
+    CHECK(!hv_save_bytes(bytes, days_size, path, &error) && !hv_table_load_footer(path, &footer, &error));
+    CHECK(footer.columns[0].name_size == 3 && !memcmp(footer.columns[0].name, "d\0y", 4));
+    CHECK(!hv_table_load_columns(path, place, 1, &kept, &error) && kept.rows == 3);
+    make_times(&kept);
+    hv_table_footer_free(&footer);
+}
+
+/* ---- Files ---- */
+
+static char folder[] = "/tmp/hivevigil_tables_XXXXXX";
+static char path[128], link_path[128];
+
+static size_t files_there(void) {
+    DIR *const open_folder = opendir(folder);
+    size_t count = 0;
+    CHECK(open_folder);
+    while (readdir(open_folder)) count++;
+    closedir(open_folder);
+    return count - 2; /* . and .. */
+}
+
+static mode_t mode_of(const char *of) {
+    struct stat found;
+    CHECK(!lstat(of, &found));
+    return found.st_mode;
+}
+
+static bool has_table(const char *of, const uint8_t *bytes, size_t size) {
+    hv_stored_file file = HV_STORED_FILE_EMPTY;
+    hv_buffer found = HV_BUFFER_EMPTY;
+    CHECK(!hv_stored_file_open(of, &file, &error) && !hv_stored_file_read(&file, 0, SIZE_MAX, &found, &error));
+    const bool is_it = has_bytes(&found, bytes, size);
+    hv_stored_file_close(&file);
+    hv_buffer_free(&found);
+    return is_it;
+}
+
+static void check_files(void) {
+    const char *const turned[] = {"place", "day"}, *const twice[] = {"day", "day"}, *const gone[] = {"day", "at"};
+    hv_table table = HV_TABLE_EMPTY, out = HV_TABLE_EMPTY;
+    const mode_t before = umask(027);
+    make_days(&table);
+    CHECK(!hv_table_save(&table, path, 0, &error) && has_table(path, days, days_size));
+    CHECK(mode_of(path) == (S_IFREG | 0640) && files_there() == 1);
+    CHECK(!chmod(path, 0604) && !hv_table_save(&kept, path, 1, &error) && has_table(path, times, times_size));
+    CHECK(mode_of(path) == (S_IFREG | 0604) && files_there() == 1);
+    CHECK(!symlink("table.hv", link_path) && !hv_table_save(&table, link_path, 0, &error));
+    CHECK(S_ISLNK(mode_of(link_path)) && has_table(path, days, days_size) && files_there() == 2);
+    CHECK(mode_of(path) == (S_IFREG | 0604));
+    CHECK(!hv_table_load(link_path, &out, &error) && is_written(&out, 0, days, days_size));
+    CHECK(!hv_table_load_columns(path, turned, 2, &out, &error) && !strcmp(out.names[0], "place"));
+    CHECK_ROWS(&out.columns[1], "7 7 null");
+    CHECK(!hv_table_load_columns(path, turned + 1, 1, &out, &error) && out.count == 1 && out.rows == 3);
+    CHECK_REFUSED(hv_table_load_columns(path, twice, 2, &out, &error), HV_TABLE_NAME_TWICE, 0, 1, 0);
+    CHECK_REFUSED(hv_table_load_columns(path, gone, 2, &out, &error), HV_TABLE_NO_COLUMN, 0, 0, 0);
+    CHECK(out.count == 1 && out.rows == 3);
+    CHECK(!hv_table_load_columns(path, NULL, 0, &out, &error) && out.count == 0 && out.rows == 3);
+    CHECK(!hv_table_save(&out, path, 0, &error) && !hv_table_load(path, &out, &error) && out.rows == 3);
+    umask(before);
+    hv_table_free(&table);
+    hv_table_free(&out);
+}
+
+/* What the system refuses, after which the file is as it was, and no part of another is left. */
+static void check_refused_files(void) {
+    char missing[160];
+    const struct rlimit few = {10, RLIM_INFINITY};
+    struct rlimit before;
+    snprintf(missing, sizeof missing, "%s/none/table.hv", folder);
+    CHECK(!hv_save_bytes(times, times_size, path, &error));
+    const size_t there = files_there();
+    CHECK_REFUSED(hv_table_load(missing, &kept, &error), HV_TABLE_FILE_REFUSED, ENOENT, 0, 0);
+    CHECK_REFUSED(hv_table_save(&kept, missing, 0, &error), HV_TABLE_FILE_REFUSED, ENOENT, 0, 0);
+    CHECK_REFUSED(hv_table_load(folder, &kept, &error), HV_TABLE_FILE_REFUSED, EISDIR, 0, 0);
+    CHECK_REFUSED(hv_table_save(&kept, folder, 0, &error), HV_TABLE_FILE_REFUSED, EISDIR, 0, 0);
+    CHECK_REFUSED(hv_table_save(&kept, "/dev/full", 0, &error), HV_TABLE_FILE_REFUSED, ENOSPC, 0, 0);
+    CHECK(!getrlimit(RLIMIT_FSIZE, &before) && signal(SIGXFSZ, SIG_IGN) != SIG_ERR);
+    CHECK(!setrlimit(RLIMIT_FSIZE, &few));
+    const int32_t answer = hv_save_bytes(days, days_size, path, &error);
+    CHECK(!setrlimit(RLIMIT_FSIZE, &before));
+    CHECK(answer == HV_TABLE_FILE_REFUSED && error.first == EFBIG && has_table(path, times, times_size));
+    CHECK(files_there() == there && kept.rows == 6);
+}
+
+/* A pipe is read at once. */
+static void check_pipe(void) {
+    int ends[2];
+    char name[32];
+    hv_table table = HV_TABLE_EMPTY;
+    hv_table_footer footer = HV_TABLE_FOOTER_EMPTY;
+    for (int turn = 0; turn < 2; turn++) {
+        CHECK(!pipe(ends) && write(ends[1], days, days_size) == (ssize_t)days_size && !close(ends[1]));
+        snprintf(name, sizeof name, "/dev/fd/%d", ends[0]);
+        if (turn == 0) CHECK(!hv_table_load(name, &table, &error));
+        else CHECK(!hv_table_load_footer(name, &footer, &error));
+        close(ends[0]);
+    }
+    CHECK(is_written(&table, 0, days, days_size) && footer.rows == 3 && footer.count == 2);
+    hv_table_free(&table);
+    hv_table_footer_free(&footer);
+}
+
+/* ---- Footers ---- */
+
+/* level  3 8 null 5        i16
+ * name   "b" null "c" "b"
+ * price  0.5 -1.5 2.5 0.5  floats of 32 bits
+ * odd    NaN 1 1 1         floats of 64 bits
+ * none   null null null null
+ * lists  [1] [] [1] [] */
+static void make_readings(hv_table *table) {
+    const char *const names[] = {"level", "name", "price", "odd", "none", "lists"};
+    const char *const formats[] = {"", "", "f", "g", "", ""};
+    const int16_t levels[] = {3, 8, 0, 5};
+    const int32_t offsets[] = {0, 1, 1, 2, 3};
+    const uint8_t levels_valid[] = {0x0B}, names_valid[] = {0x0D}, none[] = {0}, items[] = {1};
+    const float prices[] = {0.5F, -1.5F, 2.5F, 0.5F};
+    const double odd[] = {0, 1, 1, 1};
+    const uint64_t starts[4] = {0}, sizes[] = {1, 0, 1, 0};
+    uint32_t price_bits[4];
+    uint64_t odd_bits[4];
+    hv_column columns[6] = {HV_EMPTY}, flat = HV_EMPTY;
+    memcpy(price_bits, prices, sizeof prices);
+    memcpy(odd_bits, odd, sizeof odd);
+    odd_bits[0] = 0x7FF8000000000000;
+    CHECK(!hv_i16(levels, 4, NULLS_BY(levels_valid, 0), &columns[0], &error));
+    CHECK(!hv_texts(0, offsets, 5, (const uint8_t *)"bcb", 3, NULLS_BY(names_valid, 0), &columns[1], &error));
+    CHECK(!hv_u32(price_bits, 4, NOT_NULLABLE, &flat, &error) && !hv_float_encode(&flat, 0, &columns[2], &error));
+    CHECK(!hv_u64(odd_bits, 4, NOT_NULLABLE, &flat, &error) && !hv_float_encode(&flat, 0, &columns[3], &error));
+    CHECK(!hv_i16(levels, 4, NULLS_BY(none, 0), &columns[4], &error));
+    CHECK(!hv_u8(items, 1, NOT_NULLABLE, &flat, &error));
+    CHECK(!hv_lists(&flat, starts, 4, sizes, 4, NOT_NULLABLE, &columns[5], &error));
+    CHECK(!hv_table_new(names, formats, columns, 6, table, &error));
+    for (int i = 0; i < 6; i++) hv_free(&columns[i]);
+    hv_free(&flat);
+}
+
+/* Is a row the value by a comparison, of those in the order of the operators? */
+static bool compares(uint8_t operator_, double row, double value) {
+    const bool found[] = {row == value, row != value, row > value, row >= value, row < value, row <= value};
+    return found[operator_];
+}
+
+/* Conditions of numbers: what may be said by the least and the greatest row. */
+static void check_conditions(const hv_table_footer *footer, const char *column, double least, double greatest,
+                             bool is_float) {
+    for (int half = -8; half < 22; half++)
+        for (uint8_t operator_ = HV_EQ; operator_ <= HV_LE; operator_++) {
+            const double number = is_float ? half / 2.0 : half;
+            const hv_value value = {0, half, HV_SIGNED, 0};
+            const hv_table_condition asked = {column, operator_, is_float ? NULL : &value, NULL, 0, number};
+            const bool is_within = number >= least && number <= greatest;
+            const bool due = operator_ == HV_EQ ? is_within
+                                                : compares(operator_, least, number) || compares(operator_, greatest, number);
+            uint8_t truth = 9;
+            CHECK(!hv_table_may_have(&session, footer, &asked, &truth, &error));
+            CHECK(truth == due);
+        }
+}
+
+static bool may_have(const hv_table_footer *footer, hv_table_condition asked) {
+    uint8_t truth = 9;
+    CHECK(!hv_table_may_have(&session, footer, &asked, &truth, &error) && truth < 2);
+    return truth;
+}
+
+static void check_footers(void) {
+    const hv_value text = {0, 0, HV_TEXT, 0}, nine = {0, 9, HV_SIGNED, 0}, null = {0, 0, HV_NULL, 0};
+    const uint8_t *const letters = (const uint8_t *)"abcd";
+    hv_table table = HV_TABLE_EMPTY;
+    hv_table_footer footer = HV_TABLE_FOOTER_EMPTY;
+    uint8_t truth = 9;
+    make_readings(&table);
+    CHECK(!hv_table_save(&table, path, 0, &error) && !hv_table_load_footer(path, &footer, &error));
+    CHECK(footer.rows == 4 && footer.count == 6 && !strcmp(footer.columns[2].logical_type, "f"));
+    CHECK(footer.columns[0].nulls == 1 && footer.columns[0].runs == 4 && footer.columns[3].runs == 2);
+    CHECK_ROWS(&footer.columns[0].bounds, "3 8");
+    CHECK_ROWS(&footer.columns[1].bounds, "\"b\" \"c\"");
+    CHECK(hv_length(&footer.columns[4].bounds) == 0 && hv_is_empty(&footer.columns[5].bounds));
+    check_conditions(&footer, "level", 3, 8, false);
+    check_conditions(&footer, "price", -1.5, 2.5, true);
+    for (uint8_t by = HV_EQ; by <= HV_LE; by++) {
+        CHECK(may_have(&footer, (hv_table_condition){"odd", by, NULL, NULL, 0, 7}));
+        CHECK(!may_have(&footer, (hv_table_condition){"none", by, &nine, NULL, 0, 0}));
+        CHECK(!may_have(&footer, (hv_table_condition){"level", by, &null, NULL, 0, 0}));
+        CHECK(may_have(&footer, (hv_table_condition){"lists", by, &nine, NULL, 0, 0}));
+        for (int letter = 0; letter < 4; letter++) {
+            const bool least = compares(by, 'b', 'a' + letter), greatest = compares(by, 'c', 'a' + letter);
+            const hv_table_condition asked = {"name", by, &text, letters + letter, 1, 0};
+            CHECK(may_have(&footer, asked) == (least || greatest)); /* no text is between */
+        }
+    }
+    const hv_table_condition gone = {"to", HV_EQ, &nine, NULL, 0, 0}, other = {"none", HV_EQ, &text, letters, 1, 0};
+    const hv_table_condition floats = {"price", HV_EQ, &nine, NULL, 0, 0}, none = {"level", HV_EQ, NULL, NULL, 0, 9};
+    CHECK_REFUSED(hv_table_may_have(&session, &footer, &gone, &truth, &error), HV_TABLE_NO_COLUMN, 0, 0, 0);
+    CHECK(hv_table_may_have(&session, &footer, &other, &truth, &error) == HV_TYPE_MISMATCH);
+    CHECK(hv_table_may_have(&session, &footer, &floats, &truth, &error) == HV_TYPE_MISMATCH);
+    CHECK(hv_table_may_have(&session, &footer, &none, &truth, &error) == HV_TYPE_MISMATCH);
+    hv_table_footer_free(&footer);
+    hv_table_footer_free(&footer);
+    hv_table_footer_free(NULL);
+    hv_table_free(&table);
+}
+
+/* ---- Each request for memory refused in turn ---- */
+
+static hv_table lent = HV_TABLE_EMPTY, out = HV_TABLE_EMPTY;
+static hv_table_footer end = HV_TABLE_FOOTER_EMPTY, read_end = HV_TABLE_FOOTER_EMPTY;
+static hv_buffer written = HV_BUFFER_EMPTY;
+static const char *const two_names[] = {"price", "name"};
+
+static int32_t calls_to_bytes(void) { return hv_table_to_bytes(&kept, 1, &written, &error); }
+static int32_t calls_to_rows(void) { return hv_table_to_bytes(&lent, 0, &written, &error); }
+static int32_t calls_from_bytes(void) { return hv_table_from_bytes(times, times_size, &out, &error); }
+static int32_t calls_save(void) { return hv_table_save(&lent, path, 0, &error); }
+static int32_t calls_load(void) { return hv_table_load(path, &out, &error); }
+static int32_t calls_load_columns(void) { return hv_table_load_columns(path, two_names, 2, &out, &error); }
+static int32_t calls_load_footer(void) { return hv_table_load_footer(path, &read_end, &error); }
+static int32_t calls_may_have(void) {
+    const hv_table_condition asked = {"price", HV_EQ, NULL, NULL, 0, 0.5};
+    uint8_t truth = 0;
+    return hv_table_may_have(&session, &end, &asked, &truth, &error);
+}
+static int32_t calls_load_pipe(void) {
+    char name[32];
+    int ends[2];
+    CHECK(!pipe(ends) && write(ends[1], days, days_size) == (ssize_t)days_size && !close(ends[1]));
+    snprintf(name, sizeof name, "/dev/fd/%d", ends[0]);
+    const int32_t answer = hv_table_load(name, &out, &error);
+    close(ends[0]);
+    return answer;
+}
+
+static long refuse_each(int32_t (*call)(void)) {
+    const size_t there = files_there();
+    long tried = 0;
+    for (long at = 0;; at++) {
+        CHECK(!hv_table_slice(&session, &lent, 0, 1, &out, &error));
+        written.size = 0;
+        hv_buffer_put(&written, "kept", 4);
+        hv_table_footer_free(&read_end);
+        const long before = blocks;
+        requests = refused = 0, refuse_at = at;
+        const int32_t answer = call();
+        refuse_at = -1;
+        CHECK(files_there() == there);
+        if (refused == 0) {
+            CHECK(!answer);
+            return tried;
+        }
+        tried++;
+        CHECK(answer == HV_OUT_OF_MEMORY || !answer);
+        if (!answer) continue;
+        CHECK(blocks == before && out.rows == 1 && out.count == 6 && read_end.rows == 0);
+        CHECK(has_bytes(&written, (const uint8_t *)"kept", 4));
+        CHECK_ROWS(&out.columns[1], "\"b\"");
+    }
+}
+
+static void check_memory(void) {
+    int32_t (*const calls[])(void) = {calls_to_bytes, calls_to_rows,      calls_from_bytes,  calls_save,     calls_load,
+                                      calls_load_pipe, calls_load_columns, calls_load_footer, calls_may_have};
+    long tried = 0;
+    make_readings(&lent);
+    CHECK(!hv_table_save(&lent, path, 0, &error) && !hv_table_load_footer(path, &end, &error));
+    for (size_t i = 0; i < COUNT(calls); i++) tried += refuse_each(calls[i]);
+    CHECK(tried > 200);
+    hv_table_free(&lent);
+    hv_table_free(&out);
+    hv_table_footer_free(&end);
+    hv_table_footer_free(&read_end);
+    hv_buffer_free(&written);
+    printf("%ld requests for memory refused\n", tried);
+}
+
+int main(int count, char **given) {
+    long refused_files = 0, tried = 0;
+    CHECK(count == 2 && mkdtemp(folder));
+    snprintf(path, sizeof path, "%s/table.hv", folder);
+    snprintf(link_path, sizeof link_path, "%s/link.hv", folder);
+    hv_session_initial(&session);
+    const size_t stored = check_stored(given[1], false) + check_stored(given[1], true);
+    check_documented();
+    make_times(&kept);
+    check_damaged(days, days_size, &refused_files, &tried);
+    check_damaged(times, times_size, &refused_files, &tried);
+    CHECK(with_zeros == (long)strlen("day" "tdD" "place" "at" "tss:UTC")); /* each letter once */
+    check_spellings();
+    check_names_twice();
+    check_files();
+    check_zero_byte(path);
+    check_refused_files();
+    check_pipe();
+    check_footers();
+    check_memory();
+    hv_table_free(&kept);
+    CHECK(!unlink(path) && !unlink(link_path) && !rmdir(folder) && blocks == 0);
+    printf("%zu stored tables, %ld of %ld damaged files refused\n", stored, refused_files, tried);
+    return 0;
+}

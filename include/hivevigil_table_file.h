@@ -1,0 +1,285 @@
+/* Tables in C in files: the messages of their columns and a footer, as docs/table.proto and docs/BYTES.md say it. A
+ * header only, C11 and C++17, POSIX, over hivevigil_table.h; nothing here is proved. Where C is strict (-std=c11), it
+ * comes before all headers of the system, or _XOPEN_SOURCE is 700.
+ *
+ *     answer = hv_table_save(&table, "readings.hv", 0, &error);
+ *     answer = hv_table_load_columns("readings.hv", names, 2, &part, &error);
+ *
+ *     hv_table_footer footer = HV_TABLE_FOOTER_EMPTY;
+ *     const hv_table_condition high = {"level", HV_GT, &number, NULL, 0, 0};
+ *     answer = hv_table_load_footer("readings.hv", &footer, &error);
+ *     if (!answer) answer = hv_table_may_have(&session, &footer, &high, &truth, &error);
+ *     hv_table_footer_free(&footer);
+ *
+ * 203 (errno) where the system refuses a file; 17 for bytes that are not those of a table, as of a file that was cut
+ * short, or in which a byte was changed. */
+#ifndef HIVEVIGIL_TABLE_FILE_H
+#define HIVEVIGIL_TABLE_FILE_H
+#include "hivevigil_table_footer.h"
+#ifdef __cplusplus
+extern "C" {
+#endif
+
+/* Puts the bytes of a table in place of those of a buffer, version 1; where `differences` is not 0, each column of
+ * integers as the differences of its rows where that is shorter, and version 2 where one is. 13 for a column of more
+ * than 16 levels of runs. */
+HV_ANSWER hv_table_to_bytes(const hv_table *table, uint8_t differences, hv_buffer *out, hv_error *error);
+/* The table that was written so, each column in its form; 17, and 13 for a name or a logical type with a zero byte,
+ * which C's texts do not have. */
+HV_ANSWER hv_table_from_bytes(const uint8_t *bytes, size_t size, hv_table *out, hv_error *error);
+/* Writes the bytes to a file, which is replaced whole or not at all; 203. */
+HV_ANSWER hv_table_save(const hv_table *table, const char *path, uint8_t differences, hv_error *error);
+/* The table of a file; 203, and as hv_table_from_bytes. */
+HV_ANSWER hv_table_load(const char *path, hv_table *out, hv_error *error);
+/* Its columns of these names, in this order, which are read without the others; also 202 (place, place) and 201. */
+HV_ANSWER hv_table_load_columns(const char *path, const char *const *names, size_t count, hv_table *out,
+                                hv_error *error);
+/* What the end of a file says, where no column is read. */
+HV_ANSWER hv_table_load_footer(const char *path, hv_table_footer *out, hv_error *error);
+/* Whether a condition may hold for a row, as hv_table_filter_by has it: where not (0), the column need not be read. 201,
+ * 12 for a value that is not of the column's type. Lists may have any row. */
+HV_ANSWER hv_table_may_have(const hv_session *session, const hv_table_footer *footer,
+                            const hv_table_condition *condition, uint8_t *truth, hv_error *error);
+
+/* ---- Written ---- */
+
+/* The message of each column, what comes in front of it, its size, and how it is kept. */
+static inline int32_t hv_table_put_columns(hv_buffer *out, const hv_table_part *parts, size_t count, bool differences,
+                                           size_t *sizes, uint8_t *kept, hv_error *error) {
+    hv_buffer message = HV_BUFFER_EMPTY;
+    int32_t answer = HV_OK;
+    for (size_t i = 0; !answer && i < count; i++) {
+        message.size = 0;
+        answer = differences ? hv_table_put_shorter(&message, parts[i].column, &kept[i], error)
+                             : hv_table_put_column(&message, parts[i].column, error);
+        sizes[i] = message.size;
+        if (!answer) hv_table_put_sized(out, HV_TABLE_COLUMN_FIELD, hv_table_bytes_of(&message));
+    }
+    hv_buffer_free(&message);
+    return answer;
+}
+
+/* The footer of all columns. */
+static inline int32_t hv_table_put_footers(hv_buffer *out, const hv_table_part *parts, size_t count, size_t rows,
+                                           uint64_t version, const size_t *sizes, const uint8_t *kept,
+                                           hv_error *error) {
+    hv_buffer one = HV_BUFFER_EMPTY;
+    int32_t answer = HV_OK;
+    hv_table_put_number(out, 1, rows);
+    for (size_t i = 0; !answer && i < count; i++) {
+        one.size = 0;
+        answer = hv_table_put_footer(&one, &parts[i], sizes[i], version, kept[i], error);
+        if (!answer) answer = hv_buffer_answer(&one, error);
+        hv_table_put_sized(out, 2, hv_table_bytes_of(&one));
+    }
+    hv_buffer_free(&one);
+    return answer ? answer : hv_buffer_answer(out, error);
+}
+
+/* Appends the bytes of a table of these columns. */
+static inline int32_t hv_table_put_parts(hv_buffer *out, const hv_table_part *parts, size_t count, size_t rows,
+                                         bool differences, hv_error *error) {
+    hv_buffer footer = HV_BUFFER_EMPTY;
+    const uint8_t tail_key = HV_TABLE_TAIL_KEY;
+    const size_t version_byte = out->size + HV_TABLE_HEAD_BYTES - 1;
+    size_t *sizes = NULL;
+    uint8_t *kept = NULL;
+    uint64_t version = 1;
+    hv_table_put_head(out, version);
+    int32_t answer = hv_table_memory(count, sizeof *sizes, &sizes, error);
+    if (!answer) answer = hv_table_memory(count, 1, &kept, error);
+    if (!answer) answer = hv_table_put_columns(out, parts, count, differences, sizes, kept, error);
+    for (size_t i = 0; !answer && i < count; i++) version = kept[i] ? 2 : version;
+    if (!answer) answer = hv_table_put_footers(&footer, parts, count, rows, version, sizes, kept, error);
+    const uint64_t footer_size = footer.size;
+    hv_table_put_sized(out, HV_TABLE_FOOTER_FIELD, hv_table_bytes_of(&footer));
+    hv_buffer_put(out, &tail_key, 1);
+    hv_buffer_put(out, &footer_size, 8); /* the lowest byte first */
+    if (!answer) answer = hv_buffer_answer(out, error);
+    if (!answer) out->at[version_byte] = (uint8_t)version;
+    hv_buffer_free(&footer);
+    free(sizes);
+    free(kept);
+    return answer;
+}
+
+HV_ANSWER hv_table_to_bytes(const hv_table *table, uint8_t differences, hv_buffer *out, hv_error *error) {
+    hv_buffer made = HV_BUFFER_EMPTY;
+    hv_table_part *parts = NULL;
+    int32_t answer = hv_table_memory(table->count, sizeof *parts, &parts, error);
+    for (size_t i = 0; !answer && i < table->count; i++) {
+        parts[i].name = hv_table_span_of(table->names[i]);
+        parts[i].logical_type = hv_table_span_of(table->logical_types[i]);
+        parts[i].column = &table->columns[i];
+    }
+    if (!answer) answer = hv_table_put_parts(&made, parts, table->count, table->rows, differences != 0, error);
+    free(parts);
+    if (answer) return hv_buffer_free(&made), answer;
+    hv_buffer_free(out);
+    *out = made;
+    return HV_OK;
+}
+
+HV_ANSWER hv_table_save(const hv_table *table, const char *path, uint8_t differences, hv_error *error) {
+    hv_buffer bytes = HV_BUFFER_EMPTY;
+    int32_t answer = hv_table_to_bytes(table, differences, &bytes, error);
+    if (!answer) answer = hv_save_bytes(bytes.at, bytes.size, path, error);
+    hv_buffer_free(&bytes);
+    return answer;
+}
+
+/* ---- Read ---- */
+
+HV_ANSWER hv_table_load_footer(const char *path, hv_table_footer *out, hv_error *error) {
+    hv_stored_file file = HV_STORED_FILE_EMPTY;
+    int32_t answer = hv_stored_file_open(path, &file, error);
+    if (!answer) answer = hv_table_footer_of(&file, out, error);
+    hv_stored_file_close(&file);
+    return answer;
+}
+
+/* ---- Columns of a file ---- */
+
+/* 17 where a column is not of these rows, or is not what the footer says of it. */
+static inline int32_t hv_table_check_column(const hv_column *column, const hv_column_footer *known, size_t rows,
+                                            uint64_t version, hv_error *error) {
+    const hv_table_span name = {(const uint8_t *)known->name, known->name_size};
+    const hv_table_span logical_type = {(const uint8_t *)known->logical_type, known->logical_type_size};
+    const hv_table_part part = {name, logical_type, column};
+    hv_buffer due = HV_BUFFER_EMPTY;
+    int32_t answer = hv_table_put_footer(&due, &part, known->size, version, known->kept, error);
+    if (!answer) answer = hv_buffer_answer(&due, error);
+    const bool is_said = !answer && hv_table_same_bytes(hv_table_bytes_of(&due), known->said);
+    if (!answer && (!is_said || hv_length(column) != rows)) answer = hv_table_damaged(error);
+    hv_buffer_free(&due);
+    return answer;
+}
+
+/* A column of a file that is open, which is held against what the footer says of it. */
+static inline int32_t hv_table_column_at(const hv_stored_file *file, const hv_table_footer *footer, size_t place,
+                                         hv_column *out, hv_error *error) {
+    const hv_column_footer *const known = &footer->columns[place];
+    hv_buffer message = HV_BUFFER_EMPTY;
+    hv_column column = HV_EMPTY;
+    int32_t answer = hv_table_read_field(file, known->start, HV_TABLE_COLUMN_FIELD, known->size, &message, error);
+    if (!answer) answer = hv_table_column_in(hv_table_bytes_of(&message), &column, error);
+    if (!answer && known->kept != HV_TABLE_KEPT_ROWS)
+        answer = hv_table_of_differences(&column, hv_table_bytes_of(&message), hv_kind_of(&known->bounds),
+                                         known->kept, &column, error);
+    if (!answer) answer = hv_table_check_column(&column, known, footer->rows, footer->version, error);
+    if (!answer) hv_put(out, &column);
+    hv_free(&column);
+    hv_buffer_free(&message);
+    return answer;
+}
+
+/* Adds a column of a file to a table of room; 13 for a text with a zero byte. */
+static inline int32_t hv_table_add_stored(hv_table *made, const hv_stored_file *file, const hv_table_footer *footer,
+                                          size_t place, hv_error *error) {
+    const hv_column_footer *const known = &footer->columns[place];
+    hv_column column = HV_EMPTY;
+    int32_t answer = hv_table_column_at(file, footer, place, &column, error);
+    if (!answer &&
+        (strlen(known->name) != known->name_size || strlen(known->logical_type) != known->logical_type_size))
+        answer = hv_arrow_refuse(HV_UNSUPPORTED, 0, 0, error);
+    if (!answer) answer = hv_table_add(made, known->name, known->logical_type, &column, error);
+    hv_free(&column);
+    return answer;
+}
+
+/* The columns of these names of a file that is open, or, where `names` is null, all. */
+static inline int32_t hv_table_of_file(const hv_stored_file *file, const char *const *names, size_t count,
+                                       hv_table *out, hv_error *error) {
+    hv_table_footer footer = HV_TABLE_FOOTER_EMPTY;
+    hv_table made = HV_TABLE_EMPTY;
+    size_t place = 0;
+    int32_t answer = hv_table_footer_of(file, &footer, error);
+    const size_t columns = names ? count : footer.count;
+    if (!answer && names) answer = hv_table_check_names(names, count, error);
+    for (size_t i = 0; !answer && names && i < count; i++)
+        answer = hv_table_find_footer(&footer, names[i], &place, error);
+    if (!answer) answer = hv_table_room(&made, columns, error);
+    made.rows = footer.rows;
+    for (size_t i = 0; !answer && i < columns; i++) {
+        place = i;
+        if (names) answer = hv_table_find_footer(&footer, names[i], &place, error);
+        if (!answer) answer = hv_table_add_stored(&made, file, &footer, place, error);
+    }
+    hv_table_footer_free(&footer);
+    return hv_table_done(answer, &made, out);
+}
+
+HV_ANSWER hv_table_from_bytes(const uint8_t *bytes, size_t size, hv_table *out, hv_error *error) {
+    const hv_stored_file file = hv_stored_bytes(bytes, size);
+    return hv_table_of_file(&file, NULL, 0, out, error);
+}
+
+HV_ANSWER hv_table_load_columns(const char *path, const char *const *names, size_t count, hv_table *out,
+                                hv_error *error) {
+    const char *const none[] = {""};
+    hv_stored_file file = HV_STORED_FILE_EMPTY;
+    int32_t answer = hv_stored_file_open(path, &file, error);
+    if (!answer) answer = hv_table_of_file(&file, count ? names : none, count, out, error);
+    hv_stored_file_close(&file);
+    return answer;
+}
+
+HV_ANSWER hv_table_load(const char *path, hv_table *out, hv_error *error) {
+    hv_stored_file file = HV_STORED_FILE_EMPTY;
+    int32_t answer = hv_stored_file_open(path, &file, error);
+    if (!answer) answer = hv_table_of_file(&file, NULL, 0, out, error);
+    hv_stored_file_close(&file);
+    return answer;
+}
+
+/* ---- May a row be there? ---- */
+
+/* Does a condition hold for one of the bounds, with this operator? */
+static inline int32_t hv_table_holds(const hv_session *session, const hv_column_footer *known, size_t row,
+                                     const hv_table_condition *condition, uint8_t operator_, bool *truth,
+                                     hv_error *error) {
+    hv_table_condition asked = *condition;
+    hv_column one = HV_EMPTY, mask = HV_EMPTY, found = HV_EMPTY;
+    asked.operator_ = operator_;
+    int32_t answer = hv_slice(session, &known->bounds, row, row + 1, &one, error);
+    if (!answer) answer = hv_table_mask(session, &one, known->logical_type, &asked, &mask, error);
+    if (!answer) answer = hv_filter(session, &one, &mask, &found, error);
+    *truth = hv_length(&found) != 0;
+    hv_free(&one);
+    hv_free(&mask);
+    hv_free(&found);
+    return answer;
+}
+
+HV_ANSWER hv_table_may_have(const hv_session *session, const hv_table_footer *footer,
+                            const hv_table_condition *condition, uint8_t *truth, hv_error *error) {
+    const bool is_equal = condition->operator_ == HV_EQ;
+    bool holds[2] = {true, true}, has_nan = false;
+    size_t place = 0;
+    int32_t answer = hv_table_find_footer(footer, condition->column, &place, error);
+    if (answer) return answer;
+    const hv_column_footer *const known = &footer->columns[place];
+    hv_column mask = HV_EMPTY;
+    *truth = 1;
+    if (hv_is_empty(&known->bounds)) return HV_OK;
+    if (hv_table_is_float(&known->bounds, known->logical_type))
+        answer = hv_table_has_nan(&known->bounds, &has_nan, error);
+    if (!answer) answer = hv_table_mask(session, &known->bounds, known->logical_type, condition, &mask, error);
+    hv_free(&mask);
+    if (answer || has_nan) return answer; /* NaN is outside of the bounds of numbers */
+    if (hv_length(&known->bounds) == 0) {
+        *truth = 0;
+        return HV_OK;
+    }
+    for (size_t row = 0; !answer && row < 2; row++) {
+        const uint8_t asked = !is_equal ? condition->operator_ : row ? (uint8_t)HV_GE : (uint8_t)HV_LE;
+        answer = hv_table_holds(session, known, row, condition, asked, &holds[row], error);
+    }
+    *truth = is_equal ? holds[0] && holds[1] : holds[0] || holds[1];
+    return answer;
+}
+
+#ifdef __cplusplus
+}
+#endif
+#endif

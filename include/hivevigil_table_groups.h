@@ -1,0 +1,403 @@
+/* What is asked of the groups of a table in C. A header only, C11 and C++17, over hivevigil_table.h; nothing here is
+ * proved.
+ *
+ *     const char *const keys[] = {"station"};
+ *     const hv_table_answer asked[] = {{"readings", HV_FOLD_ROWS, NULL}, {"highest", HV_FOLD_GREATEST, "level"}};
+ *     answer = hv_table_group_by(&session, &table, keys, 1, asked, 2, &groups, &error);
+ */
+#ifndef HIVEVIGIL_TABLE_GROUPS_H
+#define HIVEVIGIL_TABLE_GROUPS_H
+#include "hivevigil_table_order.h"
+#ifdef __cplusplus
+extern "C" {
+#endif
+
+/* A column of answers: its name, what is asked (HV_FOLD_SUM to HV_FOLD_LAST), and of which column, which HV_FOLD_ROWS
+ * does not need. */
+typedef struct hv_table_answer {
+    const char *name;
+    uint8_t fold;
+    const char *column;
+} hv_table_answer;
+
+/* The rows by runs of neighbours that are equal in all columns of keys, null equal to null: rows that are sorted by
+ * these come in one group for each of their values. `out` has the keys, then the answers, a row for each group.
+ *
+ * Answers are flat, of a type that has null, and null where the group has no value that is not null (a count: 0): the
+ * sum of integers in i64 or u64, of floats the exact sum as a double, rounded once, of decimals in 38 digits; rows and
+ * counts in u64; the least, greatest, first or last value of all but lists: texts by their bytes, and false below true.
+ *
+ * 13 for no key, then for names of `out` 12 where one is not UTF-8 and 202 (place, place) for one twice, 201, 13 for a
+ * key of lists; then of the first answer that is refused 201, 13 where the column is not asked this, as a text is not
+ * for its sum, also for the least and greatest of floats of which one is NaN, 14 (group, from 0) for the first sum that
+ * does not fit, 23 for no fold. */
+HV_ANSWER hv_table_group_by(const hv_session *session, const hv_table *table, const char *const *keys,
+                            size_t key_count, const hv_table_answer *answers, size_t answer_count, hv_table *out,
+                            hv_error *error);
+
+/* ---- Groups ---- */
+
+/* Where each group stops, and a column of all rows with one run for each group. */
+typedef struct hv_table_groups {
+    hv_table_stop_list list;
+    hv_column runs;
+} hv_table_groups;
+#define HV_TABLE_NO_GROUPS {{0, NULL}, HV_EMPTY}
+
+static inline void hv_table_groups_free(hv_table_groups *groups) {
+    free(groups->list.stops);
+    hv_free(&groups->runs);
+    memset(groups, 0, sizeof *groups);
+}
+
+/* Stops where a column changes from one row to the next. */
+static inline int32_t hv_table_add_changes(hv_table_stop_list *list, const hv_column *column, hv_error *error) {
+    hv_column encoding = HV_EMPTY;
+    uint64_t *stops = NULL;
+    size_t count = 0;
+    int32_t answer = hv_encode_rows(column, &encoding, error);
+    if (!answer) answer = hv_table_stops(&encoding, &stops, &count, error);
+    if (!answer) answer = hv_table_add_stops(list, stops, count, error);
+    free(stops);
+    hv_free(&encoding);
+    return answer;
+}
+
+/* The groups of rows by columns of one length, of which there is one at least; 13 for lists. */
+static inline int32_t hv_table_groups_of(const hv_column *keys, size_t count, hv_table_groups *out, hv_error *error) {
+    hv_column numbers = HV_EMPTY;
+    uint64_t *each = NULL;
+    int32_t answer = HV_OK;
+    for (size_t i = 0; !answer && i < count; i++) answer = hv_table_add_changes(&out->list, &keys[i], error);
+    if (!answer) answer = hv_table_memory(out->list.count, sizeof *each, &each, error);
+    for (size_t group = 0; !answer && group < out->list.count; group++) each[group] = group;
+    if (!answer) answer = hv_u64(each, out->list.count, hv_not_nullable(), &numbers, error);
+    if (!answer) answer = hv_table_in_runs(out->list.stops, &numbers, out->list.count, &out->runs, error);
+    if (answer) hv_table_groups_free(out);
+    free(each);
+    hv_free(&numbers);
+    return answer;
+}
+
+static inline uint64_t hv_table_group_start(const hv_table_groups *groups, size_t group) {
+    return group ? groups->list.stops[group - 1] : 0;
+}
+
+/* The first row of each group of a column, flat. */
+static inline int32_t hv_table_key_of(const hv_session *session, const hv_table_groups *groups,
+                                      const hv_column *column, hv_column *out, hv_error *error) {
+    hv_column first = HV_EMPTY, taken = HV_EMPTY;
+    uint64_t *rows = NULL;
+    const size_t count = groups->list.count;
+    int32_t answer = hv_table_memory(count, sizeof *rows, &rows, error);
+    for (size_t group = 0; !answer && group < count; group++) rows[group] = hv_table_group_start(groups, group);
+    if (!answer) answer = hv_u64(rows, count, hv_not_nullable(), &first, error);
+    if (!answer) answer = hv_take(session, column, &first, &taken, error);
+    if (!answer) answer = hv_decode(session, &taken, out, error);
+    free(rows);
+    hv_free(&first);
+    hv_free(&taken);
+    return answer;
+}
+
+/* What hv_fold_by answers of the integers of each group. */
+static inline int32_t hv_table_fold(const hv_table_groups *groups, const hv_column *values, uint8_t fold,
+                                    hv_column *out, hv_error *error) {
+    hv_column keys = HV_EMPTY;
+    const int32_t answer = hv_fold_by(&groups->runs, values, fold, &keys, out, error);
+    hv_free(&keys);
+    return answer;
+}
+
+/* ---- Rows and counts ---- */
+
+static inline int32_t hv_table_count_rows(const hv_table_groups *groups, size_t rows, hv_column *out,
+                                          hv_error *error) {
+    const hv_kind kind = {HV_U8, 0, 0, 0};
+    const hv_value one = {1, 0, HV_UNSIGNED, 0};
+    hv_column ones = HV_EMPTY;
+    int32_t answer = hv_constant(&kind, &one, NULL, 0, rows, &ones, error);
+    if (!answer) answer = hv_table_fold(groups, &ones, HV_FOLD_ROWS, out, error);
+    hv_free(&ones);
+    return answer;
+}
+
+/* Booleans: is the row valid? */
+static inline int32_t hv_table_valid_rows(const hv_session *session, const hv_column *column, hv_column *out,
+                                          hv_error *error) {
+    hv_column lists = HV_EMPTY;
+    if (hv_kind_of(column).number != HV_LIST) return hv_is_valid(column, out, error);
+    int32_t answer = hv_decode(session, column, &lists, error);
+    if (!answer) answer = hv_list_validity(&lists, out, error);
+    hv_free(&lists);
+    return answer;
+}
+
+/* Values of any type that are not null, by 1 in place of each. */
+static inline int32_t hv_table_count_values(const hv_session *session, const hv_table_groups *groups,
+                                            const hv_column *column, hv_column *out, hv_error *error) {
+    const hv_kind kind = {HV_U8, 1, 0, 0};
+    const hv_value one = {1, 0, HV_UNSIGNED, 0}, null = {0, 0, HV_NULL, 0};
+    const size_t rows = hv_length(column);
+    hv_column valid = HV_EMPTY, ones = HV_EMPTY, nulls = HV_EMPTY, found = HV_EMPTY;
+    int32_t answer = hv_table_valid_rows(session, column, &valid, error);
+    if (!answer) answer = hv_constant(&kind, &one, NULL, 0, rows, &ones, error);
+    if (!answer) answer = hv_constant(&kind, &null, NULL, 0, rows, &nulls, error);
+    if (!answer) answer = hv_if_else(&valid, &ones, &nulls, &found, error);
+    if (!answer) answer = hv_table_fold(groups, &found, HV_FOLD_COUNT, out, error);
+    hv_free(&valid);
+    hv_free(&ones);
+    hv_free(&nulls);
+    hv_free(&found);
+    return answer;
+}
+
+/* ---- Least, greatest, first and last ---- */
+
+/* The place of each run's value among the distinct ones, from 0, and a row of each of these, for hv_table_ranks. */
+typedef struct hv_table_ranking {
+    size_t count; /* of distinct values */
+    uint64_t *ranks, *rows;
+} hv_table_ranking;
+
+static inline int32_t hv_table_rank(const hv_table_order *order, hv_table_ranking *out, hv_error *error) {
+    const hv_table_runs *const runs = &order->keys->runs;
+    size_t *sorted = NULL;
+    int32_t answer = hv_table_sorted(order, runs->count, &sorted, error);
+    if (!answer) answer = hv_table_memory(runs->count, sizeof *out->ranks, &out->ranks, error);
+    if (!answer) answer = hv_table_memory(runs->count, sizeof *out->rows, &out->rows, error);
+    for (size_t at = 0; !answer && at < runs->count; at++) { /* nulls come first */
+        const size_t run = sorted[at];
+        if (!hv_table_bit(runs->valid, run)) continue;
+        const bool is_new = out->count == 0 || hv_table_compare_stretches(order, sorted[at - 1], run) != 0;
+        if (is_new) out->rows[out->count++] = run ? runs->stops[run - 1] : 0;
+        out->ranks[run] = out->count - 1;
+    }
+    free(sorted);
+    return answer;
+}
+
+/* For each row the place of its value among the distinct ones in order, null where the row is; and these values. */
+static inline int32_t hv_table_ranks(const hv_session *session, const hv_column *column, hv_column *places,
+                                     hv_column *values, hv_error *error) {
+    hv_table_order_key key;
+    const hv_table_order order = {1, &key, false};
+    hv_table_ranking ranking = {0, NULL, NULL};
+    hv_column numbers = HV_EMPTY, rows = HV_EMPTY;
+    memset(&key, 0, sizeof key);
+    int32_t answer = hv_table_runs_of(column, &key.runs, error);
+    const size_t count = key.runs.count;
+    if (!answer) answer = hv_table_rank(&order, &ranking, error);
+    const hv_validity valid = hv_valid_bits((const uint8_t *)key.runs.valid, (count + 63) / 64 * 8, 0);
+    if (!answer) answer = hv_u64(ranking.ranks, count, valid, &numbers, error);
+    if (!answer) answer = hv_table_in_runs(key.runs.stops, &numbers, count, places, error);
+    if (!answer) answer = hv_u64(ranking.rows, ranking.count, hv_not_nullable(), &rows, error);
+    if (!answer) answer = hv_take(session, column, &rows, values, error);
+    hv_table_runs_free(&key.runs);
+    free(ranking.ranks);
+    free(ranking.rows);
+    hv_free(&numbers);
+    hv_free(&rows);
+    return answer;
+}
+
+/* A value of each group: of other values than integers by their places; 13 for lists. */
+static inline int32_t hv_table_choose(const hv_session *session, const hv_table_groups *groups,
+                                      const hv_column *column, uint8_t fold, hv_column *out, hv_error *error) {
+    hv_column places = HV_EMPTY, values = HV_EMPTY, chosen = HV_EMPTY;
+    if (hv_table_is_integer(column)) return hv_table_fold(groups, column, fold, out, error);
+    int32_t answer = hv_table_ranks(session, column, &places, &values, error);
+    if (!answer) answer = hv_table_fold(groups, &places, fold, &chosen, error);
+    if (!answer) answer = hv_take(session, &values, &chosen, out, error);
+    hv_free(&places);
+    hv_free(&values);
+    hv_free(&chosen);
+    return answer;
+}
+
+/* ---- Sums of floats and of decimals, group by group ---- */
+
+/* The sums of groups, of which those are null that have no value. */
+typedef struct hv_table_sums {
+    hv_pair *totals;
+    uint8_t *valid; /* a bit for each */
+    bool is_any_null;
+} hv_table_sums;
+
+/* The sum of some rows: false in *is_valid where none is valid. */
+typedef int32_t (*hv_table_sum)(const hv_column *rows, hv_pair *total, bool *is_valid, hv_error *error);
+
+static inline int32_t hv_table_sum_floats(const hv_column *rows, hv_pair *total, bool *is_valid, hv_error *error) {
+    uint64_t count = 0;
+    const int32_t answer = hv_float_sum(rows, &count, &total->low, error);
+    *is_valid = count != 0;
+    return answer;
+}
+static inline int32_t hv_table_sum_decimals(const hv_column *rows, hv_pair *total, bool *is_valid, hv_error *error) {
+    uint8_t is_empty = 0;
+    const int32_t answer = hv_decimal_sum(rows, total, &is_empty, error);
+    *is_valid = !is_empty;
+    return answer;
+}
+
+/* The sum of each group, in memory of the caller; 14 (group) for the first that does not fit. */
+static inline int32_t hv_table_each_sum(const hv_session *session, const hv_table_groups *groups,
+                                        const hv_column *column, hv_table_sum work, hv_table_sums *out,
+                                        hv_error *error) {
+    int32_t answer = HV_OK;
+    for (size_t group = 0; !answer && group < groups->list.count; group++) {
+        const size_t start = (size_t)hv_table_group_start(groups, group), stop = (size_t)groups->list.stops[group];
+        hv_column part = HV_EMPTY;
+        bool is_valid = false;
+        answer = hv_slice(session, column, start, stop, &part, error);
+        if (!answer) answer = work(&part, &out->totals[group], &is_valid, error);
+        if (answer == HV_CAST_OUT_OF_RANGE) hv_arrow_refuse(answer, group, 0, error);
+        if (is_valid) out->valid[group / 8] = (uint8_t)(out->valid[group / 8] | 1u << group % 8);
+        out->is_any_null |= !is_valid;
+        hv_free(&part);
+    }
+    return answer;
+}
+
+/* Doubles of their bits, flat. */
+static inline int32_t hv_table_doubles(const hv_session *session, const hv_pair *totals, size_t count,
+                                       hv_validity valid, hv_column *out, hv_error *error) {
+    uint64_t *bits = NULL;
+    hv_column flat = HV_EMPTY, floats = HV_EMPTY;
+    int32_t answer = hv_table_memory(count, sizeof *bits, &bits, error);
+    for (size_t group = 0; !answer && group < count; group++) bits[group] = totals[group].low;
+    if (!answer) answer = hv_u64(bits, count, valid, &flat, error);
+    if (!answer) answer = hv_float_encode(&flat, 0, &floats, error);
+    if (!answer) answer = hv_decode(session, &floats, out, error);
+    free(bits);
+    hv_free(&flat);
+    hv_free(&floats);
+    return answer;
+}
+
+/* Floats of 64 bits, or decimals, added up. */
+static inline int32_t hv_table_add_up(const hv_session *session, const hv_table_groups *groups,
+                                      const hv_column *column, hv_column *out, hv_error *error) {
+    const hv_kind kind = hv_kind_of(column);
+    const bool is_decimal = kind.number == HV_DECIMAL;
+    const size_t count = groups->list.count, bytes = (count + 7) / 8;
+    hv_table_sums sums = {NULL, NULL, false};
+    int32_t answer = hv_table_memory(count, sizeof *sums.totals, &sums.totals, error);
+    if (!answer) answer = hv_table_memory(bytes, 1, &sums.valid, error);
+    const hv_table_sum work = is_decimal ? hv_table_sum_decimals : hv_table_sum_floats;
+    if (!answer) answer = hv_table_each_sum(session, groups, column, work, &sums, error);
+    const hv_validity valid = sums.is_any_null ? hv_valid_bits(sums.valid, bytes, 0) : hv_all_valid();
+    if (!answer)
+        answer = is_decimal ? hv_decimals(sums.totals, count, 38, kind.scale, valid, out, error)
+                            : hv_table_doubles(session, sums.totals, count, valid, out, error);
+    free(sums.totals);
+    free(sums.valid);
+    return answer;
+}
+
+static inline int32_t hv_table_add_up_floats(const hv_session *session, const hv_table_groups *groups,
+                                             const hv_column *floats, hv_column *out, hv_error *error) {
+    hv_column doubles = HV_EMPTY;
+    int32_t answer = hv_float_cast(floats, HV_I64, 0, &doubles, error);
+    if (!answer) answer = hv_table_add_up(session, groups, &doubles, out, error);
+    hv_free(&doubles);
+    return answer;
+}
+
+/* ---- Answers ---- */
+
+/* What is asked of a column of a logical type in each group. */
+static inline int32_t hv_table_ask(const hv_session *session, const hv_table_groups *groups, const hv_column *column,
+                                   const char *format, uint8_t fold, hv_column *out, hv_error *error) {
+    const bool is_float = hv_table_is_float(column, format);
+    bool has_nan = false;
+    if (fold == HV_FOLD_COUNT) return hv_table_count_values(session, groups, column, out, error);
+    if (is_float && (fold == HV_FOLD_LEAST || fold == HV_FOLD_GREATEST)) {
+        const int32_t answer = hv_table_has_nan(column, &has_nan, error);
+        if (answer) return answer;
+    }
+    if (has_nan) return hv_arrow_refuse(HV_UNSUPPORTED, 0, 0, error);
+    if (fold != HV_FOLD_SUM) return hv_table_choose(session, groups, column, fold, out, error);
+    if (is_float) return hv_table_add_up_floats(session, groups, column, out, error);
+    if (hv_kind_of(column).number == HV_DECIMAL) return hv_table_add_up(session, groups, column, out, error);
+    if (hv_table_is_logical_type(format) && strncmp(format, "tD", 2) != 0) /* a sum of dates is not one */
+        return hv_arrow_refuse(HV_UNSUPPORTED, 0, 0, error);
+    return hv_table_fold(groups, column, HV_FOLD_SUM, out, error);
+}
+
+/* The logical type of an answer. */
+static inline const char *hv_table_type_of_answer(const hv_column *column, const char *format, uint8_t fold) {
+    if (fold == HV_FOLD_ROWS || fold == HV_FOLD_COUNT) return "";
+    return fold == HV_FOLD_SUM && hv_table_is_float(column, format) ? "g" : format;
+}
+
+static inline int32_t hv_table_add_answer(const hv_session *session, const hv_table *table,
+                                          const hv_table_groups *groups, const hv_table_answer *asked, hv_table *made,
+                                          hv_error *error) {
+    hv_column column = HV_EMPTY;
+    const char *type = "";
+    size_t place = 0;
+    int32_t answer = HV_OK;
+    if (asked->fold == HV_FOLD_ROWS) {
+        answer = hv_table_count_rows(groups, table->rows, &column, error);
+    } else {
+        answer = hv_table_find(table, asked->column, &place, error);
+        const hv_column *const values = answer ? NULL : &table->columns[place];
+        if (!answer) type = hv_table_type_of_answer(values, table->logical_types[place], asked->fold);
+        if (!answer)
+            answer = hv_table_ask(session, groups, values, table->logical_types[place], asked->fold, &column, error);
+    }
+    if (!answer) answer = hv_table_add(made, asked->name, type, &column, error);
+    hv_free(&column);
+    return answer;
+}
+
+/* The columns of keys, then the answers, in a table of room. */
+static inline int32_t hv_table_answers(const hv_session *session, const hv_table *table, const hv_table *keys,
+                                       const hv_table_groups *groups, const hv_table_answer *asked, size_t count,
+                                       hv_table *made, hv_error *error) {
+    int32_t answer = HV_OK;
+    made->rows = groups->list.count;
+    for (size_t i = 0; !answer && i < keys->count; i++) {
+        hv_column column = HV_EMPTY;
+        answer = hv_table_key_of(session, groups, &keys->columns[i], &column, error);
+        if (!answer) answer = hv_table_add(made, keys->names[i], keys->logical_types[i], &column, error);
+        hv_free(&column);
+    }
+    for (size_t i = 0; !answer && i < count; i++)
+        answer = hv_table_add_answer(session, table, groups, &asked[i], made, error);
+    return answer;
+}
+
+/* 202 for a name twice among keys and answers. */
+static inline int32_t hv_table_check_answers(const char *const *keys, size_t key_count, const hv_table_answer *answers,
+                                             size_t answer_count, hv_error *error) {
+    const char **names = NULL;
+    int32_t answer = hv_table_memory(key_count + answer_count, sizeof *names, &names, error);
+    for (size_t i = 0; !answer && i < key_count + answer_count; i++)
+        names[i] = i < key_count ? keys[i] : answers[i - key_count].name;
+    if (!answer) answer = hv_table_check_names(names, key_count + answer_count, error);
+    free(names);
+    return answer;
+}
+
+HV_ANSWER hv_table_group_by(const hv_session *session, const hv_table *table, const char *const *keys,
+                            size_t key_count, const hv_table_answer *answers, size_t answer_count, hv_table *out,
+                            hv_error *error) {
+    hv_table by = HV_TABLE_EMPTY, made = HV_TABLE_EMPTY;
+    hv_table_groups groups = HV_TABLE_NO_GROUPS;
+    if (key_count == 0) return hv_arrow_refuse(HV_UNSUPPORTED, 0, 0, error);
+    int32_t answer = hv_table_check_answers(keys, key_count, answers, answer_count, error);
+    if (!answer) answer = hv_table_select(table, keys, key_count, &by, error);
+    if (!answer) answer = hv_table_groups_of(by.columns, by.count, &groups, error);
+    if (!answer) answer = hv_table_room(&made, key_count + answer_count, error);
+    if (!answer) answer = hv_table_answers(session, table, &by, &groups, answers, answer_count, &made, error);
+    hv_table_groups_free(&groups);
+    hv_table_free(&by);
+    return hv_table_done(answer, &made, out);
+}
+
+#ifdef __cplusplus
+}
+#endif
+#endif
