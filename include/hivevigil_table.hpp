@@ -12,11 +12,11 @@
 // column is named. Any thread may use a table, one thread at a time.
 #ifndef HIVEVIGIL_TABLE_HPP
 #define HIVEVIGIL_TABLE_HPP
-#include "hivevigil_arrow.h"
+#include "hivevigil_stored_file.hpp"
 #include "hivevigil_arrow_errors.h"
 #include "hivevigil_float_bits.hpp"
-#include "hivevigil_stored_file.hpp"
-#include "hivevigil_table_messages.hpp"
+#include "hivevigil_table_file.h"
+#include "hivevigil_table_groups.h"
 #include <map>
 
 namespace hv {
@@ -178,6 +178,19 @@ private:
 };
 
 namespace detail {
+
+// ---- Texts ----
+
+inline hv_table_span span_of(const std::string &text) {
+    return {reinterpret_cast<const uint8_t *>(text.data()), text.size()};
+}
+
+inline bool is_utf8(const std::string &text) {
+    hv_error fields{};
+    const int32_t answer = hv_table_check_span(span_of(text), &fields);
+    if (answer && answer != HV_BAD_METADATA) throw Error(answer, fields);
+    return !answer;
+}
 
 // ---- Refusals ----
 

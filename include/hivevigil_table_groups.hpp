@@ -1,9 +1,10 @@
-// What is asked of the groups of a table: a part of hivevigil_table.hpp, which includes it.
+// What is asked of the groups of a table, over hivevigil_table_groups.h: a part of hivevigil_table.hpp, which includes it.
 //
 //     table.group_by({"station"}).agg({{"readings", hv::Fold::rows}, {"highest", hv::Fold::greatest, "level"}});
 #ifndef HIVEVIGIL_TABLE_GROUPS_HPP
 #define HIVEVIGIL_TABLE_GROUPS_HPP
-#include "hivevigil_table_sort.hpp"
+#include "hivevigil_table.hpp"
+#include <memory>
 
 namespace hv {
 
@@ -13,6 +14,30 @@ struct GroupAnswer {
     Fold fold;
     std::string column = {};
 };
+
+namespace detail {
+
+// Where groups of rows stop.
+struct Groups {
+    hv_table_groups all = HV_TABLE_NO_GROUPS;
+
+    explicit Groups(const std::vector<hv_column> &keys) {
+        ask([&](auto *error) { return hv_table_groups_of(keys.data(), keys.size(), &all, error); });
+    }
+    ~Groups() { hv_table_groups_free(&all); }
+    Groups(const Groups &) = delete;
+    Groups &operator=(const Groups &) = delete;
+    // The first row of each group.
+    Column first_of(const Column &column) const {
+        Column made;
+        ask([&](auto *error) {
+            return hv_table_key_of(&initial_session(), &all, column.raw(), made.raw(), error);
+        });
+        return made;
+    }
+};
+
+} // namespace detail
 
 // The rows of a table by runs of neighbours that are equal in all columns of keys, null equal to null: rows that are
 // sorted by these come in one group for each of their values.
@@ -24,7 +49,12 @@ public:
     // The key of each group, under the names of their columns.
     const Table &keys() const { return each_key; }
     // The number of rows of each group, in u64.
-    Column sizes() const { return folded(ones(), Fold::rows); }
+    Column sizes() const {
+        Column made;
+        detail::ask(
+            [&](auto *error) { return hv_table_count_rows(&groups->all, table.rows(), made.raw(), error); });
+        return made;
+    }
     // What is asked of a column in each group, flat, of a type that has null, and null where the group has no value
     // that is not null (a count: 0): the sum of integers in i64 or u64, of floats the exact sum as a double, rounded
     // once, of decimals in 38 digits; rows and counts in u64; the least, greatest, first or last value of all but lists:
@@ -37,76 +67,25 @@ public:
 
 private:
     Table table, each_key;
-    Column groups; // by whose runs the rows are grouped
+    std::unique_ptr<detail::Groups> groups;
 
-    Column ones() const { return Column::constant(kinds::u8, uint64_t{0}, table.rows()); }
-    Column folded(const Column &values, Fold by) const { return groups.fold_by(values, by).second; }
-    std::vector<uint64_t> stops() const;
-    template <class Answer, class Work> std::vector<std::optional<Answer>> each(const Column &values, Work work) const;
     Column answer(const NamedColumn &values, Fold by) const;
-    Column chosen(const Column &values, Fold by) const;
-    Column sums_of_floats(const NamedColumn &values) const;
-    Column sums_of_decimals(const Column &values) const;
 };
-
-namespace detail {
-
-// 1 at each row that is not null, else 0, in runs.
-inline Column ones_of_valid(const Column &values) {
-    const bool is_list = values.kind().number == HV_LIST;
-    const Column valid = is_list ? values.decode().list_validity() : values.is_valid();
-    std::vector<uint64_t> stops, ones;
-    for (const Run &run : valid.encode_rows().runs()) {
-        stops.push_back(run.stop);
-        ones.push_back(std::get<bool>(run.value));
-    }
-    return Column::runs(Column::of(stops), Column::of(ones), 0, values.size());
-}
-
-// The place of each row among the distinct values in order, in runs and null where the row is; and these values.
-struct Places {
-    Column places, values;
-};
-inline Places places_of(const Column &column) {
-    const Ranks found = ranks_of(column, Order::ascending, Nulls::first);
-    std::vector<std::optional<uint64_t>> places;
-    std::vector<uint64_t> rows; // of each distinct value one
-    for (size_t run = 0; run < found.ranks.size(); run++) {
-        const size_t rank = found.ranks[run]; // 0 of null
-        places.push_back(rank ? std::optional<uint64_t>(rank - 1) : std::nullopt);
-        if (rank > rows.size()) rows.resize(rank);
-        if (rank) rows[rank - 1] = run ? found.stops[run - 1] : 0;
-    }
-    return {Column::runs(Column::of(found.stops), Column::of(places), 0, column.size()), column.take(Column::of(rows))};
-}
-
-} // namespace detail
 
 inline TableGroups Table::group_by(const std::vector<std::string> &names) const { return TableGroups(*this, names); }
 
 inline TableGroups::TableGroups(const Table &of, const std::vector<std::string> &names) : table(of.clone()) {
     if (names.empty()) throw TableError(HV_UNSUPPORTED, {}, "at least one column has the keys");
     std::vector<NamedColumn> keys;
-    for (const NamedColumn &key : table.select(names)) keys.push_back(key.clone());
-    if (keys.size() == 1) {
-        NamedColumn &key = keys.front();
-        groups = key.column.clone();
-        key.column = detail::about_column(key.name, [&] { return groups.fold_by(ones(), Fold::rows).first; });
-        each_key = Table(std::move(keys));
-        return;
+    std::vector<hv_column> lent;
+    for (const NamedColumn &key : table.select(names)) {
+        if (key.column.kind().number == HV_LIST)
+            detail::about_column(key.name, [] { throw Error(HV_UNSUPPORTED, {}); });
+        keys.push_back(key.clone());
+        lent.push_back(*keys.back().column.raw());
     }
-    std::vector<uint64_t> stops;
-    for (const NamedColumn &key : keys) {
-        const Column runs = detail::about_column(key.name, [&] { return key.column.encode_rows(); });
-        const std::vector<uint64_t> own = detail::stops_of(runs);
-        stops.insert(stops.end(), own.begin(), own.end());
-    }
-    stops = detail::common_stops(std::move(stops));
-    std::vector<uint64_t> numbers(stops.size()), starts;
-    std::iota(numbers.begin(), numbers.end(), uint64_t{0});
-    for (size_t group = 0; group < stops.size(); group++) starts.push_back(group ? stops[group - 1] : 0);
-    groups = Column::runs(Column::of(stops), Column::of(numbers), 0, table.rows());
-    for (NamedColumn &key : keys) key.column = key.column.take(Column::of(starts)).decode();
+    groups = std::make_unique<detail::Groups>(lent);
+    for (NamedColumn &key : keys) key.column = groups->first_of(key.column);
     each_key = Table(std::move(keys));
 }
 
@@ -126,101 +105,34 @@ inline Table TableGroups::agg(const std::vector<GroupAnswer> &answers) const {
     return Table(std::move(columns), each_key.rows());
 }
 
-// ---- Answers ----
+namespace detail {
+
+// Why a column is not asked this of its groups, in words.
+inline std::string words_of_fold(const NamedColumn &values, Fold by, int32_t answer, const hv_error &fields) {
+    const hv_kind kind = values.column.kind();
+    if (answer == HV_CAST_OUT_OF_RANGE && kind.number == HV_DECIMAL)
+        return "decimal overflow: the sum of group " + std::to_string(fields.first) + " leaves 38 digits";
+    if (answer == HV_CAST_OUT_OF_RANGE) return words_of_group(kind, fields);
+    if (answer != HV_UNSUPPORTED) return "";
+    if (by != Fold::sum && is_float(values.column, values.logical_type))
+        return "a row is NaN, which has no place among the numbers of its group";
+    const bool is_logical = by == Fold::sum && is_integer(kind) && is_logical_type(values.logical_type);
+    return is_logical ? "rows of the logical type " + values.logical_type + " have no sum" : "";
+}
+
+} // namespace detail
 
 inline Column TableGroups::answer(const NamedColumn &values, Fold by) const {
-    const Column &column = values.column;
-    const std::string &format = values.logical_type;
-    const bool is_float = detail::is_float(column, format);
-    const bool is_extreme = by == Fold::least || by == Fold::greatest;
-    if (is_extreme && detail::has_nan(column, format))
-        throw Error(HV_UNSUPPORTED, {}, "a row is NaN, which has no place among the numbers of its group");
-    if (by == Fold::count && !detail::is_integer(column.kind())) return folded(detail::ones_of_valid(column), Fold::sum);
-    if (by != Fold::sum) return chosen(column, by);
-    if (is_float) return sums_of_floats(values);
-    if (column.kind().number == HV_DECIMAL) return sums_of_decimals(column);
-    if (detail::is_logical_type(format) && format.compare(0, 2, "tD") != 0)
-        throw Error(HV_UNSUPPORTED, {}, "rows of the logical type " + format + " have no sum");
-    return folded(column, by);
-}
-
-// A value of each group: of other values than integers by their places among the distinct ones, of lists by none.
-inline Column TableGroups::chosen(const Column &values, Fold by) const {
-    if (detail::is_integer(values.kind()) || values.kind().number == HV_LIST) return folded(values, by);
-    const detail::Places found = detail::places_of(values);
-    return found.values.take(folded(found.places, by));
-}
-
-// Where each group stops.
-inline std::vector<uint64_t> TableGroups::stops() const {
-    std::vector<uint64_t> found = sizes().numbers<uint64_t>();
-    for (size_t group = 1; group < found.size(); group++) found[group] += found[group - 1];
-    return found;
-}
-
-// What is answered of the rows of each group.
-template <class Answer, class Work>
-std::vector<std::optional<Answer>> TableGroups::each(const Column &values, Work work) const {
-    std::vector<std::optional<Answer>> answers;
-    uint64_t start = 0;
-    for (uint64_t stop : stops()) {
-        answers.push_back(work(values.slice(start, stop), answers.size()));
-        start = stop;
-    }
-    return answers;
-}
-
-inline Column TableGroups::sums_of_floats(const NamedColumn &values) const {
-    Column doubles = values.column.clone();
-    if (values.logical_type != "g") {
-        Column wide;
-        detail::ask([&](auto *error) { return hv_float_cast(doubles.raw(), HV_I64, 0, wide.raw(), error); });
-        doubles = std::move(wide);
-    }
-    const auto sum = [](Column part, size_t) {
-        const FloatSum found = Floats<double>(std::move(part)).sum();
-        return found.rows ? std::optional<double>(found.total) : std::nullopt;
-    };
-    std::vector<int64_t> keys;
-    std::vector<bool> valid;
-    for (const auto &total : each<double>(doubles, sum)) {
-        uint64_t number = 0;
-        if (total) std::memcpy(&number, &*total, sizeof number);
-        keys.push_back(detail::key_of_bits(number, 64));
-        valid.push_back(total.has_value());
-    }
-    Bytes bits;
-    const hv_validity validity = detail::nulls_by(valid, bits);
-    Column answers;
-    detail::ask([&](auto *error) { return hv_i64(keys.data(), keys.size(), validity, answers.raw(), error); });
-    return answers;
-}
-
-inline Column TableGroups::sums_of_decimals(const Column &values) const {
-    const int8_t scale = values.kind().scale;
-    std::vector<hv_pair> totals;
-    std::vector<bool> valid;
-    const auto sum = [](const Column &part, size_t group) {
-        try {
-            const DecimalSum found = part.decimal_sum();
-            return found.empty ? std::nullopt : std::optional<Decimal>(found.total);
-        } catch (const Error &error) {
-            if (error.number != HV_CAST_OUT_OF_RANGE) throw;
-            throw Error(error.number, {group, 0, 0},
-                        "decimal overflow: the sum of group " + std::to_string(group) + " leaves 38 digits");
-        }
-    };
-    for (const auto &total : each<Decimal>(values, sum)) {
-        totals.push_back(total ? hv_pair{total->low, total->high} : hv_pair{0, 0});
-        valid.push_back(total.has_value());
-    }
-    Bytes bits;
-    const hv_validity validity = detail::nulls_by(valid, bits);
-    Column answers;
-    detail::ask([&](auto *error) {
-        return hv_decimals(totals.data(), totals.size(), 38, scale, validity, answers.raw(), error);
-    });
-    return answers;
+    // a text with a zero byte is not a format of Arrow
+    const bool is_text_of_c = values.logical_type.find('\0') == std::string::npos;
+    const char *const format = is_text_of_c ? values.logical_type.c_str() : "";
+    Column made;
+    hv_error fields{};
+    const int32_t answer = hv_table_ask(&initial_session(), &groups->all, values.column.raw(), format,
+                                        static_cast<uint8_t>(by), made.raw(), &fields);
+    if (!answer) return made;
+    const std::string words = detail::words_of_fold(values, by, answer, fields);
+    throw words.empty() ? Error(answer, fields) : Error(answer, fields, words);
 }
 
 } // namespace hv

@@ -351,24 +351,36 @@ struct Part {
 };
 
 // The parts of a column, kept in a form.
-static Part part_of(const hv::NamedColumn &named, uint64_t version, hv::detail::KeptForm kept, hv::Bytes message) {
-    return {message, hv::detail::footer_of_column(named, message.size(), version, kept)};
+static Part part_of(const hv::NamedColumn &named, uint64_t version, uint8_t kept, hv::Bytes message) {
+    hv::detail::Buffer footer;
+    hv_error error;
+    const hv_table_part part{hv::detail::span_of(named.name), hv::detail::span_of(named.logical_type),
+                             named.column.raw()};
+    CHECK(!hv_table_put_footer(footer.raw(), &part, message.size(), version, kept, &error));
+    return {message, footer.bytes()};
 }
+
+static hv_table_span span_of(const hv::Bytes &bytes) { return {bytes.data(), bytes.size()}; }
 
 // A file of these parts, with bytes after the columns, and with its number of rows in these bytes.
 static hv::Bytes file_of(uint64_t version, const hv::Bytes &rows, const std::vector<Part> &parts,
                          const hv::Bytes &after) {
-    hv::Bytes bytes = hv::detail::head_of_table(version), footer{8};
-    footer.insert(footer.end(), rows.begin(), rows.end());
+    hv::Bytes footer_front{8};
+    hv::detail::Buffer bytes, footer;
+    footer_front.insert(footer_front.end(), rows.begin(), rows.end());
+    hv_buffer_put(footer.raw(), footer_front.data(), footer_front.size());
+    hv_table_put_head(bytes.raw(), version);
     for (const Part &part : parts) {
-        hv::detail::put_sized(bytes, hv::detail::column_field, part.message);
-        hv::detail::put_sized(footer, 2, part.footer);
+        hv_table_put_sized(bytes.raw(), 3, span_of(part.message));
+        hv_table_put_sized(footer.raw(), 2, span_of(part.footer));
     }
-    bytes.insert(bytes.end(), after.begin(), after.end());
-    hv::detail::put_sized(bytes, hv::detail::footer_field, footer);
-    bytes.push_back(hv::detail::tail_key);
-    hv::detail::put_low_bytes(bytes, static_cast<hv::detail::Wide>(footer.size()), 8);
-    return bytes;
+    hv_buffer_put(bytes.raw(), after.data(), after.size());
+    hv_table_put_sized(bytes.raw(), 4, span_of(footer.bytes()));
+    const uint64_t size = footer.bytes().size();
+    hv::Bytes file = bytes.bytes();
+    file.push_back(0x29);
+    for (int byte = 0; byte < 8; byte++) file.push_back(static_cast<uint8_t>(size >> (8 * byte)));
+    return file;
 }
 
 static bool is_table(const hv::Bytes &bytes) {
@@ -382,28 +394,27 @@ static bool is_table(const hv::Bytes &bytes) {
 }
 
 static void check_parts_of_files() {
-    using namespace hv::detail;
     const hv::NamedColumn named("a", Column::of<int8_t>({1, 2}));
-    const Part part = part_of(named, 1, kept_rows, named.column.to_bytes());
+    const Part part = part_of(named, 1, HV_TABLE_KEPT_ROWS, named.column.to_bytes());
     CHECK(file_of(1, {2}, {part}, {}) == Table{named.clone()}.to_bytes());
     CHECK(!is_table(file_of(1, {0x82, 0}, {part}, {}))); // a longer varint
     CHECK(!is_table(file_of(1, {3}, {part}, {})) && !is_table(file_of(1, {2}, {part, part}, {}))); // a name twice
     CHECK(!is_table(file_of(1, {2}, {part}, {0x1a, 0})) && is_table(file_of(1, {0x80, 1}, {}, {})));
-    const Part second = part_of(named, 2, kept_rows, named.column.to_bytes());
+    const Part second = part_of(named, 2, HV_TABLE_KEPT_ROWS, named.column.to_bytes());
     CHECK(!is_table(file_of(2, {2}, {second}, {})) && !is_table(file_of(2, {2}, {part}, {})));
-    const auto in_differences = [](const Column &column, int64_t each, KeptForm kept) {
+    const auto in_differences = [](const Column &column, int64_t each, uint8_t kept) {
         const Column differences = Column::of({each, each}).encode_rows();
         return file_of(2, {2}, {part_of({"a", column}, 2, kept, differences.to_bytes())}, {});
     };
-    CHECK(is_table(in_differences(Column::of<int8_t>({1, 2}), 1, kept_flat)));
-    CHECK(is_table(in_differences(Column::of<int8_t>({1, 2}), 1, kept_runs)));
-    CHECK(!is_table(in_differences(Column::of<int8_t>({1, 2}), 1, static_cast<KeptForm>(3))));
-    CHECK(!is_table(in_differences(Column::of<int8_t>({100, -56}), 100, kept_flat))); // 200 does not fit
-    CHECK(!is_table(in_differences(Column::of<int8_t>({100, -56}), 100, kept_runs)));
+    CHECK(is_table(in_differences(Column::of<int8_t>({1, 2}), 1, HV_TABLE_KEPT_FLAT)));
+    CHECK(is_table(in_differences(Column::of<int8_t>({1, 2}), 1, HV_TABLE_KEPT_RUNS)));
+    CHECK(!is_table(in_differences(Column::of<int8_t>({1, 2}), 1, 3)));
+    CHECK(!is_table(in_differences(Column::of<int8_t>({100, -56}), 100, HV_TABLE_KEPT_FLAT))); // 200 does not fit
+    CHECK(!is_table(in_differences(Column::of<int8_t>({100, -56}), 100, HV_TABLE_KEPT_RUNS)));
     Part longer = part;
-    put_number(longer.footer, 7, 0);
+    longer.footer.insert(longer.footer.end(), {7 * 8, 0});
     check_refused(HV_BAD_METADATA, "x, of 73 bytes, is not the file of a table",
-                  [&] { read_footer(hv::StoredFile(file_of(1, {2}, {longer}, {}), "x")); });
+                  [&] { hv::detail::read_footer(hv::StoredFile(file_of(1, {2}, {longer}, {}), "x")); });
 }
 
 // ---- Arrow ----
