@@ -417,6 +417,9 @@ static void check_refusals() {
                   [&] { (void)cents.combine(Pairing::lesser, whole); });
     check_refused(HV_CAST_OUT_OF_RANGE, 0, "row 0 is 5.00, which does not fit decimal(38, 126)",
                   [&] { (void)(cents + Decimal::of(1, 126)); });
+    // at one scale nothing is cast: no row is tested against its precision
+    const Column past = Column::decimals(std::vector<hv_pair>{{12345, 0}}, 3, 2) + cents;
+    CHECK(hv::to_string(past.at(0)) == "128.45" && hv::to_string(past.kind()) == "decimal(5, 2)");
     const hv::Column sum = cents + Decimal::of(10, 4), difference = 1 - cents;
     CHECK(hv::to_string(sum.at(0)) == "5.001" && hv::to_string(sum.kind()) == "decimal(6, 3)");
     CHECK(hv::to_string(difference.kind()) == "decimal(5, 2)" && hv::to_string(difference.at(0)) == "-4.00");

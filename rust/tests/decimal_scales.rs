@@ -327,7 +327,7 @@ fn check_joined(dice: &mut Dice, sides: [&Column; 2], left: &Rows, right: &Rows)
 fn two_columns_of_any_scales() {
     let mut dice = Dice(31);
     let mut refused = 0;
-    for _ in 0..3000 {
+    for _ in 0..1500 {
         let count = dice.below(16);
         let mut left = Rows::random(&mut dice, count, None);
         let a = left.column(dice.below(4));
@@ -341,13 +341,13 @@ fn two_columns_of_any_scales() {
         check_joined(&mut dice, [&a, &b], &left, &right);
         refused += usize::from(at_one_type(&[&left, &right]).is_err());
     }
-    assert!((150..2000).contains(&refused), "{refused}");
+    assert!((80..1000).contains(&refused), "{refused}");
 }
 
 #[test]
 fn columns_are_compared_with_numbers_of_any_scale() {
     let mut dice = Dice(37);
-    for _ in 0..3000 {
+    for _ in 0..1500 {
         let count = 1 + dice.below(8);
         let mut rows = Rows::random(&mut dice, count, None);
         let column = rows.column(dice.below(4));
@@ -475,6 +475,10 @@ fn refusals_come_in_the_order_of_one_type() {
     for error in mismatched.map(Result::unwrap_err) {
         assert_eq!(error.kind(), Some(ErrorKind::TypeMismatch));
     }
+    // at one scale nothing is cast: no row is tested against its precision
+    let past = one(12_345, 3, 2).checked_add(&cents).unwrap();
+    assert_eq!(past.kind(), Kind::decimal(5, 2));
+    assert_eq!(past.at(0).unwrap().to_string(), "128.45");
     let refused = one(1500, 4, 2).cast(Kind::decimal(2, 2)).unwrap_err();
     assert_eq!((refused.fields.first, refused.fields.second), (0, 0));
     let refused = one(1505, 4, 2).cast(Kind::I64).unwrap_err();
