@@ -56,7 +56,8 @@ static inline int32_t hv_table_find_footer(const hv_table_footer *footer, const 
 /* ---- Written ---- */
 
 enum { HV_TABLE_COLUMN_FIELD = 3, HV_TABLE_FOOTER_FIELD = 4, HV_TABLE_SIZE_FIELD = 5 };
-enum { HV_TABLE_HEAD_BYTES = 13, HV_TABLE_TAIL_BYTES = 9, HV_TABLE_TAIL_KEY = HV_TABLE_SIZE_FIELD * 8 + HV_TABLE_FIXED };
+enum { HV_TABLE_HEAD_BYTES = 13, HV_TABLE_TAIL_BYTES = 9 };
+enum { HV_TABLE_TAIL_KEY = HV_TABLE_SIZE_FIELD * 8 + HV_TABLE_FIXED };
 
 /* A column as it is written: its name, its logical type and its rows, which are lent. */
 typedef struct hv_table_part {

@@ -1,4 +1,5 @@
-// What is asked of the groups of a table, over hivevigil_table_groups.h: a part of hivevigil_table.hpp, which includes it.
+// What is asked of the groups of a table, over hivevigil_table_groups.h: a part of hivevigil_table.hpp, which includes
+// it.
 //
 //     table.group_by({"station"}).agg({{"readings", hv::Fold::rows}, {"highest", hv::Fold::greatest, "level"}});
 #ifndef HIVEVIGIL_TABLE_GROUPS_HPP

@@ -1,6 +1,6 @@
-/* Reads tables as bytes, a line of hexadecimal digits each, and answers a line each: "refused", "zero" for a table with
- * a zero byte in a name or a logical type, which C's texts do not have, or the number of rows, for each column its name,
- * its logical type and its message, and then the bytes that the table is written as again, as rows, and with
+/* Reads tables as bytes, a line of hexadecimal digits each, and answers a line each: "refused", "zero" for a table
+ * with a zero byte in a name or a logical type, which C's texts do not have, or the number of rows, for each column its
+ * name, its logical type and its message, and then the bytes that the table is written as again, as rows, and with
  * differences, all in hexadecimal digits.
  *
  *     cc table_reader.c $(pkg-config --cflags --libs hivevigil) -o table_reader */

@@ -76,7 +76,8 @@ static void check_described_column(char *words, const char *name, const hv_colum
     char *const found_name = strtok(words, " "), *const type = strtok(NULL, " "), *const form = strtok(NULL, " ");
     const hv_kind kind = hv_kind_of(column);
     CHECK(!strcmp(found_name, name));
-    CHECK(!strncmp(type, types[kind.number], strlen(types[kind.number])) && (strchr(type, '?') != NULL) == kind.nullable);
+    CHECK(!strncmp(type, types[kind.number], strlen(types[kind.number])));
+    CHECK((strchr(type, '?') != NULL) == kind.nullable);
     CHECK(hv_form(column) == (!strcmp(form, "flat") ? HV_FORM_FLAT : HV_FORM_RUNS));
     CHECK_ROWS(column, form + strlen(form) + 1);
 }
@@ -172,13 +173,26 @@ static void check_documented(void) {
 static hv_table kept = HV_TABLE_EMPTY; /* stays after a refusal */
 static long with_zeros = 0;            /* tables that have a zero byte in a name or a logical type */
 
+static bool is_text(const char *text) {
+    const int32_t offsets[] = {0, (int32_t)strlen(text)};
+    hv_column column = HV_EMPTY;
+    const int32_t answer = hv_texts(0, offsets, 2, (const uint8_t *)text, strlen(text), NOT_NULLABLE, &column, &error);
+    hv_free(&column);
+    return !answer;
+}
+
 /* Bytes are refused, or are those of a table that is written so. */
 static bool is_refused_table(const uint8_t *bytes, size_t size) {
     const hv_column *const columns = kept.columns;
     FILL(error);
     const int32_t answer = hv_table_from_bytes(bytes, size, &kept, &error);
     if (!answer) {
-        CHECK(is_written(&kept, 0, bytes, size) || is_written(&kept, 1, bytes, size));
+        const bool is_second = bytes[12] == 2; /* of which the writer chooses what is kept as differences */
+        CHECK(is_second || is_written(&kept, 0, bytes, size));
+        for (size_t i = 0; i < kept.count; i++) {
+            CHECK(is_text(kept.names[i]) && is_text(kept.logical_types[i]));
+            CHECK(hv_length(&kept.columns[i]) == kept.rows);
+        }
         make_times(&kept);
         return false;
     }
@@ -206,8 +220,7 @@ static void check_damaged(const uint8_t *whole, size_t size, long *refused_files
         }
 }
 
-/* A file with one part in another spelling: as many bytes as are left out at a place are put there or not, and the sizes
- * around it are changed. */
+/* A file in which bytes at a place are left out, and others are put there; sizes stay. Its size. */
 static size_t replaced(const uint8_t *from, size_t size, size_t at, size_t out, const char *in, uint8_t *to) {
     uint8_t bytes[64];
     const size_t count = bytes_of(in, bytes);
@@ -265,6 +278,119 @@ static void check_names_twice(void) {
     hv_table_free(&table);
     hv_free(&pair[0]);
     hv_free(&pair[1]);
+}
+
+/* ---- Files of one column in differences, put together ---- */
+
+static void put_message(hv_buffer *out, unsigned field, const hv_column *column) {
+    uint8_t bytes[512];
+    size_t size = 0;
+    CHECK(!hv_write(column, bytes, sizeof bytes, &size, &error));
+    hv_table_put_sized(out, field, (hv_table_span){bytes, size});
+}
+
+/* A table of rows that have these differences, in this form, and these bounds, in this number of runs. */
+static void put_differences(hv_buffer *out, const hv_column *differences, const hv_column *bounds, uint64_t runs,
+                            uint8_t form) {
+    hv_buffer column = HV_BUFFER_EMPTY, footer = HV_BUFFER_EMPTY;
+    size_t size = 0;
+    out->size = 0;
+    CHECK(!hv_write_size(differences, &size, &error));
+    hv_table_put_head(out, 2);
+    put_message(out, 3, differences);
+    hv_table_put_sized(&column, 1, hv_table_span_of("a"));
+    hv_table_put_sized(&column, 2, hv_table_span_of(""));
+    hv_table_put_number(&column, 3, size);
+    hv_table_put_number(&column, 4, 0);
+    hv_table_put_number(&column, 5, runs);
+    put_message(&column, 6, bounds);
+    hv_table_put_number(&column, 7, form);
+    hv_table_put_number(&footer, 1, hv_length(differences));
+    hv_table_put_sized(&footer, 2, (hv_table_span){column.at, column.size});
+    hv_table_put_sized(out, 4, (hv_table_span){footer.at, footer.size});
+    const uint64_t footer_size = footer.size;
+    hv_buffer_put(out, "\x29", 1);
+    hv_buffer_put(out, &footer_size, 8);
+    hv_buffer_free(&column);
+    hv_buffer_free(&footer);
+}
+
+/* `rows` equal differences in one run, as they are written, or with one run more than there has to be. */
+static void make_differences(int64_t each, uint64_t rows, bool is_fewest, hv_column *out) {
+    const uint64_t ends[] = {rows - 1, rows};
+    const int64_t values[] = {each, each};
+    hv_column parts[2] = {HV_EMPTY, HV_EMPTY}, runs = HV_EMPTY;
+    CHECK(!hv_u64(ends, 2, NOT_NULLABLE, &parts[0], &error) && !hv_i64(values, 2, NOT_NULLABLE, &parts[1], &error));
+    CHECK(!hv_runs(&parts[0], &parts[1], 0, rows, &runs, &error));
+    if (is_fewest) CHECK(!hv_encode_rows(&runs, out, &error));
+    else CHECK(!hv_clone(&runs, out, &error));
+    hv_free(&parts[0]);
+    hv_free(&parts[1]);
+    hv_free(&runs);
+}
+
+static void check_steps(const hv_buffer *bytes, int32_t each, uint64_t rows, uint8_t form) {
+    const uint64_t places[] = {0, rows / 2, rows - 1};
+    hv_table table = HV_TABLE_EMPTY;
+    CHECK(!hv_table_from_bytes(bytes->at, bytes->size, &table, &error) && table.rows == rows && table.count == 1);
+    CHECK(hv_form(&table.columns[0]) == (form == HV_TABLE_KEPT_FLAT ? HV_FORM_FLAT : HV_FORM_RUNS));
+    for (size_t i = 0; i < COUNT(places); i++) {
+        hv_value value;
+        CHECK(!hv_at(&table.columns[0], places[i], &value, NO_TEXT_ROOM, &error));
+        CHECK(value.kind == HV_SIGNED && value.as_signed == each * (int64_t)(places[i] + 1));
+    }
+    hv_table_free(&table);
+}
+
+/* Is a table refused of rows of i32, each of them the one before and this much? */
+static bool is_refused_steps(int32_t each, uint64_t rows, uint8_t form, bool is_fewest, size_t bounds_rows) {
+    const int32_t last = (int32_t)(each * (int64_t)rows), before = (int32_t)(each * (int64_t)(rows - 1));
+    const int32_t least = each < last ? each : last, greatest = each < last ? last : each; /* also past 2^31 */
+    const int32_t ends[] = {before < least ? before : least, before > greatest ? before : greatest, 0};
+    hv_column differences = HV_EMPTY, bounds = HV_EMPTY;
+    hv_buffer bytes = HV_BUFFER_EMPTY;
+    hv_table_footer footer = HV_TABLE_FOOTER_EMPTY;
+    make_differences(each, rows, is_fewest, &differences);
+    CHECK(!hv_i32(ends, bounds_rows, NOT_NULLABLE, &bounds, &error));
+    put_differences(&bytes, &differences, &bounds, each ? rows : 1, form);
+    const bool is_refused = is_refused_table(bytes.at, bytes.size);
+    if (!is_refused) check_steps(&bytes, each, rows, form);
+    const hv_stored_file file = hv_stored_bytes(bytes.at, bytes.size);
+    const int32_t answer = hv_table_footer_of(&file, &footer, &error);
+    CHECK(!answer || answer == HV_BAD_METADATA);
+    CHECK((answer != 0) == (bounds_rows != 2)); /* the end says nothing that it could not say of rows */
+    hv_table_footer_free(&footer);
+    hv_free(&differences);
+    hv_free(&bounds);
+    hv_buffer_free(&bytes);
+    return is_refused;
+}
+
+/* Version 2, in which no column is in differences, is not written. */
+static void check_no_differences(void) {
+    const int64_t both[] = {7, 7};
+    hv_column column = HV_EMPTY, bounds = HV_EMPTY;
+    hv_buffer bytes = HV_BUFFER_EMPTY;
+    make_differences(7, 1000, true, &column);
+    CHECK(!hv_i64(both, 2, NOT_NULLABLE, &bounds, &error));
+    put_differences(&bytes, &column, &bounds, 1, HV_TABLE_KEPT_ROWS);
+    CHECK(is_refused_table(bytes.at, bytes.size));
+    hv_free(&column);
+    hv_free(&bounds);
+    hv_buffer_free(&bytes);
+}
+
+static void check_differences(void) {
+    const uint64_t most = (uint64_t)1 << 26;
+    CHECK(!is_refused_steps(7, 1000, HV_TABLE_KEPT_FLAT, true, 2));
+    CHECK(!is_refused_steps(-7, 1000, HV_TABLE_KEPT_RUNS, true, 2));
+    CHECK(is_refused_steps(7, 1000, HV_TABLE_KEPT_FLAT, false, 2)); /* in two runs, and one would do */
+    CHECK(is_refused_steps(7, 1000, HV_TABLE_KEPT_FLAT, true, 1) && is_refused_steps(7, 1000, 1, true, 3));
+    CHECK(is_refused_steps(1 << 22, 512, HV_TABLE_KEPT_FLAT, true, 2)); /* 2^31 is not an i32 */
+    CHECK(!is_refused_steps(1 << 22, 511, HV_TABLE_KEPT_FLAT, true, 2));
+    CHECK(!is_refused_steps(-(1 << 22), 512, HV_TABLE_KEPT_RUNS, true, 2)); /* -2^31 is one */
+    CHECK(is_refused_steps(1, most + 1, HV_TABLE_KEPT_RUNS, true, 2) && is_refused_steps(0, most + 1, 1, true, 2));
+    CHECK(!is_refused_steps(0, most + 1, HV_TABLE_KEPT_RUNS, true, 2)); /* one run */
 }
 
 /* A name with a zero byte is one of other languages: its footer is read. */
@@ -383,11 +509,12 @@ static void check_pipe(void) {
  * name   "b" null "c" "b"
  * price  0.5 -1.5 2.5 0.5  floats of 32 bits
  * odd    NaN 1 1 1         floats of 64 bits
+ * low    -NaN 1 1 1
  * none   null null null null
  * lists  [1] [] [1] [] */
 static void make_readings(hv_table *table) {
-    const char *const names[] = {"level", "name", "price", "odd", "none", "lists"};
-    const char *const formats[] = {"", "", "f", "g", "", ""};
+    const char *const names[] = {"level", "name", "price", "odd", "none", "lists", "low"};
+    const char *const formats[] = {"", "", "f", "g", "", "", "g"};
     const int16_t levels[] = {3, 8, 0, 5};
     const int32_t offsets[] = {0, 1, 1, 2, 3};
     const uint8_t levels_valid[] = {0x0B}, names_valid[] = {0x0D}, none[] = {0}, items[] = {1};
@@ -396,7 +523,7 @@ static void make_readings(hv_table *table) {
     const uint64_t starts[4] = {0}, sizes[] = {1, 0, 1, 0};
     uint32_t price_bits[4];
     uint64_t odd_bits[4];
-    hv_column columns[6] = {HV_EMPTY}, flat = HV_EMPTY;
+    hv_column columns[7] = {HV_EMPTY}, flat = HV_EMPTY;
     memcpy(price_bits, prices, sizeof prices);
     memcpy(odd_bits, odd, sizeof odd);
     odd_bits[0] = 0x7FF8000000000000;
@@ -404,11 +531,13 @@ static void make_readings(hv_table *table) {
     CHECK(!hv_texts(0, offsets, 5, (const uint8_t *)"bcb", 3, NULLS_BY(names_valid, 0), &columns[1], &error));
     CHECK(!hv_u32(price_bits, 4, NOT_NULLABLE, &flat, &error) && !hv_float_encode(&flat, 0, &columns[2], &error));
     CHECK(!hv_u64(odd_bits, 4, NOT_NULLABLE, &flat, &error) && !hv_float_encode(&flat, 0, &columns[3], &error));
+    odd_bits[0] |= (uint64_t)1 << 63;
+    CHECK(!hv_u64(odd_bits, 4, NOT_NULLABLE, &flat, &error) && !hv_float_encode(&flat, 0, &columns[6], &error));
     CHECK(!hv_i16(levels, 4, NULLS_BY(none, 0), &columns[4], &error));
     CHECK(!hv_u8(items, 1, NOT_NULLABLE, &flat, &error));
     CHECK(!hv_lists(&flat, starts, 4, sizes, 4, NOT_NULLABLE, &columns[5], &error));
-    CHECK(!hv_table_new(names, formats, columns, 6, table, &error));
-    for (int i = 0; i < 6; i++) hv_free(&columns[i]);
+    CHECK(!hv_table_new(names, formats, columns, 7, table, &error));
+    for (int i = 0; i < 7; i++) hv_free(&columns[i]);
     hv_free(&flat);
 }
 
@@ -427,8 +556,8 @@ static void check_conditions(const hv_table_footer *footer, const char *column, 
             const hv_value value = {0, half, HV_SIGNED, 0};
             const hv_table_condition asked = {column, operator_, is_float ? NULL : &value, NULL, 0, number};
             const bool is_within = number >= least && number <= greatest;
-            const bool due = operator_ == HV_EQ ? is_within
-                                                : compares(operator_, least, number) || compares(operator_, greatest, number);
+            const bool is_bound = compares(operator_, least, number) || compares(operator_, greatest, number);
+            const bool due = operator_ == HV_EQ ? is_within : is_bound;
             uint8_t truth = 9;
             CHECK(!hv_table_may_have(&session, footer, &asked, &truth, &error));
             CHECK(truth == due);
@@ -449,7 +578,7 @@ static void check_footers(void) {
     uint8_t truth = 9;
     make_readings(&table);
     CHECK(!hv_table_save(&table, path, 0, &error) && !hv_table_load_footer(path, &footer, &error));
-    CHECK(footer.rows == 4 && footer.count == 6 && !strcmp(footer.columns[2].logical_type, "f"));
+    CHECK(footer.rows == 4 && footer.count == 7 && !strcmp(footer.columns[2].logical_type, "f"));
     CHECK(footer.columns[0].nulls == 1 && footer.columns[0].runs == 4 && footer.columns[3].runs == 2);
     CHECK_ROWS(&footer.columns[0].bounds, "3 8");
     CHECK_ROWS(&footer.columns[1].bounds, "\"b\" \"c\"");
@@ -458,6 +587,7 @@ static void check_footers(void) {
     check_conditions(&footer, "price", -1.5, 2.5, true);
     for (uint8_t by = HV_EQ; by <= HV_LE; by++) {
         CHECK(may_have(&footer, (hv_table_condition){"odd", by, NULL, NULL, 0, 7}));
+        CHECK(may_have(&footer, (hv_table_condition){"low", by, NULL, NULL, 0, 7}));
         CHECK(!may_have(&footer, (hv_table_condition){"none", by, &nine, NULL, 0, 0}));
         CHECK(!may_have(&footer, (hv_table_condition){"level", by, &null, NULL, 0, 0}));
         CHECK(may_have(&footer, (hv_table_condition){"lists", by, &nine, NULL, 0, 0}));
@@ -528,7 +658,7 @@ static long refuse_each(int32_t (*call)(void)) {
         tried++;
         CHECK(answer == HV_OUT_OF_MEMORY || !answer);
         if (!answer) continue;
-        CHECK(blocks == before && out.rows == 1 && out.count == 6 && read_end.rows == 0);
+        CHECK(blocks == before && out.rows == 1 && out.count == 7 && read_end.rows == 0);
         CHECK(has_bytes(&written, (const uint8_t *)"kept", 4));
         CHECK_ROWS(&out.columns[1], "\"b\"");
     }
@@ -564,6 +694,8 @@ int main(int count, char **given) {
     CHECK(with_zeros == (long)strlen("day" "tdD" "place" "at" "tss:UTC")); /* each letter once */
     check_spellings();
     check_names_twice();
+    check_differences();
+    check_no_differences();
     check_files();
     check_zero_byte(path);
     check_refused_files();

@@ -1,5 +1,5 @@
-/* Groups of tables in C: random tables of every type and form against plain loops over their rows, each refusal with its
- * fields, and each request for memory refused in turn (linked with the malloc of refusing_malloc.h). */
+/* Groups of tables in C: random tables of every type and form against plain loops over their rows, each refusal with
+ * its fields, and each request for memory refused in turn (linked with the malloc of refusing_malloc.h). */
 #include "hivevigil_table_groups.h"
 #include "refusing_malloc.h"
 #include "table_rows.h"
@@ -112,8 +112,10 @@ static void check_answers(const hv_table *found, const size_t *places, size_t ke
     for (size_t group = 0; group < groups; group++) {
         const size_t start = group ? stops[group - 1] : 0;
         const plain_row due = answer_of(asked, fold, start, stops[group]);
-        for (size_t i = 0; i < keys; i++)
-            check_value(&found->columns[i], group, &plain.columns[places[i]].rows[start], plain.columns[places[i]].kind);
+        for (size_t i = 0; i < keys; i++) {
+            const plain_column *const key = &plain.columns[places[i]];
+            check_value(&found->columns[i], group, &key->rows[start], key->kind);
+        }
         check_value(answers, group, &due, kind);
     }
     for (size_t i = 0; i < keys; i++) {
@@ -156,15 +158,17 @@ static bool check_random(const hv_table *table) {
 /* station  1 1 2 2 2 1
  * level    7 null 2^63-1 1 null 3
  * text     "b" "a" null null null ""
- * price    1.5 NaN 0.5 -0.5 0.5 null   (64 bits) */
+ * price    1.5 NaN 0.5 -0.5 0.5 null   (64 bits)
+ * low      1.5 -NaN 0.5 -0.5 0.5 null */
 static void make_readings(hv_table *table) {
-    const char *const names[] = {"station", "level", "text", "price"}, *const formats[] = {"", "", "", "g"};
+    const char *const names[] = {"station", "level", "text", "price", "low"};
+    const char *const formats[] = {"", "", "", "g", "g"};
     const uint8_t stations[] = {1, 1, 2, 2, 2, 1};
     const int64_t levels[] = {7, 0, INT64_MAX, 1, 0, 3};
     const uint8_t levels_valid[] = {0x2D}, texts_valid[] = {0x23}, prices_valid[] = {0x1F};
     const int32_t offsets[] = {0, 1, 2, 2, 2, 2, 2};
     const double prices[] = {1.5, 0, 0.5, -0.5, 0.5, 0};
-    hv_column columns[4] = {HV_EMPTY, HV_EMPTY, HV_EMPTY, HV_EMPTY}, flat = HV_EMPTY;
+    hv_column columns[5] = {HV_EMPTY}, flat = HV_EMPTY;
     uint64_t bits[6];
     memcpy(bits, prices, sizeof bits);
     bits[1] = 0x7FF8000000000000;
@@ -173,8 +177,11 @@ static void make_readings(hv_table *table) {
     CHECK(!hv_texts(0, offsets, 7, (const uint8_t *)"ba", 2, NULLS_BY(texts_valid, 0), &columns[2], &error));
     CHECK(!hv_u64(bits, 6, NULLS_BY(prices_valid, 0), &flat, &error));
     CHECK(!hv_float_encode(&flat, 0, &columns[3], &error));
-    CHECK(!hv_table_new(names, formats, columns, 4, table, &error));
-    for (int i = 0; i < 4; i++) hv_free(&columns[i]);
+    bits[1] |= (uint64_t)1 << 63;
+    CHECK(!hv_u64(bits, 6, NULLS_BY(prices_valid, 0), &flat, &error));
+    CHECK(!hv_float_encode(&flat, 0, &columns[4], &error));
+    CHECK(!hv_table_new(names, formats, columns, 5, table, &error));
+    for (int i = 0; i < 5; i++) hv_free(&columns[i]);
     hv_free(&flat);
 }
 
@@ -210,7 +217,7 @@ static void check_refusals(const hv_table *table) {
     static const hv_table_answer names[] = {{"a", HV_FOLD_ROWS, NULL}, {"station", HV_FOLD_ROWS, NULL}};
     static const hv_table_answer none[] = {{"a", HV_FOLD_LAST, "to"}}, bad[] = {{"a", HV_FOLD_LAST + 1, "level"}};
     static const hv_table_answer text[] = {{"a", HV_FOLD_SUM, "text"}}, nan[] = {{"a", HV_FOLD_LEAST, "price"}};
-    static const hv_table_answer bytes[] = {{"\xff", HV_FOLD_ROWS, NULL}};
+    static const hv_table_answer bytes[] = {{"\xff", HV_FOLD_ROWS, NULL}}, low[] = {{"a", HV_FOLD_GREATEST, "low"}};
     const char *const twice[] = {"text", "station", "text"}, *const gone[] = {"to"};
     hv_table out = HV_TABLE_EMPTY;
     CHECK(!hv_table_slice(&session, table, 0, 1, &out, &error));
@@ -222,9 +229,10 @@ static void check_refusals(const hv_table *table) {
     CHECK_REFUSED(hv_table_group_by(&session, table, station, 1, sum, 2, &out, &error), HV_CAST_OUT_OF_RANGE, 1, 0, 0);
     CHECK_REFUSED(hv_table_group_by(&session, table, station, 1, text, 1, &out, &error), HV_UNSUPPORTED, 0, 0, 0);
     CHECK_REFUSED(hv_table_group_by(&session, table, station, 1, nan, 1, &out, &error), HV_UNSUPPORTED, 0, 0, 0);
+    CHECK_REFUSED(hv_table_group_by(&session, table, station, 1, low, 1, &out, &error), HV_UNSUPPORTED, 0, 0, 0);
     CHECK(hv_table_group_by(&session, table, station, 1, bad, 1, &out, &error) == HV_BAD_NUMBER);
     CHECK(hv_table_group_by(&session, table, station, 1, bytes, 1, &out, &error) == HV_TYPE_MISMATCH);
-    CHECK(out.rows == 1 && out.count == 4);
+    CHECK(out.rows == 1 && out.count == 5);
     hv_table_free(&out);
 }
 
@@ -271,7 +279,7 @@ static void check_memory(const hv_table *table) {
         }
         tried++;
         CHECK(answer == HV_OUT_OF_MEMORY || !answer);
-        if (answer) CHECK(blocks == before && out.rows == 1 && out.count == 4);
+        if (answer) CHECK(blocks == before && out.rows == 1 && out.count == 5);
     }
     CHECK(tried > 100);
     printf("%ld requests for memory refused\n", tried);
