@@ -18,7 +18,7 @@ typedef struct plain_row {
 typedef struct plain_column {
     hv_kind kind;
     const char *format; /* logical type */
-    char name[8];
+    char name[2];
     plain_row rows[MOST_ROWS];
 } plain_column;
 
@@ -265,7 +265,7 @@ static void random_table(plain_table *plain, hv_table *out) {
         plain_column *const column = &plain->columns[i];
         memset(column, 0, sizeof *column);
         random_column_type(column);
-        snprintf(column->name, sizeof column->name, "c%zu", i);
+        column->name[0] = (char)('a' + (int)i);
         fill_rows(column, plain->rows);
         make_column(column, plain->rows, &columns[i]);
         names[i] = column->name;
