@@ -11,7 +11,7 @@ from draws import MOST_DIGITS, PRECISIONS, SCALES, TOO_MANY, decimal, precision_
 from pairs import ARITHMETIC, PICKS, choose, pick
 from words import INTEGERS, Row, Type
 from writer import (
-    OTHER_TYPE, UNSUPPORTED, Column, Outcome, Refusal, Writer, all_constant, answer, lengths_differ, overflow,
+    OTHER_TYPE, UNSUPPORTED, Column, Outcome, Refusal, Writer, all_constant, lengths_differ, overflow,
 )
 
 Has = Callable[[int], bool]
@@ -84,7 +84,7 @@ def decimal_numeric(writer: Writer, left: Column, operation: str, right: Column)
     """Writes a line of `decimal_numeric`."""
     type, outcome = numeric_outcome(left, operation, right)
     work = f"decimal_numeric {left.name} {operation} {right.name}"
-    answer(writer, work, (left, right), outcome, type, all_constant(left, right))
+    writer.answer(work, (left, right), outcome, type, all_constant(left, right))
 
 
 def rescale(writer: Writer, asked: Column, precision: int, scale: int) -> None:
@@ -93,7 +93,7 @@ def rescale(writer: Writer, asked: Column, precision: int, scale: int) -> None:
     if asked.type.is_decimal:
         outcome = rescaled(asked.rows, asked.type.kind[1], scale, partial(has_digits, precision))
     work = f"rescale decimal({precision},{scale}) {asked.name}"
-    answer(writer, work, (asked,), outcome, Type((precision, scale), asked.type.nullable))
+    writer.answer(work, (asked,), outcome, Type((precision, scale), asked.type.nullable))
 
 
 def decimals_of(writer: Writer, asked: Column, precision: int, scale: int) -> None:
@@ -102,7 +102,7 @@ def decimals_of(writer: Writer, asked: Column, precision: int, scale: int) -> No
     if asked.type.is_integer:
         outcome = rescaled(asked.rows, 0, scale, partial(has_digits, precision))
     work = f"decimals_of decimal({precision},{scale}) {asked.name}"
-    answer(writer, work, (asked,), outcome, Type((precision, scale), asked.type.nullable))
+    writer.answer(work, (asked,), outcome, Type((precision, scale), asked.type.nullable))
 
 
 def integers_of(writer: Writer, asked: Column, kind: str) -> None:
@@ -110,7 +110,7 @@ def integers_of(writer: Writer, asked: Column, kind: str) -> None:
     outcome: Outcome = UNSUPPORTED
     if asked.type.is_decimal:
         outcome = rescaled(asked.rows, asked.type.kind[1], 0, partial(has_integer, kind))
-    answer(writer, f"integers_of {kind} {asked.name}", (asked,), outcome, Type(kind, asked.type.nullable))
+    writer.answer(f"integers_of {kind} {asked.name}", (asked,), outcome, Type(kind, asked.type.nullable))
 
 
 def sum_decimals(writer: Writer, asked: Column) -> None:

@@ -109,7 +109,8 @@ def compare_case(writer: Writer) -> None:
 def compare(writer: Writer, asked: FloatColumn, verb: str, operation: str, other: int) -> None:
     """Writes a line that compares rows with a float, and lines that look at the answer."""
     format, type = asked.format, Type("bool", asked.nullable)
-    truths = [None if row is None else holds_of(format, verb, operation, row, other) for row in asked.rows]
+    holds = floats.holds if verb == "compare_numbers" else floats.holds_in_order
+    truths = [None if row is None else holds(format, operation, row, other) for row in asked.rows]
     line = f"m = {verb} {operation} {format} {spelled(writer.random, format, other)} v"
     refuse = asked.is_flat and writer.happens(0.15)
     writer.say(f"refuse {line}" if refuse else line, "ok memory" if refuse else "ok")
@@ -118,13 +119,6 @@ def compare(writer: Writer, asked: FloatColumn, verb: str, operation: str, other
     if asked.form in ("floats", "flat", "encoded") and writer.happens(0.5):
         is_null = truths and all(truth is None for truth in truths)
         writer.say("m form", constant_form(type, None, len(truths)) if is_null else flat_form(type, truths))
-
-
-def holds_of(format: Format, verb: str, operation: str, row: int, other: int) -> bool:
-    """Says whether a comparison holds of two floats, of their numbers or in the total order."""
-    if verb == "compare_numbers":
-        return floats.holds(format, operation, row, other)
-    return COMPARISONS[operation](format.key(row), format.key(other))
 
 
 def make_each(writer: Writer, line: str, form: str, rows: Rows, one: Callable[[int], int], show: Show) -> None:
@@ -266,11 +260,8 @@ def encode_case(writer: Writer) -> None:
         writer.say("y rows", shown(made))
         writer.say("y type", str(type))
 
-    def canonical(row: int) -> int:
-        return 0 if row == format.sign else format.quiet_nan if format.is_nan(row) else row
-
     make_each(writer, "x = encode_floats b", form, rows, lambda row: row, show)
-    make_each(writer, "x = canonical_floats b", form, rows, canonical, show)
+    make_each(writer, "x = canonical_floats b", form, rows, partial(floats.canonical, format), show)
 
 
 def order_case(writer: Writer) -> None:

@@ -13,7 +13,7 @@ from float_columns import bits, say_floats
 from floats import BY_KEY_KIND, F16, F32, F64, OPERATIONS, Format
 from words import Row, Type
 from writer import (
-    OTHER_TYPE, UNSUPPORTED, Column, Outcome, Writer, all_constant, answer, lengths_differ, look_at,
+    OTHER_TYPE, UNSUPPORTED, Column, Outcome, Writer, all_constant, lengths_differ, look_at,
 )
 
 WORKED = {format.key_kind: format for format in (F32, F64)}
@@ -90,7 +90,7 @@ def float_numeric(writer: Writer, left: Column, operation: str, right: Column, s
     work = f"float_numeric {left.name} {operation} {right.name}"
     type = Type(left.type.kind, left.type.nullable or right.type.nullable)
     look = partial(show, WORKED[left.type.kind]) if left.type.kind in WORKED else look_at
-    answer(writer, work, (left, right), outcome, type, all_constant(left, right), look)
+    writer.answer(work, (left, right), outcome, type, all_constant(left, right), look)
 
 
 def worked(left: Column, operation: str, right: Column) -> Outcome:

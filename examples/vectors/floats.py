@@ -183,7 +183,7 @@ def words(format: Format, rows: Iterable[int | None]) -> str:
 
 
 def read(format: Format, text: str) -> int | None:
-    """Returns the bits that a word of a float means, or None for null."""
+    """Returns the bits that a word of a float means, or None for null; one of `f16` is the nearest to that of `f64`."""
     if text == "null":
         return None
     if text == "nan":
@@ -191,7 +191,11 @@ def read(format: Format, text: str) -> int | None:
     minus = text.startswith("-")
     if text.endswith("inf"):
         return format.infinity + minus * format.sign
-    return int(text, 16) if text.startswith("0x") else format.nearest(Fraction(text), minus)
+    if text.startswith("0x"):
+        return int(text, 16)
+    if format is F16:
+        return rounded(F64, F16, F64.nearest(Fraction(text), minus))
+    return format.nearest(Fraction(text), minus)
 
 
 def cast(format: Format, to: Format, bits: int) -> int:
@@ -243,6 +247,16 @@ def holds(format: Format, operation: str, left: int, right: int) -> bool:
     if format.is_nan(left) or format.is_nan(right):
         return operation == "ne"
     return COMPARISONS[operation](format.value(left), format.value(right))
+
+
+def holds_in_order(format: Format, operation: str, left: int, right: int) -> bool:
+    """Says whether a comparison holds in the total order."""
+    return COMPARISONS[operation](format.key(left), format.key(right))
+
+
+def canonical(format: Format, bits: int) -> int:
+    """Returns the bits that stand for a value: 0.0 for both zeros, the quiet NaN for all."""
+    return 0 if bits == format.sign else format.quiet_nan if format.is_nan(bits) else bits
 
 
 def total(format: Format, rows: Iterable[int | None]) -> int:

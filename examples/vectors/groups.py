@@ -7,9 +7,7 @@ from typing import Callable
 from columns import column
 from draws import type_of
 from words import INTEGERS, Row, Type, least_unsigned, runs_of
-from writer import (
-    UNSUPPORTED, Column, Outcome, Refusal, Writer, answer_flat, answer_refused, lengths_differ, overflow,
-)
+from writer import UNSUPPORTED, Column, Outcome, Refusal, Writer, lengths_differ, overflow
 
 # By fold what it answers of the rows of a group that are not null, of which there is one at least.
 FOLDS: dict[str, Callable[[list[int]], int]] = {
@@ -56,17 +54,14 @@ def fold_by(writer: Writer, fold: str, values: Column, keys: Column) -> None:
     work, columns = f"fold {fold} {values.name} by {keys.name}", (values, keys)
     refusal = UNSUPPORTED if keys.type.is_list or not values.type.is_integer else lengths_differ(keys, values)
     if refusal:
-        return answer_refused(writer, f"z = {work}", columns, refusal)
+        return writer.answer_refused(work, columns, refusal)
     ends, group_keys = runs_of(keys.rows)
     if fold == "keys":
-        return answer_flat(writer, work, keys.type, group_keys)
+        return writer.answer_flat(work, columns, group_keys, keys.type)
     if fold == "ends":
-        return answer_flat(writer, work, Type(least_unsigned(len(keys.rows)), False), ends)
+        return writer.answer_flat(work, columns, ends, Type(least_unsigned(len(keys.rows)), False))
     type = fold_type(fold, values.type)
-    outcome = folded(fold, values.rows, ends, type)
-    if isinstance(outcome, Refusal):
-        return answer_refused(writer, f"z = {work}", columns, outcome)
-    answer_flat(writer, work, type, outcome)
+    writer.answer_flat(work, columns, folded(fold, values.rows, ends, type), type)
 
 
 def running(ends: list[int], values: list[Row], type: Type) -> Outcome:
@@ -87,16 +82,13 @@ def total(writer: Writer, operation: str, asked: Column) -> None:
     """Writes a line of `totals` or `total_ends`. Either is refused where a total is."""
     work = f"{operation} {asked.name}"
     if not asked.type.is_integer:
-        return answer_refused(writer, f"z = {work}", (asked,), UNSUPPORTED)
+        return writer.answer_refused(work, (asked,), UNSUPPORTED)
     ends, values = runs_of(asked.rows)
     type = sum_type(asked.type.kind)
     outcome = running(ends, values, type)
-    if isinstance(outcome, Refusal):
-        return answer_refused(writer, f"z = {work}", (asked,), outcome)
-    if operation == "totals":
-        answer_flat(writer, work, type, outcome)
-    else:
-        answer_flat(writer, work, Type(least_unsigned(len(asked.rows)), False), ends)
+    if operation == "total_ends" and not isinstance(outcome, Refusal):
+        outcome, type = ends, Type(least_unsigned(len(asked.rows)), False)
+    writer.answer_flat(work, (asked,), outcome, type)
 
 
 def fold_case(writer: Writer) -> None:

@@ -5,8 +5,8 @@ from __future__ import annotations
 from columns import column
 from draws import type_of
 from siphash import hash_of
-from words import Row, Type, constant_form, encoded_form, order
-from writer import UNSUPPORTED, Column, Writer, answer, answer_flat, answer_refused, look_at
+from words import Row, Type, order
+from writer import UNSUPPORTED, Column, Writer, look_at
 
 HASH_OF_LISTS = "refused 13"
 
@@ -19,7 +19,7 @@ def test(writer: Writer, operation: str, asked: Column) -> None:
         type, rows = Type("bool", False), [(row is None) == (operation == "is_null") for row in asked.rows]
     is_refused = asked.type.is_list or (operation == "not" and not asked.type.is_boolean)
     outcome = UNSUPPORTED if is_refused else rows
-    answer(writer, f"{operation} {asked.name}", (asked,), outcome, type, asked.is_constant)
+    writer.answer(f"{operation} {asked.name}", (asked,), outcome, type, asked.is_constant)
 
 
 def hashed(writer: Writer, asked: Column) -> None:
@@ -30,18 +30,15 @@ def hashed(writer: Writer, asked: Column) -> None:
 
 def reorder(writer: Writer, operation: str, asked: Column) -> None:
     """Writes a line of `sort` or `reverse`."""
-    work, type = f"{operation} {asked.name}", asked.type
-    if type.is_list:
-        return answer_refused(writer, f"z = {work}", (asked,), UNSUPPORTED)
     rows = asked.rows[::-1] if operation == "reverse" else sorted(asked.rows, key=order)
-    refuse = writer.happens(0.12) and asked.form != "constant" and rows
-    writer.say(f"refuse z = {work}" if refuse else f"z = {work}", "ok memory" if refuse else "ok")
-    if asked.form != "constant":
-        look_at(writer, "z", type, rows, encoded_form(type, rows))
-    elif rows:
-        writer.say("z form", constant_form(type, rows[0], len(rows)))
-    else:
-        writer.say("z rows", "-")
+    outcome = UNSUPPORTED if asked.type.is_list else rows
+    show = look_at_form if asked.form == "constant" else look_at
+    writer.answer(f"{operation} {asked.name}", (asked,), outcome, asked.type, asked.is_constant, show)
+
+
+def look_at_form(writer: Writer, name: str, type: Type, rows: list[Row], form: str) -> None:
+    """Writes a line that asks for the form of a column, or for the rows where there are none."""
+    writer.say(f"{name} form" if rows else f"{name} rows", form if rows else "-")
 
 
 def counted(rows: list[Row]) -> list[tuple[Row, int]]:
@@ -55,14 +52,10 @@ def counted(rows: list[Row]) -> list[tuple[Row, int]]:
 
 def count(writer: Writer, operation: str, asked: Column) -> None:
     """Writes a line of `distinct` or `counts`."""
-    work = f"{operation} {asked.name}"
-    if asked.type.is_list:
-        return answer_refused(writer, f"z = {work}", (asked,), UNSUPPORTED)
-    pairs = counted(asked.rows)
-    if operation == "distinct":
-        answer_flat(writer, work, asked.type, [row for row, _ in pairs])
-    else:
-        answer_flat(writer, work, Type("u64", False), [number for _, number in pairs])
+    is_distinct, pairs = operation == "distinct", [] if asked.type.is_list else counted(asked.rows)
+    outcome = UNSUPPORTED if asked.type.is_list else [row if is_distinct else number for row, number in pairs]
+    type = asked.type if is_distinct else Type("u64", False)
+    writer.answer_flat(f"{operation} {asked.name}", (asked,), outcome, type)
 
 
 def single_case(writer: Writer) -> None:

@@ -9,7 +9,7 @@ from columns import column
 from draws import picked_type, row, type_of
 from words import COMPARISONS, INTEGERS, Row, Type, order
 from writer import (
-    OTHER_TYPE, UNSUPPORTED, Column, Outcome, Refusal, Writer, all_constant, answer, lengths_differ, overflow,
+    OTHER_TYPE, UNSUPPORTED, Column, Outcome, Refusal, Writer, all_constant, lengths_differ, overflow,
 )
 
 ARITHMETIC = {"+": operator.add, "-": operator.sub, "*": operator.mul}
@@ -38,7 +38,7 @@ def numeric(writer: Writer, left: Column, operation: str, right: Column) -> None
         outcome = lengths_differ(left, right) or sums(left.rows, operation, right.rows, left.type.kind)
     type = Type(left.type.kind, left.type.nullable or right.type.nullable)
     work = f"{left.name} {operation} {right.name}"
-    answer(writer, work, (left, right), outcome, type, all_constant(left, right))
+    writer.answer(work, (left, right), outcome, type, all_constant(left, right))
 
 
 def truth(x: bool | None, operation: str, y: bool | None) -> bool | None:
@@ -55,7 +55,7 @@ def boolean(writer: Writer, left: Column, operation: str, right: Column) -> None
     outcome = refusal or [truth(x, operation, y) for x, y in zip(left.rows, right.rows)]
     type = Type("bool", left.type.nullable or right.type.nullable)
     work = f"{left.name} {operation} {right.name}"
-    answer(writer, work, (left, right), outcome, type, all_constant(left, right))
+    writer.answer(work, (left, right), outcome, type, all_constant(left, right))
 
 
 def compare(writer: Writer, left: Column, operation: str, right: Column) -> None:
@@ -68,7 +68,7 @@ def compare(writer: Writer, left: Column, operation: str, right: Column) -> None
     outcome = refusal or [None if x is None or y is None else holds(order(x), order(y)) for x, y in pairs]
     type = Type("bool", left.type.nullable or right.type.nullable)
     work = f"{left.name} {operation} {right.name}"
-    answer(writer, work, (left, right), outcome, type, all_constant(left, right))
+    writer.answer(work, (left, right), outcome, type, all_constant(left, right))
 
 
 def pick_refusal(left: Column, right: Column) -> Refusal | None:
@@ -93,7 +93,7 @@ def pick(writer: Writer, left: Column, operation: str, right: Column) -> None:
     nullables = (left.type.nullable, right.type.nullable)
     nullable = all(nullables) if operation == "coalesce" else any(nullables)
     work = f"{left.name} {operation} {right.name}"
-    answer(writer, work, (left, right), outcome, Type(left.type.kind, nullable), all_constant(left, right))
+    writer.answer(work, (left, right), outcome, Type(left.type.kind, nullable), all_constant(left, right))
 
 
 def choose(writer: Writer, mask: Column, left: Column, right: Column) -> None:
@@ -103,7 +103,7 @@ def choose(writer: Writer, mask: Column, left: Column, right: Column) -> None:
     outcome = refusal or [None if bit is None else x if bit else y for bit, x, y in triples]
     columns = (mask, left, right)
     work = f"if_else {mask.name} {left.name} {right.name}"
-    answer(writer, work, columns, outcome, Type(left.type.kind, True), all_constant(*columns))
+    writer.answer(work, columns, outcome, Type(left.type.kind, True), all_constant(*columns))
 
 
 def equals(writer: Writer, left: Column, right: Column) -> None:

@@ -21,6 +21,7 @@ from pathlib import Path
 
 import decimals
 import floats
+from answers import checked, completed
 from float_columns import any_bits, bits
 from float_pairs import partner
 from floats import F16, F32, F64, FORMATS, OPERATIONS, Format, NotThere
@@ -254,6 +255,37 @@ class Lines(unittest.TestCase):
     def test_wide_columns_have_hundreds_of_rows(self) -> None:
         longest = max(len(line) for line in new_lines("rows", 7, 40, wide=True))
         self.assertGreater(longest, max(len(line) for line in new_lines("rows", 7, 40, wide=False)))
+
+
+class Questions(unittest.TestCase):
+    def test_a_question_gets_its_answer(self) -> None:
+        lines = ["a = flat u8? 100 7 null", "b = constant u8 3 3", "c = a * b", "c = a + b", "c form", "c equals a"]
+        form = "c form => runs u8 0 3 1 2 3 { flat u8? bits 103 10 null }"
+        expected = [*lines[:2], "c = a * b => refused 14 0", "c = a + b", form, "c equals a => false"]
+        self.assertEqual(list(completed(lines)), expected)
+
+    def test_another_answer_is_named(self) -> None:
+        lines = ["d = flat decimal(5,2) 150 1225", "d sum_decimals => 1376", "d probe 0 => 150"]
+        agree, differ, unknown = checked(lines)
+        self.assertEqual((agree, unknown), (1, 1))
+        self.assertEqual(differ, ["line 2: d sum_decimals => 1376, and not 1375"])
+
+    def test_what_an_unknown_line_changes_is_not_known(self) -> None:
+        lines = ["a = flat u8 1 2", "a run slice 0 1 ; sum => ok ; 1", "a rows => 1", "refuse a rows => 1 none"]
+        self.assertEqual(checked(lines), (1, [], 3))
+
+    def test_floats_are_read_as_the_page_says(self) -> None:
+        lines = ["v = floats f16? 1.5 null 65519 1e-7 nan", "v floats", "v = floats f64 +1.0 => bad line"]
+        lines.append("v float_at 9")
+        floats_line = "v floats => 1.5 null 65504.0 1.1920929e-7 0x7e00"
+        self.assertEqual(list(completed(lines)), [lines[0], floats_line, lines[2], "v float_at 9 => refused 8 9 5"])
+
+    def test_no_stored_line_is_answered_otherwise(self) -> None:
+        stored = VECTORS.read_text(encoding="utf-8").split("\n")
+        start = next(place for place, line in enumerate(stored) if line.startswith("# columns from the rows of others"))
+        agree, differ, _ = checked(stored[start:])
+        self.assertEqual(differ, [])
+        self.assertGreater(agree, 12_000)
 
 
 if __name__ == "__main__":

@@ -58,6 +58,48 @@ class Writer:
         length = self.length()
         return length, self.other_length(length)
 
+    def answer(
+        self,
+        work: str,
+        columns: tuple[Column, ...],
+        outcome: Outcome,
+        type: Type,
+        constant: bool = False,
+        show: Show | None = None,
+    ) -> None:
+        """Writes a line that makes the column `z` of these rows, and lines that look at it. The column is one constant,
+        or the encoding of the rows."""
+        if isinstance(outcome, Refusal):
+            return self.answer_refused(work, columns, outcome)
+        refuse = self.happens(0.12) and not constant and outcome
+        self.say(f"refuse z = {work}" if refuse else f"z = {work}", "ok memory" if refuse else "ok")
+        form = constant_form(type, outcome[0], len(outcome)) if constant else encoded_form(type, outcome)
+        (show or look_at)(self, "z", type, outcome, form)
+
+    def answer_flat(self, work: str, columns: tuple[Column, ...], outcome: Outcome, type: Type) -> None:
+        """Writes a line that makes the flat column `z` of these rows, and lines that look at it."""
+        if isinstance(outcome, Refusal):
+            return self.answer_refused(work, columns, outcome)
+        refuse = self.happens(0.12) and outcome
+        self.say(f"refuse z = {work}" if refuse else f"z = {work}", "ok memory" if refuse else "ok")
+        if self.happens(0.6):
+            self.say("z form", flat_form(type, outcome))
+        else:
+            self.say("z type", str(type))
+            self.say("z rows", shown(outcome))
+        if type.is_stored_whole and self.happens(0.2):
+            self.say("z stored", stored(type, outcome) or "-")
+
+    def answer_refused(self, work: str, columns: tuple[Column, ...], refusal: Refusal) -> None:
+        """Writes a line that is refused, now and then with memory refused in turn."""
+        refuse, answer = self.happens(0.12), f"refused {refusal.words}"
+        if refuse and refusal.early:
+            self.say(f"refuse z = {work}", f"{answer} none")
+        elif refuse and any(column.form == "flat" for column in columns):
+            self.say(f"refuse z = {work}", f"{answer} memory")
+        else:
+            self.say(f"z = {work}", answer)
+
 
 @dataclass(frozen=True)
 class Column:
@@ -110,50 +152,6 @@ def look_at(writer: Writer, name: str, type: Type, rows: list[Row], form: str) -
     if form.startswith("runs") and rows and type.is_stored_whole and writer.happens(0.2):
         writer.say(f"u = values {name}")
         writer.say("u stored", stored(type, runs_of(rows)[1]))
-
-
-def answer_refused(writer: Writer, line: str, columns: tuple[Column, ...], refusal: Refusal) -> None:
-    """Writes a line that is refused, now and then with memory refused in turn."""
-    refuse, answer = writer.happens(0.12), f"refused {refusal.words}"
-    if refuse and refusal.early:
-        writer.say(f"refuse {line}", f"{answer} none")
-    elif refuse and any(column.form == "flat" for column in columns):
-        writer.say(f"refuse {line}", f"{answer} memory")
-    else:
-        writer.say(line, answer)
-
-
-def answer(
-    writer: Writer,
-    work: str,
-    columns: tuple[Column, ...],
-    outcome: Outcome,
-    type: Type,
-    constant: bool = False,
-    show: Show = look_at,
-) -> None:
-    """Writes a line that makes the column `z` of these rows, and lines that look at it. The column is one constant, or
-    the encoding of the rows."""
-    line = f"z = {work}"
-    if isinstance(outcome, Refusal):
-        return answer_refused(writer, line, columns, outcome)
-    refuse = writer.happens(0.12) and not constant and outcome
-    writer.say(f"refuse {line}" if refuse else line, "ok memory" if refuse else "ok")
-    form = constant_form(type, outcome[0], len(outcome)) if constant else encoded_form(type, outcome)
-    show(writer, "z", type, outcome, form)
-
-
-def answer_flat(writer: Writer, work: str, type: Type, rows: list[Row]) -> None:
-    """Writes a line that makes the flat column `z`, and lines that look at it."""
-    refuse = writer.happens(0.12) and rows
-    writer.say(f"refuse z = {work}" if refuse else f"z = {work}", "ok memory" if refuse else "ok")
-    if writer.happens(0.6):
-        writer.say("z form", flat_form(type, rows))
-    else:
-        writer.say("z type", str(type))
-        writer.say("z rows", shown(rows))
-    if type.is_stored_whole and writer.happens(0.2):
-        writer.say("z stored", stored(type, rows) or "-")
 
 
 def all_constant(*columns: Column) -> bool:
