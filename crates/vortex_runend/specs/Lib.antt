@@ -1,3 +1,4 @@
 pub mod Laws
 pub mod Chunks
 pub mod Batches
+pub mod BatchForms

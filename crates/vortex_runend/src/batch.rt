@@ -3,10 +3,13 @@ mod columns;
 mod fault;
 mod masks;
 mod names;
+mod taken;
 
+ghost use Rattle.std.specs.List.{AllZip};
 ghost use Rattle.std.specs.Prelude.{◌≡◌, IfErr, IfNone, IfOk, IfSome, OnErr, OnOk, length, map, option_map, slice_range};
 ghost use Rattle.std.specs.String.{string_bytes};
 ghost use Rattle.column_base.specs.Mask.{mask_bits};
+ghost use Rattle.column_base.specs.declared.mask.Mask.{Mask};
 ghost use Rattle.column_core.specs.PrimitiveForm.{optional_numbers, primitive_dtype};
 ghost use Rattle.column_core.specs.Refusal.{IsRefusedBy, range_fault};
 ghost use Rattle.column_core.specs.Value.{Single};
@@ -15,11 +18,12 @@ ghost use Rattle.column_ops.specs.Nullable.{take_dtype};
 ghost use Rattle.column_ops.specs.Take.{take_fault, take_rows as rows_at_indices};
 ghost use Rattle.runend_array.specs.Array.{column_of, rows};
 ghost use Rattle.runend_array.specs.Column.{column_dtype, column_rows};
+ghost use Rattle.vortex_runend.specs.BatchForms.{HasFilteredForm, HasSlicedForm, HasTakenForm, IsMaskBy};
 ghost use Rattle.vortex_runend.specs.Batches.{Batch, IsBatch, IsBatchError, IsFilterByError, IsFilteredBy, IsNamed, IsUnknown, dtypes_of, row_count, rows_of};
 
 use column_core::{Mask, PrimitiveArray, Scalar, VortexResult};
 use column_ops::CompareOperator;
-use columns::{filter_each, slice_each, take_each};
+use columns::{filter_each, slice_each};
 pub use fault::BatchError;
 use masks::mask_by;
 use names::{fault_of_batch, place_of};
@@ -28,6 +32,7 @@ use std::alloc::Allocator;
 use std::marker::Model;
 use std::mem::replace;
 use std::ops::Range;
+use taken::take_each;
 
 /// Holds several named columns of one number of rows: Arrow's record batch. It has at least one column, and no name
 /// twice.
@@ -103,6 +108,7 @@ impl<A: Allocator + Copy> ColumnBatch<A> {
         ensures rows { OnOk result (rows_of self.new ≡
             map (λ column. selected_rows (mask_bits mask.now) (column_rows column)) self.old.columns) }
         ensures dtypes { OnOk result (dtypes_of self.new ≡ dtypes_of self.old) }
+        ensures forms { OnOk result (AllZip (HasFilteredForm ctx.old mask.now) self.old.columns self.new.columns) }
         ensures names { self.new.names ≡ self.old.names }
         ensures kept { OnErr result (self.new ≡ self.old) }
         ensures session { ctx.new ≡ ctx.old }
@@ -120,6 +126,8 @@ impl<A: Allocator + Copy> ColumnBatch<A> {
         ensures rows { OnOk result (rows_of self.new ≡
             map (λ column. slice_range (column_rows column) range.start range.end) self.old.columns) }
         ensures dtypes { OnOk result (dtypes_of self.new ≡ dtypes_of self.old) }
+        ensures forms { OnOk result (AllZip (HasSlicedForm ctx.old range.start range.end) self.old.columns
+            self.new.columns) }
         ensures names { self.new.names ≡ self.old.names }
         ensures kept { OnErr result (self.new ≡ self.old) }
         ensures session { ctx.new ≡ ctx.old }
@@ -130,8 +138,9 @@ impl<A: Allocator + Copy> ColumnBatch<A> {
     }
 
     /// Leaves the row at each index, null at a null index, in each column: of each form what `arrays::take` leaves. The
-    /// types have null where the indices have. Refused as `OutOfBounds`, with the index and the number of rows, at the
-    /// first valid index that is negative or of no row. A refusal leaves the batch as it was.
+    /// types have null where the indices have. The indices are tested once, for all columns. Refused as `OutOfBounds`,
+    /// with the index and the number of rows, at the first valid index that is negative or of no row. A refusal leaves
+    /// the batch as it was.
     pub fn take(
         &mut self,
         indices: &PrimitiveArray<A>,
@@ -142,6 +151,8 @@ impl<A: Allocator + Copy> ColumnBatch<A> {
             map (λ column. rows_at_indices (column_rows column) (optional_numbers indices.now)) self.old.columns) }
         ensures dtypes { OnOk result (dtypes_of self.new ≡
             map (λ column. take_dtype (column_dtype column) (primitive_dtype indices.now)) self.old.columns) }
+        ensures forms { OnOk result (AllZip (HasTakenForm ctx.old (optional_numbers indices.now)) self.old.columns
+            self.new.columns) }
         ensures names { self.new.names ≡ self.old.names }
         ensures kept { OnErr result (self.new ≡ self.old) }
         ensures session { ctx.new ≡ ctx.old }
@@ -165,6 +176,9 @@ impl<A: Allocator + Copy> ColumnBatch<A> {
             (option_map Single value.now.value)) }
         ensures refused { IfErr result (IsFilterByError self.old name.now value.now.dtype) }
         ensures dtypes { OnOk result (dtypes_of self.new ≡ dtypes_of self.old) }
+        ensures forms { OnOk result ((mask : Mask A) ×
+            IsMaskBy self.old name.now operator (option_map Single value.now.value) mask ×
+            AllZip (HasFilteredForm ctx.old mask) self.old.columns self.new.columns) }
         ensures names { self.new.names ≡ self.old.names }
         ensures kept { OnErr result (self.new ≡ self.old) }
         ensures session { ctx.new ≡ ctx.old }

@@ -3,7 +3,7 @@ ghost use Rattle.std.specs.Prelude.{◌≡◌, IfOk, IsOkUnless, option_map};
 ghost use Rattle.column_base.specs.declared.dtype.DType.TheVariants.{Bool};
 ghost use Rattle.column_base.specs.declared.dtype.Nullability.{Nullability};
 ghost use Rattle.column_base.specs.declared.dtype.Nullability.TheVariants.{NonNullable};
-ghost use Rattle.column_base.specs.Mask.{mask_bits};
+ghost use Rattle.column_base.specs.Mask.{IsNormalMask, mask_bits};
 ghost use Rattle.column_core.specs.FlatColumn.{leaf_of};
 ghost use Rattle.column_core.specs.Leaf.{leaf_dtype, single_rows};
 ghost use Rattle.column_core.specs.Refusal.{IsRefusedBy};
@@ -36,6 +36,7 @@ pub(crate) fn mask_by<A: Allocator + Copy>(
     ensures refused { IsRefusedBy (compare_scalar_fault (dtype_of column.now) value.now.dtype) result }
     ensures mask { IfOk result (λ mask. mask_bits mask ≡
         answer_bits (compare_with operator (rows column.now) (option_map Single value.now.value))) }
+    ensures normal { IfOk result (λ mask. IsNormalMask mask) }
     ensures session { ctx.new ≡ ctx.old }
 {
     let truths = compare_scalar(column, operator, value, ctx)?;
@@ -52,6 +53,7 @@ fn mask_of<A: Allocator + Copy>(
     requires { (nullability : Nullability) × (dtype_of truths.now ≡ Bool nullability) }
     ensures only { IsOkUnless result VortexError.OutOfMemory }
     ensures mask { IfOk result (λ mask. mask_bits mask ≡ answer_bits (rows truths.now)) }
+    ensures normal { IfOk result (λ mask. IsNormalMask mask) }
     ensures session { ctx.new ≡ ctx.old }
 {
     let no = Scalar::try_new(TRUTHS, Some(ScalarValue::Bool(false)))?;
@@ -72,6 +74,7 @@ fn mask_of_flat<A: Allocator + Copy>(alloc: A, flat: &FlatColumn<A>) -> VortexRe
     requires { leaf_dtype (leaf_of flat.now) ≡ Bool NonNullable }
     ensures refused { IsRefusedBy (mask_fault (leaf_dtype (leaf_of flat.now))) result }
     ensures mask { IfOk result (λ mask. mask_bits mask ≡ answer_bits (single_rows (leaf_of flat.now))) }
+    ensures normal { IfOk result (λ mask. IsNormalMask mask) }
 {
     match flat {
         FlatColumn::Bool(truths) => Ok(Mask::from_buffer(truths.values().try_clone(alloc)?)),

@@ -17,6 +17,13 @@ returns-clause-rows g c = record {
   rows = c.in_ok-filtered.ensures.rows ∙ ap (λ (bits : List Bool). map (λ other. selected_rows bits (column_rows other)) c.args.self.now.columns) c.in_ok-mask.ensures.mask;
 }
 
+pub returns-clause-forms : goal.returns-clause-forms
+returns-clause-forms g c = (
+  c.in_ok-mask.mask,
+  record { column = column_of c.in-Some.column.now; named = c.in-Some.ensures.found; selects = c.in_ok-mask.ensures.mask; normal = c.in_ok-mask.ensures.normal },
+  rw c.in_ok-mask.ensures.session at c.in_ok-filtered.ensures.forms,
+)
+
 pub returns-in_err-mask-clause-refused : goal.returns-in_err-mask-clause-refused
 returns-in_err-mask-clause-refused g c =
     refused_by_mask c.args.self.now c.args.name.now c.args.value.now.dtype (column_of c.in-Some.column.now) c.in_err-mask.field-0.0 c.from_residual.result c.from_residual.ensures.1

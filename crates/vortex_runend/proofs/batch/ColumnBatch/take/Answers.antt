@@ -6,6 +6,8 @@ use Rattle.column_ops.specs.Take.{take_fault, take_rows as rows_at_indices}
 use Rattle.runend_array.specs.Array.{column_of}
 use Rattle.runend_array.specs.Column.{column_dtype}
 use Rattle.vortex_runend.specs.Batches.{Batch}
+use Rattle.vortex_runend.specs.BatchForms.{HasTakenForm}
+use Rattle.vortex_runend.proofs.ColumnForms.{formed_batch}
 use Rattle.vortex_runend.proofs.BatchCalls.{IsWorkedBatch, allowed_by_all, even_take, refused_by_all, some_columns, worked_batch}
 use Rattle.vortex_runend.proofs.batch.ColumnBatch.take.Given as given
 use Rattle.vortex_runend.proofs.batch.ColumnBatch.take.Goals as goal
@@ -32,6 +34,11 @@ returns-clause-rows g c = (worked g c).shown
 
 pub returns-clause-dtypes : goal.returns-clause-dtypes
 returns-clause-dtypes g c = (worked g c).dtypes
+
+pub returns-clause-forms : goal.returns-clause-forms
+returns-clause-forms g c =
+    formed_batch (HasTakenForm c.args.ctx.now (optional_numbers c.args.indices.now)) (map column_of c.self.inside.columns.items) c.args.self.now.columns c.in_ok-taken.taken.items c.replace.new.dest.items (ap (λ (b : Batch). b.columns) c.self.view_is)
+    (λ i. (c.replace.ensures.after i).items) (rw c.deref.ensures.value at c.in_ok-taken.ensures.forms)
 
 pub returns-clause-refused : goal.returns-clause-refused
 returns-clause-refused g c =

@@ -4,12 +4,15 @@ use Rattle.std.specs.Vec.{vec_capacity, vec_len}
 use Rattle.std.specs.Prelude.{slice_range}
 use Rattle.column_core.specs.Refusal.{range_fault}
 use Rattle.runend_array.specs.Array.{dtype_of, rows}
+use Rattle.vortex_runend.specs.BatchForms.{HasSlicedForm}
+use Rattle.vortex_runend.proofs.ColumnForms.{AreFormed}
 use Rattle.vortex_runend.proofs.Batches.{AreWorked}
 use Rattle.vortex_runend.proofs.batch.columns.slice_each.Given as goal
 
 abbrev pub invariant-loop-column : goal.invariant-loop-column
 invariant-loop-column g l = record {
   worked : AreWorked (λ column. slice_range (rows column) l.start l.end) dtype_of (λ count. range_fault l.start l.end count) l.columns l.kept.items l.column-index;
+  forms : AreFormed (HasSlicedForm l.fn.ctx l.start l.end) l.columns l.kept.items l.column-index;
   room : length l.columns ≤ vec_capacity l.kept;
   counted : vec_len l.kept ≡ l.column-index;
   session : l.ctx ≡ l.fn.ctx;
