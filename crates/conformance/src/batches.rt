@@ -21,7 +21,11 @@ const PRICES: [Row; 6] = [Some(4), Some(4), Some(4), Some(7), Some(7), None];
 
 const COUNTS: [Row; 6] = [Some(1), Some(2), Some(3), Some(4), Some(5), Some(6)];
 
-fn texts<A: Allocator + Copy>(alloc: A, words: &[&str]) -> VortexResult<Vec<String<A>, A>> {
+/// Returns these texts, owned.
+pub(crate) fn texts<A: Allocator + Copy>(
+    alloc: A,
+    words: &[&str],
+) -> VortexResult<Vec<String<A>, A>> {
     let mut texts = Vec::with_capacity(alloc, words.len())?;
     for word in words {
         texts.push(String::from_str(alloc, word)?)?;
