@@ -259,19 +259,17 @@ static inline int32_t hv_table_each_sum(const hv_session *session, const hv_tabl
     return answer;
 }
 
-/* Doubles of their bits, flat. */
-static inline int32_t hv_table_doubles(const hv_session *session, const hv_pair *totals, size_t count,
-                                       hv_validity valid, hv_column *out, hv_error *error) {
-    uint64_t *bits = NULL;
-    hv_column flat = HV_EMPTY, floats = HV_EMPTY;
-    int32_t answer = hv_table_memory(count, sizeof *bits, &bits, error);
-    for (size_t group = 0; !answer && group < count; group++) bits[group] = totals[group].low;
-    if (!answer) answer = hv_u64(bits, count, valid, &flat, error);
-    if (!answer) answer = hv_float_encode(&flat, 0, &floats, error);
-    if (!answer) answer = hv_decode(session, &floats, out, error);
-    free(bits);
-    hv_free(&flat);
-    hv_free(&floats);
+/* Doubles of their bits, flat, with a validity as it is: each is stored as its key, a number in the total order. */
+static inline int32_t hv_table_doubles(const hv_pair *totals, size_t count, hv_validity valid, hv_column *out,
+                                       hv_error *error) {
+    int64_t *keys = NULL;
+    int32_t answer = hv_table_memory(count, sizeof *keys, &keys, error);
+    for (size_t group = 0; !answer && group < count; group++) {
+        const uint64_t bits = totals[group].low, key = bits >> 63 ? bits ^ (UINT64_MAX >> 1) : bits;
+        memcpy(&keys[group], &key, sizeof key);
+    }
+    if (!answer) answer = hv_i64(keys, count, valid, out, error);
+    free(keys);
     return answer;
 }
 
@@ -289,7 +287,7 @@ static inline int32_t hv_table_add_up(const hv_session *session, const hv_table_
     const hv_validity valid = sums.is_any_null ? hv_valid_bits(sums.valid, bytes, 0) : hv_all_valid();
     if (!answer)
         answer = is_decimal ? hv_decimals(sums.totals, count, 38, kind.scale, valid, out, error)
-                            : hv_table_doubles(session, sums.totals, count, valid, out, error);
+                            : hv_table_doubles(sums.totals, count, valid, out, error);
     free(sums.totals);
     free(sums.valid);
     return answer;
