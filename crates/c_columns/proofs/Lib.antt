@@ -25,4 +25,5 @@ pub mod Told
 pub mod TrueCounts
 pub mod TwoColumns
 pub mod MessageEndings
+pub mod TypedEndings
 mod NoRuns

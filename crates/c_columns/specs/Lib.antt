@@ -19,4 +19,5 @@ pub mod RunReads
 pub mod Sessions
 pub mod Totals
 pub mod TwoColumns
+pub mod TypedMessages
 pub mod Values

@@ -31,5 +31,6 @@ pub mod texts;
 pub mod totals;
 mod true_counts;
 pub mod two_columns;
+pub mod typed_messages;
 pub mod windows;
 mod words;

@@ -14,6 +14,7 @@ pub mod Shown
 pub mod ConstantWrites
 pub mod Ends
 pub mod Messages
+pub mod TypedMessages
 pub mod ListColumns
 pub mod Writes
 pub mod MessageSizes

@@ -8,4 +8,5 @@ pub mod Read
 pub mod ListRead
 pub mod ListViews
 pub mod ListWalks
+pub mod Typed
 pub mod Laws

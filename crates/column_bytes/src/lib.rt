@@ -30,9 +30,14 @@ mod text_checks;
 mod text_reading;
 mod text_writing;
 mod texts;
+mod typed;
 mod views;
 
 pub use column::{MOST_LEVELS, put_message, read_column, write_column};
 pub use column_base::{VortexError, VortexResult};
 pub use message_checks::is_message;
 pub use sizes::message_size;
+pub use typed::{
+    is_typed_message, put_typed, read_typed, type_start, typed_size, typed_spelling_is_unique,
+    write_typed,
+};

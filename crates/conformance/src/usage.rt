@@ -1,6 +1,9 @@
 //! The library as a program calls it. The README and `docs/CALLING.md` show these lines.
 use crate::columns::{are_rows, both};
-use column_bytes::{is_message, message_size, read_column, write_column};
+use column_bytes::{
+    is_message, is_typed_message, message_size, read_column, read_typed, typed_size, write_column,
+    write_typed,
+};
 use std::alloc::Global;
 use std::test::Fail;
 use vortex_runend::compute::{CompareOperator, fill_null, slice, sum};
@@ -265,5 +268,26 @@ fn a_column_is_kept_as_bytes(rt: HostRuntime) -> Result<(), Fail> {
     let are_kept = are_rows(&kept, &[Some(4), Some(4), None, None, Some(9)]);
     drop(kept);
     assert!(rt; are_so_many && is_kept && are_kept);
+    Ok(())
+}
+
+#[test]
+fn a_column_of_bytes_keeps_its_logical_type(rt: HostRuntime) -> Result<(), Fail> {
+    let mut ctx = context(rt.alloc());
+    let column = array_with_null(rt.alloc(), &mut ctx)?;
+    let size = typed_size("tdD", &column);
+    let bytes = write_typed(rt.alloc(), "tdD", &column);
+    let plain = write_typed(rt.alloc(), "", &column);
+    drop(column);
+
+    // Before the 58 bytes of the column: 2 of the version, 3 and 3 of the name, 3 of the key and length of the column.
+    let bytes = bytes?;
+    let plain = plain?;
+    let are_so_many = size == Ok(69) && bytes.len() == 69 && plain.len() == 58;
+    let are_apart = is_typed_message(&bytes) && !is_message(&bytes) && is_message(&plain);
+    let (format, kept) = read_typed(rt.alloc(), &bytes)?;
+    let are_kept = format == "tdD" && are_rows(&kept, &[Some(4), Some(4), None, None, Some(9)]);
+    drop(kept);
+    assert!(rt; are_so_many && are_apart && are_kept);
     Ok(())
 }

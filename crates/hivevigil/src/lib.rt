@@ -23,5 +23,6 @@ mod sizes;
 mod sorts;
 mod sums;
 mod texts;
+mod typed_messages;
 mod versions;
 mod windows;
