@@ -564,6 +564,24 @@ HV_ANSWER hv_read_column(const uint8_t *bytes, size_t bytes_len, hv_column *out,
  * any of them is read. */
 HV_ANSWER hv_is_message(const uint8_t *bytes, size_t bytes_len, uint8_t *truth, hv_error *error);
 
+/* The same for a column with a logical type, which says what its numbers mean, as dates, times or floats: the message
+ * keeps its name, the format string of Arrow's C data interface, such as "tss:UTC". The name is `format_len` bytes of
+ * UTF-8, with no 0 at the end; it is not tested further. An empty name says that the column has no logical type: the
+ * message is that of hv_write. Any other message is refused by hv_read_column and hv_is_message. */
+/* How many bytes the message has, without taking memory; 12 for a name that is not UTF-8, then as hv_write_size. */
+HV_ANSWER hv_typed_size(const hv_column *column, const uint8_t *format, size_t format_len, size_t *size, hv_error *error);
+/* Writes the message as hv_write does, without taking memory; 12 for a name that is not UTF-8, then as hv_write. */
+HV_ANSWER hv_write_typed(const hv_column *column, const uint8_t *format, size_t format_len, uint8_t *bytes,
+                         size_t bytes_len, size_t *size, hv_error *error);
+/* The column of a message of hv_write_typed or hv_write. The name of its logical type is in the message, *format_len
+ * bytes from bytes + *format_at on; both are 0 where it has none. 17 exactly for bytes that are the message of no
+ * column, so 21 only for a message. Refused, it leaves *out, *format_at and *format_len as they were. */
+HV_ANSWER hv_read_typed(const uint8_t *bytes, size_t bytes_len, hv_column *out, size_t *format_at, size_t *format_len,
+                        hv_error *error);
+/* Are the bytes the message of a column, with or without a logical type? 1, or 0. Takes no memory, and refuses
+ * nothing. */
+HV_ANSWER hv_is_typed_message(const uint8_t *bytes, size_t bytes_len, uint8_t *truth, hv_error *error);
+
 /* Frees the column, if there is one; the handle is empty afterwards. */
 HV_CALL void hv_free(hv_column *column);
 

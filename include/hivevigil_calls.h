@@ -578,6 +578,30 @@ HV_ANSWER hv_is_message(const uint8_t *bytes, size_t bytes_len, uint8_t *truth, 
     HV_ITEMS(const uint8_t, bytes, bytes_len);
     return (hv_is_message)(bytes, bytes_len, truth, HV_FIELDS);
 }
+HV_ANSWER hv_typed_size(const hv_column *column, const uint8_t *format, size_t format_len, size_t *size,
+                        hv_error *error) {
+    hv_error ignored;
+    HV_ITEMS(const uint8_t, format, format_len);
+    return (hv_typed_size)(hv_lent(column), format, format_len, size, HV_FIELDS);
+}
+HV_ANSWER hv_write_typed(const hv_column *column, const uint8_t *format, size_t format_len, uint8_t *bytes,
+                         size_t bytes_len, size_t *size, hv_error *error) {
+    hv_error ignored;
+    HV_ITEMS(const uint8_t, format, format_len);
+    HV_ITEMS(uint8_t, bytes, bytes_len);
+    return (hv_write_typed)(hv_lent(column), format, format_len, bytes, bytes_len, size, HV_FIELDS);
+}
+HV_ANSWER hv_read_typed(const uint8_t *bytes, size_t bytes_len, hv_column *out, size_t *format_at, size_t *format_len,
+                        hv_error *error) {
+    hv_error ignored;
+    HV_ITEMS(const uint8_t, bytes, bytes_len);
+    return (hv_read_typed)(bytes, bytes_len, out, format_at, format_len, HV_FIELDS);
+}
+HV_ANSWER hv_is_typed_message(const uint8_t *bytes, size_t bytes_len, uint8_t *truth, hv_error *error) {
+    hv_error ignored;
+    HV_ITEMS(const uint8_t, bytes, bytes_len);
+    return (hv_is_typed_message)(bytes, bytes_len, truth, HV_FIELDS);
+}
 /* end of what tools/declarations.py makes */
 
 #undef HV_ITEMS

@@ -177,6 +177,14 @@ CALLS: dict[str, tuple[list[Any], Any]] = {
     "hv_write": ([POINTER(Handle), c_char_p, c_size_t, POINTER(c_size_t), POINTER(Fields)], c_int32),
     "hv_read_column": ([c_char_p, c_size_t, POINTER(Handle), POINTER(Fields)], c_int32),
     "hv_is_message": ([c_char_p, c_size_t, POINTER(c_uint8), POINTER(Fields)], c_int32),
+    "hv_typed_size": ([POINTER(Handle), c_char_p, c_size_t, POINTER(c_size_t), POINTER(Fields)], c_int32),
+    "hv_write_typed": ([
+        POINTER(Handle), c_char_p, c_size_t, c_char_p, c_size_t, POINTER(c_size_t), POINTER(Fields),
+    ], c_int32),
+    "hv_read_typed": ([
+        c_char_p, c_size_t, POINTER(Handle), POINTER(c_size_t), POINTER(c_size_t), POINTER(Fields),
+    ], c_int32),
+    "hv_is_typed_message": ([c_char_p, c_size_t, POINTER(c_uint8), POINTER(Fields)], c_int32),
     "hv_free": ([POINTER(Handle)], None),
 }
 # end of what tools/declarations.py makes
