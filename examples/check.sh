@@ -73,7 +73,7 @@ else
     skip "names of the header" "nm and readelf"
 fi
 
-for test in first errors layout answers refusals levels forms constants lists groups pairs sorts sums totals floats float_casts float_pairs decimals decimal_casts builders messages arrow_arrays; do
+for test in first errors layout answers refusals levels forms constants lists groups pairs sorts sums totals floats float_casts float_pairs decimals decimal_casts builders messages typed_messages arrow_arrays; do
     run "c/$test.c" built "$cc" "$c_flags -O2" "examples/c/$test.c"
 done
 wraps="-Wl,--wrap=malloc,--wrap=calloc,--wrap=realloc,--wrap=free"
@@ -82,7 +82,7 @@ run "c/helpers.c" built "$cc" "$c_flags -O2" examples/c/helpers.c
 
 echo 'int main(void) { return 0; }' >"$work/empty.c"
 if $cc $watched "$work/empty.c" -o "$work/empty" 2>/dev/null && "$work/empty"; then
-    for test in errors answers refusals levels forms constants lists groups pairs sorts sums totals floats float_casts float_pairs decimals decimal_casts builders messages arrow_arrays; do
+    for test in errors answers refusals levels forms constants lists groups pairs sorts sums totals floats float_casts float_pairs decimals decimal_casts builders messages typed_messages arrow_arrays; do
         run "c/$test.c under sanitizers" built "$cc" "$c_flags $watched" "examples/c/$test.c"
     done
     for test in demo numbers decimal_casts decimal_scales spans tables table_rows; do

@@ -295,6 +295,8 @@ static void check_empty_handles(void) {
     NO_COLUMN(hv_ends(&empty, &out, &error));
     NO_COLUMN(hv_values(&empty, &out, &error));
     NO_COLUMN(hv_serialize(&empty, bytes, 8, &size, &error));
+    NO_COLUMN(hv_typed_size(&empty, record, 2, &size, &error));
+    NO_COLUMN(hv_write_typed(&empty, record, 2, bytes, 8, &size, &error));
     NO_COLUMN(hv_deserialize(&kind, 0, record, 2, &empty, &numbers, &out, &error));
     NO_COLUMN(hv_deserialize(&kind, 0, record, 2, &numbers, &empty, &out, &error));
     CHECK(hv_length(&empty) == 0 && hv_offset(&empty) == 0 && hv_form(&empty) == FORM_NONE);
@@ -408,6 +410,11 @@ static void check_missing_room(void) {
     MISSING(hv_read_ends_u64(&runs, 0, NULL, 3, &error), 3);
     MISSING(hv_serialize(&runs, NULL, 2, &size, &error), 2);
     MISSING(hv_write(&runs, NULL, 99, &size, &error), 99);
+    MISSING(hv_typed_size(&runs, NULL, 3, &size, &error), 3);
+    MISSING(hv_write_typed(&runs, NULL, 3, text, 99, &size, &error), 3);
+    MISSING(hv_write_typed(&runs, (const uint8_t *)"g", 1, NULL, 99, &size, &error), 99);
+    MISSING(hv_read_typed(NULL, 9, &out, &size, &stop, &error), 9);
+    MISSING(hv_is_typed_message(NULL, 9, text, &error), 9);
 }
 
 /* Nor is an `error` that nobody asks for, whether the call is done or refused, or no handle to free. What is lent may

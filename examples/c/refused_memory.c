@@ -32,7 +32,9 @@ static int64_t large_offsets[ROWS + 1];
 static uint8_t letters[BYTES];
 static uint8_t kept_message[1024], decimals_message[64]; /* of `part`, and of `decimals` */
 static uint8_t lists_message[2048], decoded_message[2048]; /* of `list_runs`, and of `decoded_lists` */
-static size_t message_size, decimals_size, lists_size, decoded_size;
+static uint8_t typed_message[1024]; /* of `part`, as durations in seconds */
+static const uint8_t *const durations = (const uint8_t *)"tDs";
+static size_t message_size, decimals_size, lists_size, decoded_size, typed_size, type_at, type_len;
 static const uint16_t some_places[5] = {1, 3, 60, 79, 0};
 static const uint8_t texts_message[] = {8, 1, 16, 12, 24, 1, 32, 2, 40, 2, 98, 2, 1, 3, 106, 4, 'a', 'b', 'c', 'd'};
 static const uint8_t text_message[] = {8, 1, 16, 11, 24, 3, 32, 9, 40, 1, 58, 4, 'a', 'b', 'c', 'd'};
@@ -109,6 +111,7 @@ static void make_lent(void) {
     make_list_columns();
     make_many();
     CHECK(!hv_write(&part, kept_message, sizeof kept_message, &message_size, &error));
+    CHECK(!hv_write_typed(&part, durations, 3, typed_message, sizeof typed_message, &typed_size, &error));
     CHECK(!hv_write(&decimals, decimals_message, sizeof decimals_message, &decimals_size, &error));
     CHECK(!hv_arrow_export(&session, &texts, "texts", &texts_schema, &texts_array, &error));
     CHECK(!hv_arrow_export_dictionary(&session, &places, &texts, "codes", &codes_schema, &codes_array, &error));
@@ -270,6 +273,11 @@ STEP(lists_of_message, hv_read_column(lists_message, lists_size, &out, &error))
 STEP(write_decoded_lists, hv_write(&decoded_lists, message, sizeof message, &size, &error))
 STEP(is_message, hv_is_message(decoded_message, decoded_size, &truth, &error))
 STEP(decoded_lists_of_message, hv_read_column(decoded_message, decoded_size, &out, &error))
+STEP(size_of_typed, hv_typed_size(&part, durations, 3, &size, &error))
+STEP(write_typed, hv_write_typed(&part, durations, 3, message, sizeof message, &size, &error))
+STEP(column_of_typed, hv_read_typed(typed_message, typed_size, &out, &type_at, &type_len, &error))
+STEP(untyped_column, hv_read_typed(kept_message, message_size, &out, &type_at, &type_len, &error))
+STEP(is_typed_message, hv_is_typed_message(typed_message, typed_size, &truth, &error))
 STEP(export_flat, hv_arrow_export(&session, &flat, "flat", &schema, &array, &error))
 STEP(export_runs, hv_arrow_export(&session, &part, "runs", &schema, &array, &error))
 STEP(export_constant, hv_arrow_export(&session, &constant, "constant", &schema, &array, &error))
@@ -452,6 +460,7 @@ static const step steps[] = {
     NAMED(write_decimals), NAMED(decimals_of_message), NAMED(write_constant), NAMED(constant_of_message),
     NAMED(write_texts), NAMED(texts_of_message), NAMED(size_of_lists), NAMED(write_lists), NAMED(lists_of_message),
     NAMED(write_decoded_lists), NAMED(is_message), NAMED(decoded_lists_of_message),
+    NAMED(size_of_typed), NAMED(write_typed), NAMED(column_of_typed), NAMED(untyped_column), NAMED(is_typed_message),
     NAMED(export_flat), NAMED(export_runs), NAMED(export_constant),
     NAMED(export_texts), NAMED(export_truths), NAMED(export_dictionary), NAMED(import_texts),
     NAMED(import_dictionary), NAMED(export_and_import),
@@ -490,7 +499,7 @@ static bool try_step(const step *it, long number, bool rest) {
  * values are not texts, take no memory. */
 static bool takes_no_memory(const char *name) {
     static const char *const questions[] = {"sum", "is_constant", "is_sorted", "extreme", "min_max_numbers",
-                                            "is_message"};
+                                            "is_message", "is_typed_message"};
     static const char *const fronts[] = {"read_", "size_of_", "write_"};
     for (size_t i = 0; i < COUNT(questions); i++)
         if (strcmp(name, questions[i]) == 0) return true;
