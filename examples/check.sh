@@ -118,7 +118,7 @@ run "c/table_files.c$arrow_how" table_files_read "$arrow_flags $wraps"
 # the stored messages, which each version from 1.0.0 on reads as their rows and writes as their bytes
 corpus_read() {
     $cc $c_flags $1 examples/c/corpus.c lib/libhivevigil.a -o "$work/corpus" &&
-        timeout 60 "$work/corpus" examples/corpus/messages.txt
+        timeout 60 "$work/corpus" examples/corpus/messages.txt examples/corpus/typed.txt
 }
 run "c/corpus.c$arrow_how" corpus_read "$arrow_flags"
 

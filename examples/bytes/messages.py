@@ -7,7 +7,8 @@ reader.c, a program over the library, has to answer to each.
     /usr/bin/python3 messages.py try PROGRAM COUNT SEED  runs the program on COUNT of them, and compares
 
 Of three messages the second is the first with a byte or two changed, put in or left out, and the third the first with a
-field of it, or of a message in it, changed, put in or left out. Needs what model.py needs.
+field of it, or of a message in it, changed, put in or left out. One in four of COUNT has a logical type. Needs what
+model.py needs.
 """
 
 import random
@@ -21,6 +22,13 @@ from model import (
 )
 
 TEXTS = ["", "", "a", "two words", "Z\u00fcrich", "\U0001f41d", "x" * 200]
+# formats of Arrow with the types of columns that have them, and names of types that are none of these
+FORMATS = {
+    "e": 6, "f": 7, "g": 8, "tdD": 7, "tdm": 8, "tts": 7, "ttm": 7, "ttu": 8, "ttn": 8, "tss:": 8, "tsm:UTC": 8,
+    "tsu:Europe/Berlin": 8, "tsn:+02:00": 8, "tDs": 8, "tDm": 8, "tDu": 8, "tDn": 8,
+}
+OTHER_FORMATS = ["l", "tsx:", "tdD ", "tss", "\0", "d:5,2", "Z\u00fcrich", "\U0001f41d", "tsu:" + "x" * 200]
+PLAIN_FIELDS = [field for field in Column.DESCRIPTOR.fields if field.number < 22]  # of version 1
 
 
 def bits(flags: list[bool]) -> bytes:
@@ -41,9 +49,9 @@ def begun(kind: int, form: int, rows: int):
 # ---- flat columns and constants
 
 
-def flat(chance: random.Random, rows: int):
-    """A flat column of this number of rows, with anything stored under null."""
-    kind = chance.choice([*PLAIN])
+def flat(chance: random.Random, rows: int, kind: int = 0):
+    """A flat column of this number of rows, of this type or of any, with anything stored under null."""
+    kind = kind or chance.choice([*PLAIN])
     message = begun(kind, FLAT, rows)
     message.validity = chance.choice([NEVER_NULL, NONE_NULL, ALL_NULL, BY_BITS, BY_BITS])
     if message.validity == BY_BITS:
@@ -171,6 +179,28 @@ def column(chance: random.Random, rows: int, levels: int):
     return over(column(chance, len(cut[2]), levels - 1), rows, *cut)
 
 
+# ---- columns with a logical type
+
+
+def typed(format: str, storage):
+    """The message of version 2."""
+    message = Column()
+    message.version, message.logical_type = 2, format
+    message.storage.CopyFrom(storage)
+    return message
+
+
+def typed_column(chance: random.Random, rows: int):
+    """A column with a logical type that its numbers may have, or with any."""
+    format = chance.choice([*FORMATS])
+    cut = window(chance, rows)
+    if chance.random() < 0.4 or cut is None:
+        return typed(chance.choice([*FORMATS, *OTHER_FORMATS]), column(chance, rows, 3))
+    if chance.random() < 0.3:
+        return typed(format, flat(chance, rows, FORMATS[format]))
+    return typed(format, over(flat(chance, len(cut[2]), FORMATS[format]), rows, *cut))
+
+
 # ---- messages, and what the program answers
 
 
@@ -208,6 +238,8 @@ def set_other(chance: random.Random, message, field) -> None:
     found = getattr(message, field.name)
     if field.message_type:
         found.CopyFrom(flat(chance, chance.choice([0, 1, 3])))
+    elif field.type == field.TYPE_STRING:
+        setattr(message, field.name, chance.choice(["", *FORMATS, *OTHER_FORMATS]))
     elif field.label == field.LABEL_REPEATED:
         place = chance.randrange(len(found) + 1)
         found[place : place + chance.randrange(2)] = chance.choice([[], [0], [1], [chance.randrange(300)]])
@@ -225,7 +257,7 @@ def altered(chance: random.Random, message):
     whole.CopyFrom(message)
     part = chance.choice(parts_of(whole))
     there = [field for field, _ in part.ListFields()]
-    field = chance.choice(there if chance.random() < 0.9 else Column.DESCRIPTOR.fields)
+    field = chance.choice(there if chance.random() < 0.9 else PLAIN_FIELDS)
     if chance.random() < 0.1:
         part.ClearField(field.name)
     else:
@@ -233,14 +265,32 @@ def altered(chance: random.Random, message):
     return whole
 
 
+def some_rows(chance: random.Random) -> int:
+    return chance.choice([0, 1, 2, 3, 5, 8, 9, 17, 64, 100, 300])
+
+
 def messages(count: int, seed: int) -> list[bytes]:
+    """Columns without a logical type, changed ones among them."""
     chance = random.Random(seed)
     made = []
     while len(made) < count:
-        rows = chance.choice([0, 1, 2, 3, 5, 8, 9, 17, 64, 100, 300])
+        rows = some_rows(chance)
         message = column(chance, rows, chance.choice([0, 1, 1, 2, 2, 3, 5, 8]))
         data = written(message)
         made += [data, changed(chance, data), written(altered(chance, message))]
+    return made[:count]
+
+
+def typed_messages(count: int, seed: int) -> list[bytes]:
+    """The same of columns with a logical type, each also with a byte or two changed of what is around its column."""
+    chance = random.Random(seed)
+    made = []
+    while len(made) < count:
+        message = typed_column(chance, some_rows(chance))
+        data = written(message)
+        around = len(data) - len(written(message.storage))
+        made += [data, changed(chance, data), written(altered(chance, message))]
+        made.append(changed(chance, data[:around]) + data[around:])
     return made[:count]
 
 
@@ -253,7 +303,7 @@ def main() -> None:
             for line in sys.stdin:
                 print(answer(bytes.fromhex(line)))
         case ["try", program, count, seed]:
-            made = messages(int(count), int(seed))
+            made = [*messages(int(count) * 3 // 4, int(seed)), *typed_messages(int(count) // 4, int(seed))]
             lines = "".join(f"{data.hex()}\n" for data in made)
             done = subprocess.run([program], input=lines, capture_output=True, text=True, check=True)
             found, wanted = done.stdout.splitlines(), [answer(data) for data in made]

@@ -248,6 +248,13 @@ def is_column(message, levels: int = MOST_LEVELS) -> bool:
     return message.version == 1 and message.form in forms and forms[message.form](message)
 
 
+def is_typed(message) -> bool:
+    """Whether the message is that of a column with a logical type, around that of the column."""
+    found = {field.name for field, _ in message.ListFields()}
+    is_of_three = message.version == 2 and found == {"version", "logical_type", "storage"}
+    return is_of_three and message.logical_type != "" and is_column(message.storage)
+
+
 # ---- the rows, and the answer that is due
 
 
@@ -280,21 +287,35 @@ def row(message, index: int) -> str:
     return item(message, index)
 
 
-def column(data: bytes):
-    """The message, or None where the bytes are not those of a column."""
+def parsed(data: bytes):
+    """The message that Protocol Buffers read, where they write it as these bytes; else None."""
     message = Column()
     try:
         message.ParseFromString(data)
     except Exception:  # the two ways in which Protocol Buffers refuses bytes have no class in common
         return None
     message.DiscardUnknownFields()  # Protocol Buffers keep them, and would write them again
-    return message if is_column(message) and written(message) == data else None
+    return message if written(message) == data else None
+
+
+def column(data: bytes):
+    """The message, or None where the bytes are not those of a column without a logical type."""
+    message = parsed(data)
+    return message if message is not None and is_column(message) else None
+
+
+def typed_column(data: bytes):
+    """The message, or None where the bytes are not those of a column, with or without a logical type."""
+    message = parsed(data)
+    return message if message is not None and (is_column(message) or is_typed(message)) else None
 
 
 def answer(data: bytes) -> str:
-    """What reader.c has to answer to the bytes."""
-    message = column(data)
+    """What reader.c has to answer to the bytes: the name of a logical type is shown as a text is."""
+    message = typed_column(data)
     if message is None:
         return "refused"
-    rows = [row(message, index) for index in range(min(message.rows, SHOWN))]
-    return " ".join([f"{message.rows} rows:", *rows, "=", data.hex()])
+    stored = message.storage if message.version == 2 else message
+    rows = [row(stored, index) for index in range(min(stored.rows, SHOWN))]
+    means = [f"of '{message.logical_type.encode().hex()}"] if message.version == 2 else []
+    return " ".join([f"{stored.rows} rows:", *rows, *means, "=", data.hex()])

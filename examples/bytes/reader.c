@@ -1,6 +1,7 @@
 /* Reads columns as bytes, a line of hexadecimal digits each, and answers a line each: "refused", or the rows, at most a
- * hundred of them, and the bytes that the column is written as again. Decimals are the digits of their 16 bytes, the
- * highest first, texts and bytes those of their bytes after a quote, lists their items in brackets.
+ * hundred of them, the name of the logical type where there is one, and the bytes that the column is written as again.
+ * Decimals are the digits of their 16 bytes, the highest first, texts and bytes those of their bytes after a quote, lists
+ * their items in brackets.
  *
  *     cc reader.c $(pkg-config --cflags --libs hivevigil) -o reader */
 #include "hivevigil.h"
@@ -102,34 +103,48 @@ static void print_rows(const hv_column *column, size_t rows) {
     }
 }
 
-static void print_written(const hv_column *column) {
+static void print_written(const hv_column *column, const uint8_t *format, size_t format_len) {
     hv_error error;
     size_t size, written;
-    expect(hv_write_size(column, &size, &error), 0, "hv_write_size");
+    expect(hv_typed_size(column, format, format_len, &size, &error), 0, "hv_typed_size");
     uint8_t *bytes = some(malloc(size));
-    expect(hv_write(column, bytes, size, &written, &error), 0, "hv_write");
+    expect(hv_write_typed(column, format, format_len, bytes, size, &written, &error), 0, "hv_write_typed");
     expect(written == size, 1, "the size");
     printf(" = ");
     print_digits(bytes, size);
     free(bytes);
 }
 
+/* The calls of columns without a logical type read the same, where the message has none, and refuse any other. */
+static void expect_untyped(const uint8_t *bytes, size_t len, bool is_due) {
+    hv_column column = HV_EMPTY;
+    hv_error error;
+    uint8_t is_message;
+    expect(hv_read_column(bytes, len, &column, &error), is_due ? HV_OK : HV_BAD_METADATA, "hv_read_column");
+    expect(hv_is_message(bytes, len, &is_message, &error), 0, "hv_is_message");
+    expect(is_message, is_due, "hv_is_message, in its truth,");
+    hv_free(&column);
+}
+
 static void answer(const uint8_t *bytes, size_t len) {
     hv_column column = HV_EMPTY;
     hv_error error;
     uint8_t is_message;
-    int32_t read = hv_read_column(bytes, len, &column, &error);
-    expect(hv_is_message(bytes, len, &is_message, &error), 0, "hv_is_message");
-    expect(is_message, read == 0, "hv_is_message, in its truth,");
+    size_t at = 0, format_len = 0;
+    int32_t read = hv_read_typed(bytes, len, &column, &at, &format_len, &error);
+    expect(hv_is_typed_message(bytes, len, &is_message, &error), 0, "hv_is_typed_message");
+    expect(is_message, read == 0, "hv_is_typed_message, in its truth,");
+    expect_untyped(bytes, len, read == 0 && format_len == 0);
     if (read != 0) {
-        expect(read, HV_BAD_METADATA, "hv_read_column");
+        expect(read, HV_BAD_METADATA, "hv_read_typed");
         puts("refused");
         return;
     }
     size_t rows = hv_length(&column);
     printf("%zu rows:", rows);
     print_rows(&column, rows < SHOWN ? rows : SHOWN);
-    print_written(&column);
+    if (format_len) printf(" of '"), print_digits(bytes + at, format_len);
+    print_written(&column, bytes + at, format_len);
     putchar('\n');
     hv_free(&column);
 }

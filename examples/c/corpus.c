@@ -1,6 +1,8 @@
 /* The stored messages of examples/corpus, each of which is read, shown, written again, and made anew by calls:
- * corpus messages.txt. A line has a name, how the column is made, its rows and its bytes (examples/corpus/make.py). */
+ * corpus messages.txt [typed.txt]. A line has a name, in typed.txt that of the logical type too, how the column is made,
+ * its rows and its bytes (examples/corpus/make.py). */
 #include "check.h"
+#include "hivevigil_helpers.h"
 #include <inttypes.h>
 #include <stdlib.h>
 
@@ -315,50 +317,75 @@ static bool make(hv_column *out) {
 
 /* ---- the stored lines ---- */
 
-static void expect_bytes(const hv_column *column, const uint8_t *bytes, size_t len) {
+static void expect_bytes(const hv_column *column, const char *type, const uint8_t *bytes, size_t len) {
     static uint8_t written[LINE];
+    const uint8_t *const name = (const uint8_t *)type;
+    const size_t name_len = strlen(type);
     size_t size = 0, needed = 0;
+    CHECK(!hv_typed_size(column, name, name_len, &needed, &error) && needed == len);
+    CHECK(!hv_write_typed(column, name, name_len, written, sizeof written, &size, &error) && size == len);
+    CHECK(!memcmp(written, bytes, len));
+    if (name_len) return;
     CHECK(!hv_write_size(column, &needed, &error) && needed == len);
     CHECK(!hv_write(column, written, sizeof written, &size, &error) && size == len && !memcmp(written, bytes, len));
 }
 
+/* What is read has this logical type; without one it is what the calls of no types read too. */
+static void read_bytes(const uint8_t *bytes, size_t len, const char *type, hv_column *out) {
+    hv_column typed = HV_EMPTY;
+    size_t at, count;
+    CHECK(!hv_read_typed(bytes, len, &typed, &at, &count, &error));
+    CHECK(count == strlen(type) && !memcmp(bytes + at, type, count));
+    CHECK(hv_read_column(bytes, len, out, &error) == (count ? HV_BAD_METADATA : HV_OK));
+    if (count) hv_put(out, &typed);
+    hv_free(&typed);
+}
+
 /* Is the column made by calls too? */
-static bool check_line(char *form, const char *rows, const char *digits) {
+static bool check_line(const char *type, char *form, const char *rows, const char *digits) {
     static uint8_t bytes[LINE];
     const size_t len = strlen(digits) / 2;
     hv_column column = HV_EMPTY, made = HV_EMPTY;
     for (size_t at = 0; at < len; at++) sscanf(digits + 2 * at, "%2" SCNx8, &bytes[at]);
-    CHECK(!hv_read_column(bytes, len, &column, &error));
+    read_bytes(bytes, len, type, &column);
     show(&column);
     CHECK(!strcmp(shown, rows));
-    expect_bytes(&column, bytes, len);
+    expect_bytes(&column, type, bytes, len);
     word = word_count = 0;
     for (char *at = strtok(form, " "); at; at = strtok(NULL, " ")) words[word_count++] = at;
     const bool is_made = make(&made);
-    if (is_made) expect_bytes(&made, bytes, len);
+    if (is_made) expect_bytes(&made, type, bytes, len);
     CHECK(!is_made || word == word_count);
     hv_free(&column), hv_free(&made);
     return is_made;
 }
 
-int main(int argc, char **argv) {
+/* Reads the lines of a file with this number of parts, of which the second is a logical type where there are five. */
+static void check_file(const char *name, size_t parts, size_t *count, size_t *made) {
     static char line[LINE];
-    size_t count = 0, made = 0;
-    FILE *file = argc == 2 ? fopen(argv[1], "r") : NULL;
+    FILE *file = fopen(name, "r");
     CHECK(file);
-    hv_session_initial(&session);
-    for (; fgets(line, sizeof line, file); count++) {
-        char *parts[4] = {line};
-        for (size_t at = 1; at < 4; at++) {
-            parts[at] = strchr(parts[at - 1], '\t');
-            CHECK(parts[at]);
-            *parts[at]++ = 0;
+    for (; fgets(line, sizeof line, file); ++*count) {
+        char *part[5] = {line};
+        for (size_t at = 1; at < parts; at++) {
+            part[at] = strchr(part[at - 1], '\t');
+            CHECK(part[at]);
+            *part[at]++ = 0;
         }
-        parts[3][strcspn(parts[3], "\n")] = 0;
-        fprintf(stderr, "%s\n", parts[0]); /* the one that a check which does not hold is about */
-        made += check_line(parts[1], parts[2], parts[3]);
+        part[parts - 1][strcspn(part[parts - 1], "\n")] = 0;
+        fprintf(stderr, "%s\n", part[0]); /* the one that a check which does not hold is about */
+        *made += check_line(parts == 5 ? part[1] : "", part[parts - 3], part[parts - 2], part[parts - 1]);
     }
     fclose(file);
-    printf("%zu messages are read as their rows and written as their bytes; calls make %zu of them\n", count, made);
-    return count > 0 ? 0 : 1;
+}
+
+int main(int argc, char **argv) {
+    size_t count = 0, typed = 0, made = 0;
+    CHECK(argc == 2 || argc == 3);
+    hv_session_initial(&session);
+    check_file(argv[1], 4, &count, &made);
+    if (argc == 3) check_file(argv[2], 5, &typed, &made);
+    printf("%zu messages, and %zu with a logical type, are read as their rows and written as their bytes; calls make %zu "
+           "of them\n", count, typed, made);
+    return count > 0 && (typed > 0 || argc == 2) ? 0 : 1;
 }

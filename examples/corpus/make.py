@@ -3,11 +3,13 @@
 the model of examples/bytes, which shares nothing with the library that reads them.
 
     /usr/bin/python3 make.py            the lines of messages.txt
-    /usr/bin/python3 make.py --check    whether messages.txt has them
+    /usr/bin/python3 make.py --typed    those of typed.txt, of columns with a logical type
+    /usr/bin/python3 make.py --check    whether both have them
 
 A line has four parts with a tab between them: a name, how the column is made, its rows (at most ten are shown), and the
-message in hexadecimal digits. From the release 1.0.0 on no line changes and none is taken away: what a version 1.x
-writes or reads today, each later one does too. Needs what model.py needs.
+message in hexadecimal digits. One of typed.txt has five: after its name that of the logical type, and how the column of
+integers or texts is made that the message keeps, and its rows. From the release 1.0.0 on no line changes and none is taken
+away: what a version 1.x writes or reads today, each later one does too. Needs what model.py needs.
 """
 
 import sys
@@ -18,7 +20,7 @@ HERE = Path(__file__).resolve().parent
 sys.path.insert(0, str(HERE.parent / "bytes"))
 
 import model
-from messages import begun, bits, flat_numbers, flat_truths, over
+from messages import begun, bits, flat_numbers, flat_truths, over, typed as with_type
 from model import (
     ALL_NULL, BINARY, BOOL, BY_BITS, BY_RUNS, CONSTANT, DECIMAL, FLAT, LIST, LISTS, NEVER_NULL, NONE_NULL, NULLABLE,
     RUNS, SIZES, UNSIGNED, UTF8, Column,
@@ -284,6 +286,41 @@ def of_lists() -> dict:
     }
 
 
+def of_types() -> dict:
+    """Formats with the columns that have them. As keys of floats 0 is 0.0, and -1 is -0.0."""
+    zone, names = "tsn:Europe/Berlin", "tsu:" + "Z\u00fcrich/" * 20
+    singles = flat(I32, [0x3FC00000, None, -1, 0x7F800000], BY_BITS)
+    doubles = flat(I64, [0x3FF8 << 48, 0x7FF8000000000001, -1 - (0x7FF << 52), 0])
+    return {
+        "date": ("tdD", flat(I32, [20454, None, -719162], BY_BITS)),
+        "date-milliseconds": ("tdm", constant(I64, 1767225600000, 3)),
+        "time": ("tts", flat(I32, [0, 86399])),
+        "time-nanoseconds": ("ttn", runs(flat(I64, [1, 86399999999999], NONE_NULL), [2, 3])),
+        "timestamp": ("tsu:", runs(flat(I64, [1767225600000000, None], BY_BITS), [3, 5])),
+        "timestamp-utc": ("tss:UTC", flat(I64, [100, 160, None], BY_BITS)),
+        "timestamp-zone": (zone, runs(flat(I64, [-1, 0, 1]), [3, 5, 9], U16, 2, 4)),
+        "timestamp-long-zone": (names, constant(I64, None, 2)),
+        "duration": ("tDm", flat(I64, [-(2**63), 2**63 - 1], NONE_NULL)),
+        "float16": ("e", flat(I16, [0x3E00, -1, 0x7C00, 0])),
+        "float32": ("f", runs(singles, [2, 3, 5, 9])),
+        "float64": ("g", doubles),
+        "float64-constant": ("g", constant(I64, 0x4000 << 48, 2**60)),
+        # types that are not of these, which are kept and not tested
+        "months": ("tiM", flat(I32, [24, -1])),
+        "other-storage": ("tdD", flat(UTF8, ["2026-01-01", None], BY_BITS)),
+    }
+
+
+def typed_corpus() -> str:
+    lines = []
+    for name, (format, stored) in of_types().items():
+        message = with_type(format, stored)
+        data = model.written(message)
+        assert model.typed_column(data) == message, f"{name} is not a column's message"
+        lines.append("\t".join([name, format, form_text(stored), rows_text(stored), data.hex()]))
+    return "\n".join(lines) + "\n"
+
+
 def corpus() -> str:
     made = of_numbers() | of_texts() | of_constants() | of_runs() | of_lists()
     lines = []
@@ -297,12 +334,15 @@ def corpus() -> str:
 def main() -> None:
     warnings.simplefilter("ignore")
     if sys.argv[1:] != ["--check"]:
-        print(corpus(), end="")
+        print(typed_corpus() if sys.argv[1:] == ["--typed"] else corpus(), end="")
         return
-    stored = (HERE / "messages.txt").read_text(encoding="utf-8")
-    if stored != corpus():
-        sys.exit("messages.txt is not what the model writes")
-    print(f"{stored.count(chr(10))} messages are what the model writes")
+    count = 0
+    for name, due in ("messages.txt", corpus()), ("typed.txt", typed_corpus()):
+        stored = (HERE / name).read_text(encoding="utf-8")
+        if stored != due:
+            sys.exit(f"{name} is not what the model writes")
+        count += stored.count("\n")
+    print(f"{count} messages are what the model writes")
 
 
 if __name__ == "__main__":
