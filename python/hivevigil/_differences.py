@@ -40,7 +40,7 @@ def written(column: Column) -> Optional[Written]:
         again = totals(steps, column._kind, form)
     except Damaged:  # more than MOST
         return None
-    return (form, message) if again.to_bytes() == column.to_bytes() else None
+    return (form, message) if again.to_bytes() == column._message() else None
 
 
 def _message_size(column: Column) -> int:

@@ -1,14 +1,19 @@
-"""Columns in files, each a message of its own as docs/BYTES.md says it. Where a column has a logical type, a line comes
-first, `hivevigil type 1 FORMAT`, with the format that Arrow has for the type."""
+"""Columns as bytes and in files, each a message of its own as docs/BYTES.md says it, which keeps the logical type by
+the format that Arrow has for it. Earlier versions wrote a line before the message of the integers in place of that,
+`hivevigil type 1 FORMAT`: it is still read."""
 from __future__ import annotations
 
 import contextlib
+import ctypes
 import os
 import shutil
 import uuid
 from collections.abc import Iterable
-from typing import TYPE_CHECKING, Any
+from typing import TYPE_CHECKING, Any, Optional
 
+from ._library import Handle, ask, calls
+from ._protobuf import Fields
+from ._types import TYPES
 from .errors import BadMetadata, in_words
 from .logical import LogicalType
 
@@ -16,7 +21,8 @@ if TYPE_CHECKING:
     from .column import Column
 
 
-_HEAD = b"hivevigil type 1 "
+# how the bytes of a column begin: a message without and with a logical type, and the line of earlier versions
+_PLAIN, _TYPED, _LINE = b"\x08\x01", b"\x08\x02", b"hivevigil type 1 "
 
 
 def load(kind: type[Column], path: Any) -> Column:
@@ -31,20 +37,62 @@ def load(kind: type[Column], path: Any) -> Column:
 
 
 def of_bytes(kind: type[Column], data: bytes) -> Column:
-    """The column of a message, with or without the line of its type, which no message begins with."""
-    if not data.startswith(_HEAD):
-        return kind._of_message(data)
+    """The column of a message, also of one after a line that names its type; no message begins with such a line."""
+    format, message = _without_line(data)
+    if format is not None:
+        return _meaning(kind._of_message(message), format)
+    column, at, size = kind._owning(Handle()), ctypes.c_size_t(), ctypes.c_size_t()
+    ask(calls.hv_read_typed, data or b"\0", len(data), column._handle, at, size)
+    return _meaning(column, data[at.value : at.value + size.value].decode()) if size.value else column
+
+
+def is_message(data: bytes) -> bool:
+    """Whether `of_bytes` reads the bytes."""
+    format, message = _without_line(data)
+    call, truth = calls.hv_is_typed_message if format is None else calls.hv_is_message, ctypes.c_uint8()
+    ask(call, message or b"\0", len(message), truth)
+    if not truth.value:
+        return False
+    fields = Fields(message)
+    if format is None and message.startswith(_TYPED):
+        fields.number(1)
+        format = fields.text(22)
+        fields.size(23)
+    fields.number(1)
+    return format is None or _logical_of(format, TYPES[fields.number(2) - 1]) is not None  # messages count from 1
+
+
+def is_begun(data: bytes) -> bool:
+    """Whether the bytes begin as those of columns do."""
+    return data.startswith((_PLAIN, _TYPED, _LINE))
+
+
+def _without_line(data: bytes) -> tuple[Optional[str], bytes]:
+    """The format that a line before the message names, None without a line, and the message."""
+    if not data.startswith(_LINE):
+        return None, data
     line = data[: data.find(b"\n")]
-    logical = LogicalType.of_format(line[len(_HEAD) :].decode(errors="replace"))
-    column = kind._of_message(data[len(line) + 1 :])
-    if logical is None or logical.storage != column.type.rstrip("?"):
-        raise BadMetadata().saying("from_bytes: the line of the type is not that of such a column")
+    return line[len(_LINE) :].decode(errors="replace"), data[len(line) + 1 :]
+
+
+def _meaning(column: Column, format: str) -> Column:
+    """The column, which was read just now, with the logical type that a format names."""
+    storage = column.type.rstrip("?")
+    logical = _logical_of(format, storage)
+    if logical is None:
+        said = f"from_bytes: {in_words(format)} does not name a logical type of a column of {storage}"
+        raise BadMetadata().saying(said)
     return column._meaning(logical)
 
 
+def _logical_of(format: str, storage: str) -> Optional[LogicalType]:
+    """The logical type that a format names, None where it is not one of integers of this type."""
+    logical = LogicalType.of_format(format)
+    return logical if logical is not None and logical.storage == storage else None
+
+
 def save(column: Column, path: Any) -> None:
-    head = b"" if column._logical is None else _HEAD + column._logical.format.encode() + b"\n"
-    write(path, [head, column.to_bytes()])
+    write(path, [column.to_bytes()])
 
 
 def write(path: Any, parts: Iterable[bytes]) -> None:

@@ -98,7 +98,7 @@ _METHODS = {
     "runs": "from_runs", "lists": "from_lists", "clone": "copy", "concat_columns": "concat",
     "export_with": "to_arrow",
     "export_stream": "to_arrow", "encode_rows": "to_runs", "read_bools": "truths", "read_validity": "validity",
-    "write_size": "to_bytes", "read_column": "from_bytes",
+    "typed_size": "to_bytes", "read_column": "from_bytes", "read_typed": "from_bytes",
 }
 
 
@@ -109,7 +109,7 @@ _LONG = frozenset("hv_" + name for name in (
     "compare_scalar", "combine", "not", "is_null", "is_valid", "if_else", "equals", "hash", "fill", "float_cast", "float_of_integers", "float_to_integers", "float_combine", "fold_by", "running_totals", "sum", "decimal_sum", "decimal_combine", "is_constant", "is_sorted", "extreme", "min_max",
     "read_u8", "read_u16", "read_u32", "read_u64", "read_i8", "read_i16", "read_i32", "read_i64", "read_decimals",
     "read_bools_from", "read_validity_from", "read_large_offsets", "read_bytes", "read_ends_u64",
-    "write_size", "write", "read_column", "is_message",
+    "write_size", "typed_size", "write_typed", "read_column", "read_typed", "is_message", "is_typed_message",
 ))
 _MANY = 16384  # rows, runs, items or bytes: from here on a call takes longer than the clones that it is lent
 _LIST = 12  # the number of the type of lists

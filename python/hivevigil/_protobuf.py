@@ -44,10 +44,14 @@ class Fields:
         self._expect(varint(field * 8 + _VARINT))
         return self._varint()
 
+    def size(self, field: int) -> int:
+        """How many bytes this field has, of which the first is read next."""
+        self._expect(varint(field * 8 + _SIZED))
+        return self._varint()
+
     def content(self, field: int) -> bytes:
         """The bytes of this field."""
-        self._expect(varint(field * 8 + _SIZED))
-        size = self._varint()
+        size = self.size(field)
         start = self._at
         self._at += size
         if self._at > len(self._data):

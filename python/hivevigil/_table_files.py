@@ -98,7 +98,7 @@ def parts(
     footer = number_field(1, rows)
     for name, column in columns.items():
         with about(name):
-            form, message = kept[name] if name in kept else (0, column.to_bytes())
+            form, message = kept[name] if name in kept else (0, column._message())
             known = _column_footer(name, column, logical.get(name, ""), len(message), form if kept else None)
             footer += sized_field(2, known)
         yield sized_field(_COLUMN, message)
@@ -310,7 +310,7 @@ class _refused:
         if kind is Damaged:
             size = self._file.seek(0, os.SEEK_END)
             self._file.seek(0)
-            is_column = self._file.read(2) == b"\x08\x01"
+            is_column = _files.is_begun(self._file.read(_HEAD_SIZE + _TAIL))
             hint = ": Column.load reads the file of a column" if is_column else ""
             said = f"load: {self._name}, of {size:,} bytes, is not a file that Table.save wrote{hint}"
             raise BadMetadata().saying(said) from None

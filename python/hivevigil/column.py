@@ -212,21 +212,20 @@ class Column(_comparing.Comparisons, _pairs.Pairs):
 
     @classmethod
     def from_bytes(cls, message: bytes) -> Column:
-        """The column that `to_bytes` wrote, in the form that it had. A line before it, as `save` and the extensions of
-        databases write it, says the logical type. `BadMetadata` for other bytes."""
+        """The column that `to_bytes` wrote, in the form that it had, with its logical type. `BadMetadata` for other
+        bytes. Files of earlier versions, which have a line before the message that says the type, are read too."""
         return _files.of_bytes(cls, bytes(_making.view_of(message)))  # of a number bytes() would make as many bytes
 
     @classmethod
     def _of_message(cls, message: bytes) -> Column:
+        """The column of a message that keeps no logical type."""
         return cls._made(calls.hv_read_column, message or b"\0", len(message))
 
     @staticmethod
     def is_message(message: bytes) -> bool:
-        """Whether the bytes are what `to_bytes` writes of some column, so that `from_bytes` reads them. Nothing is
-        made: it takes no memory but for a copy of bytes that are not of the type `bytes`."""
-        data, truth = bytes(_making.view_of(message)), ctypes.c_uint8()
-        ask(calls.hv_is_message, data or b"\0", len(data), truth)
-        return truth.value == 1
+        """Whether the bytes are those of some column, so that `from_bytes` reads them. No column is made: memory is
+        only taken for a copy of bytes that are not of the type `bytes`, or have a line of earlier versions."""
+        return _files.is_message(bytes(_making.view_of(message)))
 
     @classmethod
     def load(cls, path: Any) -> Column:
@@ -655,12 +654,17 @@ class Column(_comparing.Comparisons, _pairs.Pairs):
         return data.raw[: size.value]
 
     def to_bytes(self) -> bytes:
-        """The column as bytes, in the form that it has, to keep or to send: a message of the Protocol Buffers encoding.
-        Texts and bytes are read into one buffer. Only more than 16 levels of runs are refused, as `Unsupported`."""
-        size = ctypes.c_size_t()
-        ask(calls.hv_write_size, self, size)
+        """The column as bytes, in the form that it has, to keep or to send: a message of the Protocol Buffers encoding,
+        which keeps the logical type. Texts and bytes are read into one buffer. Only more than 16 levels of runs are
+        refused, as `Unsupported`."""
+        return self._message(self._logical)
+
+    def _message(self, logical: Optional[LogicalType] = None) -> bytes:
+        """The message of the column, of this logical type or of none."""
+        size, name = ctypes.c_size_t(), b"" if logical is None else logical.format.encode()
+        ask(calls.hv_typed_size, self, name, len(name), size)
         data = ctypes.create_string_buffer(size.value)
-        ask(calls.hv_write, self, data, len(data), size)
+        ask(calls.hv_write_typed, self, name, len(name), data, len(data), size)
         return data.raw
 
     def save(self, path: Any) -> None:

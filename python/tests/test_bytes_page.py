@@ -34,7 +34,7 @@ def line_bytes(line: str, width: int) -> bytes:
 def messages(start: str = "## An example, byte by byte", stop: str = "## What is refused") -> list[bytes]:
     page = PAGE.read_text(encoding="utf-8")
     part = page[page.index(start) : page.index(stop)]
-    blocks = [block for block in part.split("\n\n") if block.startswith("    ")]
+    blocks = [block for block in part.split("\n\n") if re.match("    [0-9a-f]{2} ", block)]
     return [b"".join(line_bytes(line, 16 if "decimal" in block else 8) for line in block.splitlines())
             for block in blocks]
 
@@ -52,6 +52,19 @@ def test_an_example_is_read_and_written(at):
         assert column.to_list() == rows
     else:
         assert (len(column), column[0], column[-1]) == (rows[1], rows[0], rows[0])
+
+
+def test_the_examples_of_logical_types():
+    times, floats = messages("## Logical types", "## Tables")
+    column = Column.from_bytes(times)
+    at = [datetime.fromtimestamp(seconds, timezone.utc) for seconds in (100, 160)]
+    assert (column.to_list(), str(column.logical_type), column.type) == ([*at, None], "timestamp[s, UTC]", "i64?")
+    assert column.to_bytes() == times and len(times) == 54
+    assert Column.of([*at, None], "timestamp[s, UTC]").to_bytes() == times
+    column = Column.from_bytes(floats)
+    assert (len(column), column[0], column.sum(), str(column.logical_type)) == (2**60, 1.5, 1.5 * 2.0**60, "float64")
+    assert column.to_bytes() == floats and len(floats) == 37
+    assert Column.constant(1.5, 2**60).to_bytes() == floats
 
 
 def test_the_example_of_a_table():

@@ -2,12 +2,14 @@
 rows where a call of this package makes its form."""
 import hashlib
 import re
+from datetime import date, datetime, time, timezone
 from decimal import Decimal
 from pathlib import Path
 
 import pytest
 
 from hivevigil import Column, Table
+from hivevigil.errors import BadMetadata
 
 CORPUS = Path(__file__).resolve().parents[2] / "examples/corpus"
 LINES = (CORPUS / "messages.txt").read_text(encoding="utf-8").splitlines()
@@ -15,6 +17,7 @@ LINES = (CORPUS / "messages.txt").read_text(encoding="utf-8").splitlines()
 # ever, so they do not change
 RELEASED = {
     "messages.txt": (72, "799efcd303de9ed2b38eb9bc6ee6adc459db72e0a6ecc783d02b3501bff1985a"),
+    "typed.txt": (15, "f38788ef5bb351385eb988525c8755c75ea252c28e501ac21ca6d5f790e925ee"),
     "tables.txt": (9, "f0c45c203195bc77e8e86912427004f598715b751d33569cf3403221d2a2d60c"),
     "differences.txt": (6, "d18a0e7b7275a430cc2d29d324afc51f047b9724541673582949abf0bbf8b706"),
 }
@@ -139,6 +142,60 @@ def test_most_messages_are_made_of_their_rows():
     assert len(LINES) >= 60 and sum(column is not None for column in made) >= 45
 
 
+TYPED = (CORPUS / "typed.txt").read_text(encoding="utf-8").splitlines()
+# the lines whose logical type is none that this package has values for, or not one of such rows
+OTHER_TYPES = {"months", "other-storage"}
+
+
+@pytest.mark.parametrize("line", TYPED, ids=[line.partition("\t")[0] for line in TYPED])
+def test_a_message_with_a_logical_type_is_read_and_written(line):
+    """It has this type over these rows, and is written as its bytes again, also where it is made of its rows."""
+    name, format, form, rows, digits = line.split("\t")
+    message = bytes.fromhex(digits)
+    if name in OTHER_TYPES:
+        assert not Column.is_message(message)
+        with pytest.raises(BadMetadata, match=f"^from_bytes: '{format}' does not name a logical type of a column of "):
+            Column.from_bytes(message)
+        return
+    column = Column.from_bytes(message)
+    stored = column.storage()
+    assert Column.is_message(message) and column.logical_type.format == format
+    assert (len(column), stored[:SHOWN].to_list()) == listed(rows, stored)
+    assert column.to_bytes() == message and message.endswith(stored.to_bytes())
+    assert column.form == form.partition(" ")[0]
+    made = Maker(form).column()
+    if made is None:  # it has null, and no row is null
+        assert " all-valid " in form
+        return
+    assert made.to_bytes() == stored.to_bytes()
+    if made.form == "flat" and column.logical_type.sort != "float":  # a cast keeps no window, and makes other floats
+        assert made.cast(f"{column.logical_type}{'?' * made.nullable}").to_bytes() == message
+
+
+def test_values_of_messages_with_a_logical_type():
+    """What the numbers of some lines mean, by hand."""
+    columns = {}
+    for line in TYPED:
+        name, *_, digits = line.split("\t")
+        if name not in OTHER_TYPES:
+            columns[name] = Column.from_bytes(bytes.fromhex(digits))
+    utc = timezone.utc
+    assert columns["date"].to_list() == [date(2026, 1, 1), None, date(1, 1, 1)]
+    assert columns["date-milliseconds"].to_list() == [date(2026, 1, 1)] * 3
+    assert columns["time"].to_list() == [time(0), time(23, 59, 59)]
+    assert columns["timestamp"].to_list() == [datetime(2026, 1, 1)] * 3 + [None] * 2
+    assert columns["timestamp-utc"].to_list() == [datetime(1970, 1, 1, 0, 1, 40, tzinfo=utc),
+                                                  datetime(1970, 1, 1, 0, 2, 40, tzinfo=utc), None]
+    assert columns["timestamp-long-zone"].to_list() == [None, None]
+    assert columns["duration"].storage().to_list() == [-(2**63), 2**63 - 1]
+    for name in ("float16", "float32", "float64"):
+        assert str(columns[name].logical_type) == name
+    assert [str(row) for row in columns["float16"].to_list()] == ["1.5", "-0.0", "inf", "0.0"]
+    assert [str(row) for row in columns["float32"].to_list()] == ["1.5"] * 2 + ["None"] + ["-0.0"] * 2 + ["inf"] * 4
+    assert [str(row) for row in columns["float64"].to_list()] == ["1.5", "nan", "-inf", "0.0"]
+    assert columns["float64-constant"].sum() == 2.0**61
+
+
 TABLES = (Path(__file__).resolve().parents[2] / "examples/corpus/tables.txt").read_text(encoding="utf-8").splitlines()
 
 
@@ -149,7 +206,7 @@ def test_a_stored_table(line):
     messages = {line.split("\t")[0]: bytes.fromhex(line.split("\t")[3]) for line in LINES}
     table = Table.from_bytes(bytes.fromhex(digits))
     assert (table.rows, table.names) == (int(rows), names.split(",") if names else [])
-    assert all(table[name].to_bytes() == messages[name] for name in table)
+    assert all(table[name].storage().to_bytes() == messages[name] for name in table)
     assert table.to_bytes().hex() == digits
     logical_types = {"flat-i32": "tdD", "flat-i64": "tsu:UTC"}
     assert table.logical_types == {name: logical_types[name] for name in table if name in logical_types}

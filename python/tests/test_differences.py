@@ -70,7 +70,7 @@ def test_what_the_model_writes_is_read(model, seed):  # noqa: F811
     table = Table.from_bytes(model.written(message))
     assert table.rows == message.footer.rows and model.table(model.written(message)) is not None
     for footer, column in zip(message.footer.columns, model.columns(message)):
-        assert table[footer.name].to_bytes() == model.model.written(column)
+        assert table[footer.name].storage().to_bytes() == model.model.written(column)
         assert table.logical_types.get(footer.name, "") == footer.logical_type
 
 

@@ -407,9 +407,12 @@ def test_rows_by_their_runs():
 
 
 def test_bytes_of_databases():
-    """The column of 1.5, 1.5, null and 0.0 as SQLite and PostgreSQL have it: test_floats.c and test_floats.sql of both."""
+    """The column of 1.5, 1.5, null and 0.0 as SQLite and PostgreSQL have it, and as earlier versions wrote it:
+    test_floats.c and test_floats.sql of both."""
     message = "08011008180220044000480152030201015A27080110081801200328043201053A18000000000000F83F" + 32 * "0"
-    data = b"hivevigil type 1 g\n" + bytes.fromhex(message)
-    column = Column.from_bytes(data)
-    assert (str(column.logical_type), column.to_list()) == ("float64", [1.5, 1.5, None, 0.0])
-    assert data == b"hivevigil type 1 g\n" + Column.of([1.5, 1.5, None, 0.0]).to_runs().to_bytes()
+    data = bytes.fromhex("0802B2010167BA013A" + message)
+    for written in (data, b"hivevigil type 1 g\n" + bytes.fromhex(message)):
+        column = Column.from_bytes(written)
+        assert (str(column.logical_type), column.to_list()) == ("float64", [1.5, 1.5, None, 0.0])
+        assert column.to_bytes() == data
+    assert data == Column.of([1.5, 1.5, None, 0.0]).to_runs().to_bytes()

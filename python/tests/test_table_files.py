@@ -55,7 +55,7 @@ def check_footer(footer, sample, table):
         assert (found.name, found.null_count, found.runs) == (name, rows.count(None), runs)
         assert found.least == min(valid, key=_ordered, default=None) and found.type == table.types[name]
         assert found.greatest == max(valid, key=_ordered, default=None)
-        assert found.logical_type == table.logical_types.get(name) and found.nbytes == len(table[name].to_bytes())
+        assert found.logical_type == table.logical_types.get(name) and found.nbytes == len(table[name].storage().to_bytes())
 
 
 @given(sample=tables(least_columns=1), data=st.data())
@@ -148,10 +148,14 @@ def test_each_byte_counts(tmp_path):
 
 def test_files_that_are_no_tables(tmp_path):
     KEPT["same"].save(tmp_path / "column")
+    Column.of([1, 2], "date").save(tmp_path / "days")
+    (tmp_path / "line").write_bytes(b"hivevigil type 1 tdD\n" + Column.of([1, 2], "i32").to_bytes())
     (tmp_path / "text").write_text("place,level\n")
     (tmp_path / "empty").write_bytes(b"")
     for name, size, more in (
         ("column", len(KEPT["same"].to_bytes()), ": Column.load reads the file of a column"),
+        ("days", 31, ": Column.load reads the file of a column"),
+        ("line", 41, ": Column.load reads the file of a column"),
         ("text", 12, ""), ("empty", 0, ""),
     ):  # fmt: skip
         said = f"load: {tmp_path / name}, of {size} bytes, is not a file that Table.save wrote{more}"
@@ -236,7 +240,7 @@ def test_what_the_model_writes_is_read(model, seed):
     table = Table.from_bytes(data)
     assert table.to_bytes() == data and table.rows == message.footer.rows
     for footer, column in zip(message.footer.columns, message.columns):
-        assert table[footer.name].to_bytes() == model.model.written(column)
+        assert table[footer.name].storage().to_bytes() == model.model.written(column)
         assert table.logical_types.get(footer.name, "") == footer.logical_type
 
 

@@ -494,22 +494,26 @@ def test_files_keep_the_type(tmp_path_factory, sample):
     column.save(path)
     made = Column.load(path)
     assert (made.logical_type, made.to_list(), made.form) == (column.logical_type, rows, column.form)
-    assert path.read_bytes().startswith(b"hivevigil type 1 " + column.logical_type.format.encode() + b"\n")
-    assert Column.from_bytes(column.to_bytes()).to_list() == column.storage().to_list()
-    again = Column.from_bytes(path.read_bytes())
-    assert (again.logical_type, again.to_list(), again.form) == (column.logical_type, rows, column.form)
+    assert path.read_bytes() == column.to_bytes()
+    assert Column.from_bytes(column.storage().to_bytes()).to_list() == column.storage().to_list()
+    # the files of earlier versions
+    path.write_bytes(b"hivevigil type 1 " + column.logical_type.format.encode() + b"\n" + column.storage().to_bytes())
+    for again in (Column.from_bytes(column.to_bytes()), Column.load(path)):
+        assert (again.logical_type, again.to_list(), again.form) == (column.logical_type, rows, column.form)
+        assert again.to_bytes() == column.to_bytes()
 
 
 @pytest.mark.parametrize("head", [
     b"hivevigil type 1 tsx:\n", b"hivevigil type 2 tsu:\n", b"hivevigil type 1 tdD\n", b"hivevigil type 1 tsu:",
-    b"hivevigil type 1 l\n", b"hivevigil type 1 \xff\n", b"hivevigil type 1 ",
+    b"hivevigil type 1 l\n", b"hivevigil type 1 \xff\n", b"hivevigil type 1 ", b"hivevigil type 1 \n",
 ])
 def test_damaged_files_are_refused(tmp_path, head):
     (tmp_path / "bad").write_bytes(head + Column.of([1]).to_bytes())
     with pytest.raises(BadMetadata, match="is not a file that save wrote"):
         Column.load(tmp_path / "bad")
-    with pytest.raises(BadMetadata, match="^from_bytes: the (bytes are not what|line of the type is not that of)"):
+    with pytest.raises(BadMetadata, match="^from_bytes: (the bytes are not what|'.*' does not name a logical type of)"):
         Column.from_bytes(head + Column.of([1]).to_bytes())
+    assert not Column.is_message(head + Column.of([1]).to_bytes())
     with pytest.raises(BadMetadata, match="^from_bytes: the bytes are not what to_bytes writes$"):
         Column.from_bytes(2 * b"hivevigil type 1 tsu:\n" + Column.of([1]).to_bytes())
 
