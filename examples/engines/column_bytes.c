@@ -59,25 +59,24 @@ static int32_t least_type(hv_column *runs, hv_column *out, hv_error *error) {
     return HV_OK;
 }
 
-/* The message of a column, with room for a line before it. */
-static int32_t written(const hv_column *column, size_t line, uint8_t **bytes, size_t *size, hv_error *error) {
-    int32_t answer = hv_write_size(column, size, error);
+/* The message of a column, of floats with the letter of their type, else without one. */
+static int32_t written(const hv_column *column, const uint8_t *format, uint8_t **bytes, size_t *size, hv_error *error) {
+    const size_t len = format != NULL;
+    int32_t answer = hv_typed_size(column, format, len, size, error);
     if (answer) return answer;
-    *bytes = malloc(*size + line);
+    *bytes = malloc(*size);
     if (!*bytes) return HV_OUT_OF_MEMORY;
-    answer = hv_write(column, *bytes + line, *size, size, error);
-    *size += line;
+    answer = hv_write_typed(column, format, len, *bytes, *size, size, error);
     if (answer) free(*bytes), *bytes = NULL;
     return answer;
 }
 
-/* The encoding of floats, which are not all null, as the one of their keys after the line of their type. */
+/* The encoding of floats, which are not all null, as the one of their keys with their type. */
 static int32_t floats_write(const hv_column *runs, uint8_t **bytes, size_t *size, hv_error *error) {
     hv_column keys = HV_EMPTY, least = HV_EMPTY;
     int32_t answer = hv_float_encode(runs, 0, &keys, error);
     if (!answer) answer = least_type(&keys, &least, error);
-    if (!answer) answer = written(&least, FLOAT_LINE, bytes, size, error);
-    if (!answer) float_line_write(hv_kind_of(runs).number, *bytes);
+    if (!answer) answer = written(&least, float_format(hv_kind_of(runs).number), bytes, size, error);
     hv_free(&keys), hv_free(&least);
     return answer;
 }
@@ -87,7 +86,7 @@ int32_t encoding_bytes_write(hv_column *runs, uint8_t **bytes, size_t *size, hv_
     hv_column least = HV_EMPTY;
     if (!is_null && is_float_type(hv_kind_of(runs).number)) return floats_write(runs, bytes, size, error);
     int32_t answer = is_null ? null_numbers(runs, &least, error) : least_type(runs, &least, error);
-    if (!answer) answer = written(&least, 0, bytes, size, error);
+    if (!answer) answer = written(&least, NULL, bytes, size, error);
     hv_free(&least);
     return answer;
 }
@@ -130,18 +129,27 @@ int32_t column_of_truths(const hv_column *truths, hv_column *out, hv_error *erro
     return answer;
 }
 
+/* The column of a message, or of the message after a line, and of floats the type of the keys; else HV_LIST. */
+static int32_t read_message(const uint8_t *bytes, size_t size, hv_column *out, uint8_t *keys, hv_error *error) {
+    size_t at = 0, len = 0;
+    *keys = float_line_read(bytes, size);
+    if (*keys != HV_LIST) return hv_read_column(bytes + FLOAT_LINE, size - FLOAT_LINE, out, error);
+    const int32_t answer = hv_read_typed(bytes, size, out, &at, &len, error);
+    if (!answer && len) *keys = float_keys_of(bytes + at, len);
+    return answer;
+}
+
 int32_t column_bytes_read(const uint8_t *bytes, size_t size, hv_column *out, hv_error *error) {
-    const uint8_t keys = float_line_read(bytes, size);
     hv_column column = HV_EMPTY;
-    if (keys != HV_LIST) return float_column_read(bytes + FLOAT_LINE, size - FLOAT_LINE, keys, out, error);
-    int32_t answer = hv_read_column(bytes, size, &column, error);
+    uint8_t keys;
+    int32_t answer = read_message(bytes, size, &column, &keys, error);
     if (answer) return answer;
     hv_kind kind = hv_kind_of(&column);
-    if (kind.number == HV_I64 || kind.number == HV_UTF8 || kind.number == HV_BINARY) {
+    if (keys != HV_LIST) {
+        answer = float_column_of_keys(&column, keys, out, error);
+    } else if (kind.number == HV_I64 || kind.number == HV_UTF8 || kind.number == HV_BINARY) {
         hv_put(out, &column);
-        return HV_OK;
-    }
-    if (kind.number < HV_I64) {
+    } else if (kind.number < HV_I64) {
         kind.number = HV_I64;
         answer = column_cast(&column, &kind, out, error);
     } else {

@@ -1,5 +1,5 @@
-/* Columns of a database as bytes: messages of docs/column.proto, written and read by the library. Before that of a
- * column of floats (float_columns.h) is a line that names their type. */
+/* Columns of a database as bytes: messages of docs/column.proto, written and read by the library. That of a column of
+ * floats (float_columns.h) keeps their logical type. */
 #ifndef HIVEVIGIL_COLUMN_BYTES_H
 #define HIVEVIGIL_COLUMN_BYTES_H
 #include "hivevigil.h"
@@ -13,8 +13,9 @@ int32_t column_bytes_write(const hv_column *column, uint8_t **bytes, size_t *siz
 int32_t encoding_bytes_write(hv_column *runs, uint8_t **bytes, size_t *size, hv_error *error);
 
 /* The column that the bytes are, in the form in which it was written, whoever wrote it: texts, bytes, or integers of
- * any type, which are signed numbers of 64 bits then, as booleans are; floats as their bits. 17 where they are
- * none, 13 for rows of another type, 14 for a number past 2^63, 21. */
+ * any type, which are signed numbers of 64 bits then, as booleans are; floats as their bits. A logical type but that of
+ * floats is not kept: of times there are the numbers. 17 where they are none, also where a type of floats is not of such
+ * keys, 13 for rows of another type, 14 for a number past 2^63, 21. */
 int32_t column_bytes_read(const uint8_t *bytes, size_t size, hv_column *out, hv_error *error);
 
 /* The column as one of another type, as hv_cast, in memory by runs: a constant becomes one run before, since a constant

@@ -5,19 +5,30 @@
 
 static const char line_start[] = "hivevigil type 1 ";
 
-uint8_t float_line_read(const uint8_t *bytes, size_t size) {
+const uint8_t *float_format(uint8_t number) { return (const uint8_t *)(number == HV_U32 ? "f" : "g"); }
+
+uint8_t float_keys_of(const uint8_t *format, size_t len) {
     static const char letters[] = "efg";
     static const uint8_t keys[] = {HV_I16, HV_I32, HV_I64};
-    const size_t start = sizeof line_start - 1;
-    if (size < FLOAT_LINE || memcmp(bytes, line_start, start) != 0 || bytes[start + 1] != '\n') return HV_LIST;
-    const char *letter = bytes[start] ? strchr(letters, bytes[start]) : NULL;
+    const char *letter = len == 1 && *format ? strchr(letters, *format) : NULL;
     return letter ? keys[letter - letters] : HV_LIST;
 }
 
-void float_line_write(uint8_t number, uint8_t *bytes) {
-    memcpy(bytes, line_start, sizeof line_start - 1);
-    bytes[FLOAT_LINE - 2] = number == HV_U32 ? 'f' : 'g';
-    bytes[FLOAT_LINE - 1] = '\n';
+uint8_t float_line_read(const uint8_t *bytes, size_t size) {
+    const size_t start = sizeof line_start - 1;
+    if (size < FLOAT_LINE || memcmp(bytes, line_start, start) != 0 || bytes[start + 1] != '\n') return HV_LIST;
+    return float_keys_of(bytes + start, 1);
+}
+
+size_t float_line_of(const uint8_t *bytes, size_t size, uint8_t line[FLOAT_LINE]) {
+    /* version 2, a name of one letter, and the length of the message of the keys in some bytes */
+    static const uint8_t front[] = {0x08, 2, 0xb2, 1, 1}, key[] = {0xba, 1};
+    size_t start = sizeof front + 1 + sizeof key;
+    if (size <= start || memcmp(bytes, front, sizeof front) != 0 || memcmp(bytes + start - 2, key, 2) != 0) return 0;
+    while (start < size && bytes[start++] > 127) continue;
+    memcpy(line, line_start, sizeof line_start - 1);
+    line[FLOAT_LINE - 2] = bytes[sizeof front], line[FLOAT_LINE - 1] = '\n';
+    return start;
 }
 
 uint64_t bits_of_float(double number) {
@@ -115,14 +126,13 @@ int32_t float_column_widened(const hv_column *column, hv_column *out, hv_error *
                                                : hv_clone(column, out, error);
 }
 
-int32_t float_column_read(const uint8_t *message, size_t size, uint8_t keys, hv_column *out, hv_error *error) {
-    hv_column column = HV_EMPTY, bits = HV_EMPTY;
-    int32_t answer = hv_read_column(message, size, &column, error);
-    if (!answer && hv_kind_of(&column).number != keys) answer = HV_BAD_METADATA;
-    if (!answer) answer = converted(&column, NULL, false, &bits, error);
+int32_t float_column_of_keys(const hv_column *column, uint8_t keys, hv_column *out, hv_error *error) {
+    hv_column bits = HV_EMPTY;
+    if (hv_kind_of(column).number != keys) return HV_BAD_METADATA;
+    int32_t answer = converted(column, NULL, false, &bits, error);
     if (!answer && keys == HV_I16) answer = converted(&bits, widened_16, false, out, error);
     else if (!answer) hv_put(out, &bits);
-    hv_free(&column), hv_free(&bits);
+    hv_free(&bits);
     return answer;
 }
 

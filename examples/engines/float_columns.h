@@ -1,6 +1,7 @@
-/* Columns of floats of a database. As bytes they are columns of keys (docs/TYPES.md), with a line before the message
- * that names the type, as in the files of Python's `save`. Between, they are columns of bits, in u32 or u64, which no
- * other column of a database has: what moves rows serves them as they are, and keeps -0.0 and each NaN.
+/* Columns of floats of a database. As bytes they are columns of keys (docs/TYPES.md), in a message that keeps their
+ * logical type, as Python's `to_bytes` writes it; earlier versions wrote a line that names the type before the message of
+ * the keys, which is read still. Between, they are columns of bits, in u32 or u64, which no other column of a database
+ * has: what moves rows serves them as they are, and keeps -0.0 and each NaN.
  *
  * Everything goes by runs. In a comparison numbers are those of IEEE 754, so 0.0 equals -0.0; what a NaN is, the
  * database says. */
@@ -15,17 +16,24 @@ typedef enum nan_order { NAN_UNORDERED, NAN_GREATEST } nan_order;
 /* Does a column of this type have floats? */
 static inline bool is_float_type(uint8_t number) { return number == HV_U32 || number == HV_U64; }
 
-/* The bytes of the line that names a type of floats. */
+/* The format of Arrow, one letter, of floats of these bits, HV_U32 or HV_U64. */
+const uint8_t *float_format(uint8_t number);
+
+/* The type of the keys, HV_I16, HV_I32 or HV_I64, of floats with this format; HV_LIST where it is of no floats. */
+uint8_t float_keys_of(const uint8_t *format, size_t len);
+
+/* The bytes of the line that named a type of floats in earlier versions. */
 enum { FLOAT_LINE = 19 };
 
-/* The type of the keys, HV_I16, HV_I32 or HV_I64, of which the bytes begin with a line; HV_LIST where they do not. */
+/* The type of the keys of bytes that begin with such a line; HV_LIST where they do not. */
 uint8_t float_line_read(const uint8_t *bytes, size_t size);
 
-/* Writes the line of floats of these bits, HV_U32 or HV_U64. */
-void float_line_write(uint8_t number, uint8_t *bytes);
+/* Bytes of floats, which a function of these files wrote, as earlier versions wrote them: puts the line to `line`, and
+ * answers how many bytes come before the message that was after it. 0 for the bytes of any other column. */
+size_t float_line_of(const uint8_t *bytes, size_t size, uint8_t line[FLOAT_LINE]);
 
-/* The column of bits of a message of keys; of 16 bits each is one of 64. 17 unless it has keys of this type, 21. */
-int32_t float_column_read(const uint8_t *message, size_t size, uint8_t keys, hv_column *out, hv_error *error);
+/* The column of bits of one of keys; of 16 bits each is one of 64. 17 unless its type is that of these keys, 21. */
+int32_t float_column_of_keys(const hv_column *column, uint8_t keys, hv_column *out, hv_error *error);
 
 /* Floats of 32 bits as those of 64: the same numbers, and NaNs with their payload. Any other column as it is. 21. */
 int32_t float_column_widened(const hv_column *column, hv_column *out, hv_error *error);

@@ -39,8 +39,24 @@ static bool same_rows(FunctionCallInfo fcinfo, const char *function) {
 HV_FUNCTION(pg_hv_equal) { PG_RETURN_BOOL(same_rows(fcinfo, "hv_equal")); }
 HV_FUNCTION(pg_hv_unequal) { PG_RETURN_BOOL(!same_rows(fcinfo, "hv_unequal")); }
 
+/* The bytes that are hashed. For floats they are those that earlier versions wrote, with a line before the message of the
+ * keys, so that indexes and partitions by hash remain those of their rows. */
+static bytea *hashed(const char *function, bytea *bytes) {
+    uint8_t line[FLOAT_LINE];
+    bytea *found = encoded(function, bytes);
+    const size_t size = VARSIZE_ANY_EXHDR(found);
+    const size_t start = float_line_of((const uint8_t *)VARDATA_ANY(found), size, line);
+    if (!start) return found;
+    bytea *before = palloc(VARHDRSZ + FLOAT_LINE + size - start);
+    SET_VARSIZE(before, VARHDRSZ + FLOAT_LINE + size - start);
+    memcpy(VARDATA(before), line, FLOAT_LINE);
+    memcpy(VARDATA(before) + FLOAT_LINE, VARDATA_ANY(found) + start, size - start);
+    pfree(found);
+    return before;
+}
+
 HV_FUNCTION(pg_hv_hash) {
-    bytea *bytes = encoded("hv_hash", PG_GETARG_BYTEA_PP(0));
+    bytea *bytes = hashed("hv_hash", PG_GETARG_BYTEA_PP(0));
     const uint32 hash = hash_bytes((const unsigned char *)VARDATA_ANY(bytes), (int)VARSIZE_ANY_EXHDR(bytes));
     pfree(bytes);
     PG_RETURN_UINT32(hash);
@@ -48,7 +64,7 @@ HV_FUNCTION(pg_hv_hash) {
 
 /* The same in 64 bits, with a seed, for tables that are partitioned by hash. */
 HV_FUNCTION(pg_hv_hash_extended) {
-    bytea *bytes = encoded("hv_hash_extended", PG_GETARG_BYTEA_PP(0));
+    bytea *bytes = hashed("hv_hash_extended", PG_GETARG_BYTEA_PP(0));
     const uint64 hash = hash_bytes_extended((const unsigned char *)VARDATA_ANY(bytes), (int)VARSIZE_ANY_EXHDR(bytes),
                                             (uint64)PG_GETARG_INT64(1));
     pfree(bytes);

@@ -68,11 +68,38 @@ SELECT same('SELECT pg_typeof(hv_column(1)), pg_typeof(hv_column(1::smallint)), 
           FROM (VALUES (5), (NULL), (-7)) v(x)', 'SELECT -2, -6, -6')
 \g /dev/null
 
--- ---- Bytes: a line that names the type, and the message of the keys ----
+-- ---- Bytes: a message of the keys, with the type around it, or in a line before it as in earlier versions ----
 -- 1.5 1.5 null 0.0; of real a NaN that signals, with its payload; 2.0 in each of 2^60 rows
 SELECT same($$SELECT hv_column(v)::bytea FROM (VALUES (1.5::float8), (1.5), (NULL), (0)) x(v)$$,
-    $$SELECT convert_to(E'hivevigil type 1 g\n', 'UTF8') || '\x08011008180220044000480152030201015A27'::bytea ||
+    $$SELECT '\x0802B2010167BA013A'::bytea || '\x08011008180220044000480152030201015A27'::bytea ||
       '\x080110081801200328043201053A18000000000000F83F00000000000000000000000000000000'$$),
+    same($$SELECT hv_column(v::real)::bytea FROM (VALUES (1.5)) x(v)$$,
+         $$SELECT '\x0802B2010166BA0121'::bytea || '\x0801100718022001400048015201015A10'::bytea ||
+           '\x080110071801200128013A040000C03F'$$),
+    same($$SELECT float4send(hv_at(c, 0)), float8send(hv_at(c::hvfloat8, 0)), hv_column(hv_at(c, 0)) = c FROM (SELECT
+           '\x0802B2010166BA0110080110071801200128013A040100807F'::bytea::hvfloat4 AS c) x GROUP BY c$$,
+         $$SELECT '\x7F800001'::bytea, '\x7FF0000020000000'::bytea, true$$),
+    same($$SELECT hv_rows(c), hv_sum(c), hv_rows(hv_filter(c, '>', 1)), hv_sum_all(c) FROM (SELECT
+           '\x0802B2010167BA011C0801100818032080808080808080801028013A080000000000000040'::bytea::hvfloat8 AS c) x
+           GROUP BY c$$,
+         'SELECT 1152921504606846976, 2305843009213693952::float8, 1152921504606846976, 2305843009213693952::float8'),
+    -- a column of earlier versions equals the same one, is one of the same group, and is written as it is now
+    same($$SELECT c = hv_column(1.5::float8), hv_hash(c) = hv_hash(hv_column(1.5::float8)), hv_hash_extended(c, 7) =
+           hv_hash_extended(hv_column(1.5::float8), 7), hv_concat(c)::bytea = hv_column(1.5::float8)::bytea,
+           c::bytea = hv_column(1.5::float8)::bytea FROM (SELECT (convert_to(E'hivevigil type 1 g\n', 'UTF8') ||
+           '\x0801100818022001400048015201015A14080110081801200128013A08000000000000F83F')::hvfloat8 AS c) x
+           GROUP BY c$$,
+         'SELECT true, true, true, true, false'),
+    -- hashes are those of the bytes of earlier versions, here as words of 32 bits, so that indexes by hash stay right
+    same($$SELECT hv_hash(c), hv_hash_extended(c, 5) FROM (SELECT hv_column(1.5::float8) AS c) x$$,
+         $$SELECT hashoidvector(b), hashoidvectorextended(b, 5) FROM (SELECT
+           ('1702259048 1768384886 2037653612 824206704 134899488 403181569 1073815554 1375815680 ' ||
+            '341442817 135266568 18874648 138019112 0 1073217536')::oidvector AS b) x$$),
+    -- times, as Python writes them, are their numbers
+    same($$SELECT hv_type(c), hv_sum(c), hv_concat(c)::bytea = hv_column(7)::bytea FROM (SELECT
+           '\x0802B201077473733A555443BA0114080110081801200128013A080700000000000000'::bytea::hvcolumn AS c) x
+           GROUP BY c$$,
+         $$SELECT 'bigint', 7, true$$),
     same($$SELECT float4send(hv_at(c, 0)), float8send(hv_at(c::hvfloat8, 0)), hv_column(hv_at(c, 0)) = c FROM (SELECT
            (convert_to(E'hivevigil type 1 f\n', 'UTF8') || '\x080110071801200128013A040100807F')::hvfloat4 AS c) x
            GROUP BY c$$,
@@ -91,9 +118,17 @@ SELECT refused($$SELECT c::bytea::hvcolumn FROM fp$$,
     refused($$SELECT hv_column('a'::text)::text::hvfloat4$$, 'hvfloat4: this is a column of texts'),
     refused($$SELECT '\x00'::hvfloat8$$, 'hvfloat8: the bytes are not a column'),
     refused($$SELECT convert_to(E'hivevigil type 1 g\n', 'UTF8')::hvfloat8$$, 'hvfloat8: the bytes are not a column'),
-    -- a message of i64 after the line of real
+    -- a message of i64 after the line of real, and with the type of real; one with a type after the line; and no name
     refused($$SELECT (convert_to(E'hivevigil type 1 f\n', 'UTF8') || hv_column(1)::bytea)::hvfloat4$$,
             'hvfloat4: the bytes are not a column'),
+    refused($$SELECT ('\x0802B2010166BA0125'::bytea || hv_column(1)::bytea)::hvfloat4$$,
+            'hvfloat4: the bytes are not a column'),
+    refused($$SELECT (convert_to(E'hivevigil type 1 g\n', 'UTF8') || c::bytea)::hvfloat8 FROM fp$$,
+            'hvfloat8: the bytes are not a column'),
+    refused($$SELECT '\x0802B20100BA0110080110071801200128013A040000C03F'::bytea::hvfloat4$$,
+            'hvfloat4: the bytes are not a column'),
+    refused($$SELECT '\x0802B2010166BA0110080110071801200128013A040000C03F'::bytea::hvcolumn$$,
+            'hvcolumn: this is a column of real, which has the type hvfloat4'),
     refused('SELECT hv_slice(c, 2, 12) FROM fp', 'hv_slice: rows 2 to 12 are not among 7 rows'),
     refused($$SELECT hv_filter(c, NULL, 2) FROM fp$$, 'hv_filter: an operator is one of = <> > >= < <='),
     refused($$SELECT hv_filter(fp.c, hv_slice(p.c, 0, 2)) FROM fp, p$$,

@@ -85,6 +85,8 @@ int main(void) {
         "SELECT sum(stop * value) FROM p, hv_runs(f)",
         "SELECT length(hv_concat(x'68697665766967696C2074797065203120660A080110071801200128013A040000C03F'))",
         "SELECT length(hv_concat(x'68697665766967696C2074797065203120650A080110061801200128013A02003E'))",
+        "SELECT length(hv_concat(x'0802B2010165BA010E080110061801200128013A02003E'))",
+        "SELECT length(hv_concat(x'0802B201077473733A555443BA0114080110081801200128013A080700000000000000'))",
     };
     static const char *const refused_statements[] = {
         "SELECT hv_sum(hv_column(9223372036854775000 + v * 100)) FROM t",
@@ -100,6 +102,7 @@ int main(void) {
         "SELECT hv_append(f, 7, 2) FROM p",
         "SELECT hv_sum_all(c) FROM (SELECT c FROM p UNION ALL SELECT f FROM p)",
         "SELECT hv_sum(x'68697665766967696C2074797065203120670A080110071801200128013A040000C03F')",
+        "SELECT hv_sum(x'0802B2010167BA0110080110071801200128013A040000C03F')",
     };
     long all = 0;
     CHECK(sqlite3_open(":memory:", &db) == SQLITE_OK);

@@ -3,9 +3,9 @@
 #include "ask.h"
 #include <math.h>
 
-/* ---- Blobs as another program writes them: the line of the type, and a flat message of the keys ---- */
+/* ---- Blobs as another program writes them: a flat message of the keys, with the type around it or in a line before ---- */
 
-enum { MOST_ROWS = 120 };
+enum { MOST_ROWS = 120, FRONT = 32 };
 
 /* A row: a float by its bits, or null. */
 typedef struct row { bool is_null; uint64_t bits; } row;
@@ -34,11 +34,9 @@ static size_t put_varint(unsigned char *to, size_t number) {
     return size;
 }
 
-/* Writes the blob of these rows, of which there is one, and returns how many bytes it has. */
-static size_t put_blob(unsigned char *blob, const row *rows, size_t count) {
+/* Writes the message of the keys of these rows, of which there is one, and returns how many bytes it has. */
+static size_t put_message(unsigned char *blob, const row *rows, size_t count) {
     size_t size = 0;
-    memcpy(blob, "hivevigil type 1 g\n", 19);
-    size += 19;
     memcpy(blob + size, "\x08\x01\x10\x08\x18\x01\x20", 7); /* version 1, i64, flat, rows */
     size += 7;
     size += put_varint(blob + size, count);
@@ -56,6 +54,22 @@ static size_t put_blob(unsigned char *blob, const row *rows, size_t count) {
         size += 8;
     }
     return size;
+}
+
+/* The blob of the rows, which has the type in a line, as earlier versions wrote it, in each second call. */
+static size_t put_blob(unsigned char *blob, const row *rows, size_t count) {
+    static bool has_line = false;
+    const size_t size = put_message(blob + FRONT, rows, count);
+    size_t front = 0;
+    has_line = !has_line;
+    if (has_line) {
+        memcpy(blob, "hivevigil type 1 g\n", front = 19);
+    } else {
+        memcpy(blob, "\x08\x02\xb2\x01\x01g\xba\x01", front = 8); /* version 2, "g", and the length of the message */
+        front += put_varint(blob + front, size);
+    }
+    memmove(blob + front, blob + FRONT, size);
+    return front + size;
 }
 
 /* Binds the blob of the rows to a parameter. */
@@ -190,14 +204,53 @@ static void check_refusals(void) {
 /* ---- Blobs of other programs ---- */
 
 #define LINE(letter) "68697665766967696C2074797065203120" letter "0A"
+/* version 2, a type of one letter, and a message of this length after it */
+#define TYPED(letter, length) "0802B20101" letter "BA01" length
 #define FLAT_OF(type, rows) "080110" type "180120" rows "2801"
 
-static void check_bytes(void) {
+/* Messages that keep their type, and what is refused of them. */
+static void check_typed(void) {
     /* 1.5 1.5 null 0.0, of which the keys are 0x3FF8 << 48 and 0: runs of 2, 1 and 1 rows, null by bits 101 */
     CHECK_SQL("SELECT hex(hv_column(v)) FROM (SELECT 1.5 AS v UNION ALL SELECT 1.5 UNION ALL SELECT NULL UNION ALL "
               "SELECT 0.0)",
-              LINE("67") "08011008180220044000480152030201015A27" "080110081801200328043201" "05" "3A18"
+              TYPED("67", "3A") "08011008180220044000480152030201015A27" "080110081801200328043201" "05" "3A18"
               "000000000000F83F" "0000000000000000" "0000000000000000");
+    /* floats of 64, 32 and 16 bits: 1.5, and -0.0, which SQLite shows as 0.0 */
+    CHECK_SQL("SELECT value FROM hv_runs(x'" TYPED("67", "1C") FLAT_OF("08", "02") "3A10" "000000000000F83F"
+              "FFFFFFFFFFFFFFFF" "')", "1.5 0.0");
+    CHECK_SQL("SELECT value FROM hv_runs(x'" TYPED("66", "14") FLAT_OF("07", "02") "3A08" "0000C03F" "FFFFFFFF" "')",
+              "1.5 0.0");
+    CHECK_SQL("SELECT value, hv_type(c) FROM (SELECT x'" TYPED("65", "10") FLAT_OF("06", "02") "3A04" "003E" "FFFF"
+              "' AS c), hv_runs(c)", "1.5|real 0.0|real");
+    /* with and without the line they are the same rows, and the same bytes where the extension wrote them */
+    CHECK_SQL("SELECT count(DISTINCT c), count(DISTINCT hv_concat) FROM (SELECT c, hv_concat(c) AS hv_concat FROM (SELECT "
+              "x'" TYPED("66", "10") FLAT_OF("07", "01") "3A04" "0100807F" "' AS c UNION ALL SELECT x'" LINE("66")
+              FLAT_OF("07", "01") "3A04" "0100807F" "') GROUP BY c)", "2|1");
+    /* times, as Python writes them, are their numbers here; so are rows of a type that nobody knows */
+    CHECK_SQL("SELECT hv_type(c), hv_sum(c), hex(hv_concat(c)) FROM (SELECT x'0802B201077473733A555443BA0114"
+              "080110081801200128013A080700000000000000' AS c)",
+              "integer|7|0801100818022001400048015201015A14080110081801200128013A080700000000000000");
+    CHECK_SQL("SELECT hv_type(c), hv_sum(c) FROM (SELECT x'0802B201026767BA0110080110071801200128013A0407000000' AS c)",
+              "integer|7");
+    /* keys of other floats, texts, no name, a type within a type, a line before one, and what is cut short */
+    CHECK_SQL("SELECT hv_rows(x'" TYPED("66", "14") FLAT_OF("08", "01") "3A08" "000000000000F83F" "')",
+              "error: hv_rows: the blob is not a column");
+    CHECK_SQL("SELECT hv_rows(x'" TYPED("67", "10") FLAT_OF("07", "01") "3A04" "0000C03F" "')",
+              "error: hv_rows: the blob is not a column");
+    CHECK_SQL("SELECT hv_rows(x'" TYPED("67", "10") "0801100B1801200128016201016A0161" "')",
+              "error: hv_rows: the blob is not a column");
+    CHECK_SQL("SELECT hv_rows(x'0802B20100BA0110" FLAT_OF("07", "01") "3A04" "0000C03F" "')",
+              "error: hv_rows: the blob is not a column");
+    CHECK_SQL("SELECT hv_rows(x'" TYPED("66", "19") TYPED("66", "10") FLAT_OF("07", "01") "3A04" "0000C03F" "')",
+              "error: hv_rows: the blob is not a column");
+    CHECK_SQL("SELECT hv_rows(x'" LINE("66") TYPED("66", "10") FLAT_OF("07", "01") "3A04" "0000C03F" "')",
+              "error: hv_rows: the blob is not a column");
+    CHECK_SQL("SELECT hv_rows(x'" TYPED("66", "10") FLAT_OF("07", "01") "3A04" "0000C0" "')",
+              "error: hv_rows: the blob is not a column");
+}
+
+/* The same with the line of earlier versions. */
+static void check_bytes(void) {
     /* floats of 32 bits as keys: 1.5, the least above 0, the greatest, -infinity, -0.0, which SQLite shows as 0.0 */
     CHECK_SQL("SELECT start, stop, value FROM hv_runs(x'" LINE("66") FLAT_OF("07", "05") "3A14"
               "0000C03F" "01000000" "FFFF7F7F" "FFFF7F80" "FFFFFFFF" "')",
@@ -208,7 +261,7 @@ static void check_bytes(void) {
               "1.5 5.96046447753906e-08 6.09755516052246e-05 65504.0 -Inf");
     /* NaNs keep their payload, also one of 32 bits that signals: 0x7F800001 is 0x7FF0000020000000 */
     CHECK_SQL("SELECT hex(hv_concat(x'" LINE("66") FLAT_OF("07", "01") "3A04" "0100807F" "'))",
-              LINE("67") "0801100818022001400048015201015A14" "080110081801200128013A08" "000000200000F07F");
+              TYPED("67", "25") "0801100818022001400048015201015A14" "080110081801200128013A08" "000000200000F07F");
     CHECK_SQL("SELECT hv_rows(c), hv_count(c), hv_at(c, 0), hv_sum(c), hv_min(c), hv_max(c), hv_type(c) FROM (SELECT x'"
               LINE("66") FLAT_OF("07", "01") "3A04" "0100807F" "' AS c)", "1|1|NULL|NULL|NULL|NULL|real");
     /* 2.0 in each of 2^60 rows, a constant */
@@ -472,6 +525,7 @@ int main(int count, char **words) {
     open_database(count > 1 ? words[1] : NULL);
     check_rows();
     check_refusals();
+    check_typed();
     check_bytes();
     check_few_sums();
     ask("CREATE TABLE r(v)");
