@@ -148,7 +148,7 @@ def test_each_byte_counts(tmp_path):
 
 def test_files_that_are_no_tables(tmp_path):
     KEPT["same"].save(tmp_path / "column")
-    Column.of([1, 2], "date").save(tmp_path / "days")
+    Column.of([1, 2], "i32").cast("date").save(tmp_path / "days")
     (tmp_path / "line").write_bytes(b"hivevigil type 1 tdD\n" + Column.of([1, 2], "i32").to_bytes())
     (tmp_path / "text").write_text("place,level\n")
     (tmp_path / "empty").write_bytes(b"")
