@@ -88,7 +88,7 @@ def test_damaged_tables(model, seed):  # noqa: F811
         if found is not None:
             due = {footer.name: model.model.written(column)
                    for footer, column in zip(message.footer.columns, model.columns(message))}
-            assert {name: found[name].to_bytes() for name in found} == due
+            assert {name: found[name].storage().to_bytes() for name in found} == due
     assert 60 < refused < 100
 
 
