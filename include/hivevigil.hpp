@@ -17,6 +17,7 @@
 namespace hv {
 
 class Runs;
+struct TypedColumn;
 enum class SplitBy { rows, runs };
 template <class T> class Floats;
 
@@ -140,6 +141,11 @@ public:
         detail::ask([&](auto *error) { return hv_is_message(message.data(), message.size(), &truth, error); });
         return truth != 0;
     }
+    // The column that either to_bytes wrote, with its logical type, which is empty where it has none; refused as
+    // HV_BAD_METADATA for other bytes.
+    static TypedColumn from_typed_bytes(const Bytes &message);
+    // Are the bytes what either to_bytes writes of some column? Nothing is made.
+    static bool is_typed_message(const Bytes &message);
     Column clone() const {
         return made([&](auto *out, auto *error) { return hv_clone(&handle, out, error); });
     }
@@ -446,6 +452,10 @@ public:
         detail::ask([&](auto *error) { return hv_write(&handle, message.data(), message.size(), &size, error); });
         return message;
     }
+    // The same with what the numbers are, a format of Arrow, which is kept and not tested; refused as HV_TYPE_MISMATCH
+    // where it is not UTF-8. from_typed_bytes reads it, and from_bytes refuses it. An empty one says nothing: the bytes
+    // are those above.
+    Bytes to_bytes(std::string_view logical_type) const;
 
 #ifdef __cpp_lib_span
     // ---- With C++20, spans (hivevigil_spans.hpp): of integers to read into, and of bytes of any type of one byte ----
@@ -453,8 +463,11 @@ public:
     template <detail::OfNumbers Span> void read(size_t start, Span items) const;
     template <detail::OfBytes Span> static Column from_bytes(Span message);
     template <detail::OfBytes Span> static bool is_message(Span message);
+    template <detail::OfBytes Span> static TypedColumn from_typed_bytes(Span message);
+    template <detail::OfBytes Span> static bool is_typed_message(Span message);
     // Writes the message into the room, and returns its size; refused as HV_COLUMN_LENGTH where there is too little.
     template <detail::OfBytes Span> size_t to_bytes(Span room) const;
+    template <detail::OfBytes Span> size_t to_bytes(Span room, std::string_view logical_type) const;
     template <detail::OfBytes Span>
     static Column deserialize(hv_kind kind, size_t rows, Span record, const Column &ends, const Column &values);
     // Integers, null where the flag is false.
@@ -495,6 +508,9 @@ private:
         });
     }
     template <class Items> static Column of_rows(const Items &rows);
+    static TypedColumn read_typed(const uint8_t *bytes, size_t size);
+    size_t write_typed(std::string_view logical_type, uint8_t *bytes, size_t room) const;
+    static bool is_typed(const uint8_t *bytes, size_t size);
     template <class T> std::vector<std::optional<T>> number_optionals() const {
         const std::vector<T> items = numbers<T>();
         const std::vector<bool> valid = validity();
@@ -534,10 +550,18 @@ private:
     }
 };
 
+// A column that was read, and what its numbers are: a format of Arrow, as "tsu:UTC" for microseconds since 1970 in UTC,
+// or empty. The numbers of floats ("e", "f", "g") are their keys, as hv::Floats has them.
+struct TypedColumn {
+    Column column;
+    std::string logical_type;
+};
+
 } // namespace hv
 #include "hivevigil_making.hpp"
 #include "hivevigil_runs.hpp"
 #include "hivevigil_parts.hpp"
+#include "hivevigil_typed.hpp"
 #include "hivevigil_spans.hpp"
 #include "hivevigil_builder.hpp"
 #include "hivevigil_pairs.hpp"

@@ -98,6 +98,127 @@ static void check_lists() {
     CHECK(read.list_offsets().numbers<uint64_t>() == (std::vector<uint64_t>{0, 9})); // also of the list that is null
 }
 
+// ---- Messages with a logical type, whose bytes are put together here ----
+
+static hv::Bytes joined(std::initializer_list<hv::Bytes> parts) {
+    hv::Bytes all;
+    for (const hv::Bytes &part : parts) all.insert(all.end(), part.begin(), part.end());
+    return all;
+}
+
+// A length, as a varint.
+static hv::Bytes length_bytes(size_t length) {
+    hv::Bytes bytes;
+    for (; length >= 128; length /= 128) bytes.push_back(static_cast<uint8_t>(length % 128 + 128));
+    bytes.push_back(static_cast<uint8_t>(length));
+    return bytes;
+}
+
+// Version 2, the name of the type in field 22, and the message of the column in field 23.
+static hv::Bytes typed_message(const std::string &name, const hv::Bytes &message) {
+    return joined({{0x08, 0x02},
+                   {0xb2, 0x01},
+                   length_bytes(name.size()),
+                   {name.begin(), name.end()},
+                   {0xba, 0x01},
+                   length_bytes(message.size()),
+                   message});
+}
+
+// Two days, 19783 and 19784, as i32: version 1, type 7, form 1, two rows without null, their items.
+static const hv::Bytes days{0x08, 1, 0x10, 7, 0x18, 1, 0x20, 2, 0x28, 1, 0x3a, 8, 0x47, 0x4d, 0, 0, 0x48, 0x4d, 0, 0};
+
+template <class Call> static int32_t number_of(Call call) {
+    try {
+        call();
+    } catch (const hv::Error &error) {
+        return error.number;
+    }
+    return HV_OK;
+}
+
+// The bytes are the message of a column with a logical type, or of one without, where it is empty.
+static void check_typed(const hv::Bytes &message, const hv::Bytes &storage, const std::string &name) {
+    const hv::TypedColumn read = Column::from_typed_bytes(message);
+    CHECK(read.logical_type == name && read.column.to_bytes() == storage && Column::is_typed_message(message));
+    CHECK(read.column.to_bytes(name) == message);
+    CHECK(Column::is_message(message) == name.empty());
+    CHECK(number_of([&] { Column::from_bytes(message); }) == (name.empty() ? HV_OK : HV_BAD_METADATA));
+}
+
+static void check_not_typed(const hv::Bytes &message) {
+    CHECK(!Column::is_typed_message(message));
+    CHECK(number_of([&] { Column::from_typed_bytes(message); }) == HV_BAD_METADATA);
+}
+
+static void check_typed_messages() {
+    const Column column = Column::of<int32_t>({19783, 19784});
+    const hv::Bytes due = joined({{0x08, 0x02, 0xb2, 0x01, 3, 't', 'd', 'D', 0xba, 0x01, 20}, days});
+    CHECK(column.to_bytes("tdD") == due && column.to_bytes("") == days && column.to_bytes() == days);
+    const std::string zero("ts\0:", 4), longer(200, 'z');
+    for (const std::string &name : {std::string("tdD"), std::string("tss:Z\u00fcrich"), std::string("x"), zero, longer})
+        check_typed(typed_message(name, days), days, name);
+    check_typed(days, days, "");
+    // runs in a window, texts whose message has more than 127 bytes, and a constant of many rows
+    const Column runs = made().encode().slice(3, 9), constant = Column::constant(hv::kinds::i64, 7, size_t{1} << 60);
+    const Column texts = Column::of(std::vector<std::string>{longer, "a"});
+    for (const Column *some : {&runs, &texts, &constant})
+        check_typed(typed_message("g", some->to_bytes()), some->to_bytes(), "g");
+    CHECK(Column::from_typed_bytes(runs.to_bytes("g")).column.offset() == runs.offset() && runs.offset() == 3);
+}
+
+static void check_damaged_typed_messages() {
+    const hv::Bytes whole = typed_message("tdD", days);
+    for (size_t size = 0; size < whole.size(); size++)
+        check_not_typed({whole.begin(), whole.begin() + static_cast<long>(size)});
+    for (size_t size = 0; size < days.size(); size++)
+        check_not_typed({days.begin(), days.begin() + static_cast<long>(size)});
+    check_not_typed(joined({whole, {0}}));
+    check_not_typed(joined({days, {0}}));
+    check_not_typed(typed_message("", days));
+    check_not_typed(typed_message("td\xff", days));
+    check_not_typed(typed_message("tdD", whole));
+    check_not_typed(typed_message("tdD", {}));
+    // a byte longer than it has to be: the length of the name, and that of the message
+    check_not_typed(joined({{0x08, 0x02, 0xb2, 0x01, 0x83, 0, 't', 'd', 'D', 0xba, 0x01, 20}, days}));
+    check_not_typed(joined({{0x08, 0x02, 0xb2, 0x01, 3, 't', 'd', 'D', 0xba, 0x01, 0x94, 0}, days}));
+    check_not_typed(joined({{0x08, 0x02, 0xba, 0x01, 20}, days, {0xb2, 0x01, 3, 't', 'd', 'D'}}));
+    check_not_typed(joined({{0x08, 0x02, 0xba, 0x01, 20}, days}));
+    check_not_typed(joined({{0x08, 0x03}, {whole.begin() + 2, whole.end()}}));
+}
+
+// Each byte changed to each other: another name where it stays UTF-8, another column where the message stays one.
+static void check_changed_typed_messages() {
+    const hv::Bytes whole = typed_message("tdD", days);
+    for (size_t place = 0; place < whole.size(); place++)
+        for (int byte = 0; byte < 256; byte++) {
+            hv::Bytes changed = whole;
+            changed[place] = static_cast<uint8_t>(byte);
+            const hv::Bytes storage(changed.end() - 20, changed.end());
+            const bool is_name = place >= 5 && place < 8 && byte < 128;
+            const bool is_column = place >= 11 && Column::is_message(storage);
+            if (changed == whole || is_name || is_column)
+                check_typed(changed, storage, {changed.begin() + 5, changed.begin() + 8});
+            else check_not_typed(changed);
+        }
+}
+
+static void check_refused_typed_messages() {
+    const Column column = Column::of<int32_t>({19783, 19784});
+    for (const char *name : {"\xff", "ts\xc3", "\xed\xa0\x80"})
+        CHECK(number_of([&] { column.to_bytes(name); }) == HV_TYPE_MISMATCH);
+    try {
+        column.to_bytes("td\xff");
+    } catch (const hv::Error &error) { CHECK(std::string(error.what()) == "the logical type is not UTF-8"); }
+    Column deep = Column::of<uint8_t>({7});
+    for (int level = 0; level < 17; level++) deep = Column::runs(Column::of<uint8_t>({1}), deep, 0, 1);
+    CHECK(number_of([&] { deep.to_bytes("g"); }) == HV_UNSUPPORTED);
+    CHECK(number_of([&] { deep.to_bytes(""); }) == HV_UNSUPPORTED);
+    CHECK(number_of([&] { deep.to_bytes("\xff"); }) == HV_TYPE_MISMATCH);
+    CHECK(number_of([&] { Column().to_bytes("g"); }) == HV_NO_COLUMN);
+    CHECK(number_of([&] { Column().to_bytes("\xff"); }) == HV_NO_COLUMN);
+}
+
 static void check_refusals() {
     const Column runs = made().encode();
     try {
@@ -306,6 +427,10 @@ int main() {
     check_moves();
     check_lists();
     check_builders();
+    check_typed_messages();
+    check_damaged_typed_messages();
+    check_changed_typed_messages();
+    check_refused_typed_messages();
     check_refusals();
     check_arrow();
     std::cout << "columns are freed by scope, and refusals are thrown\n";
