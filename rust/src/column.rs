@@ -278,6 +278,27 @@ impl Column {
         truth != 0
     }
 
+    /// Reads the column that [`Column::to_typed_bytes`] or [`Column::to_bytes`] wrote, and its logical type, a format of
+    /// Arrow as `tsu:UTC`; `None` where it has none. Refused as `BadMetadata` for bytes that are not a column's message.
+    pub fn from_typed_bytes(message: &[u8]) -> Result<(Column, Option<String>), Error> {
+        let (mut start, mut count) = (0, 0);
+        let column = Column::made(|out, fields| unsafe {
+            let (bytes, len) = (message.as_ptr(), message.len());
+            raw::hv_read_typed(bytes, len, out, &mut start, &mut count, fields)
+        })?;
+        let format =
+            std::str::from_utf8(&message[start..start + count]).expect("formats are UTF-8");
+        Ok((column, (!format.is_empty()).then(|| format.to_string())))
+    }
+
+    /// Returns whether the bytes are what [`Column::to_typed_bytes`] or [`Column::to_bytes`] writes of some column.
+    /// Nothing is made.
+    pub fn is_typed_message(bytes: &[u8]) -> bool {
+        let (mut truth, mut fields) = (0, Fields::default());
+        unsafe { raw::hv_is_typed_message(bytes.as_ptr(), bytes.len(), &mut truth, &mut fields) };
+        truth != 0
+    }
+
     /// Returns the same column in the same form. What holds 32 items or more is shared and not copied.
     pub fn try_clone(&self) -> Result<Column, Error> {
         self.part(|column, out, fields| unsafe { raw::hv_clone(column, out, fields) })
