@@ -16,26 +16,26 @@ static std::optional<std::string> format_of_line(hv::Bytes &bytes) {
     return format;
 }
 
+// The column of a line that names its type and of the message after it.
+static StoredColumn column_after_line(const hv::StoredFile &file, const std::string &format, const hv::Bytes &message) {
+    StoredColumn stored{hv::Column::from_bytes(message), format, file.size()};
+    if (!stored.type().logical || !are_texts({format})) throw hv::Error(HV_BAD_METADATA, {});
+    return stored;
+}
+
 StoredColumn load_column(const hv::StoredFile &file) {
-    const Failure refused(file.path() + ", of " + with_commas(file.size()) + " bytes, is not the file of a column");
     hv::Bytes bytes = file.read(0, file.size());
     const std::optional<std::string> format = format_of_line(bytes);
     try {
-        StoredColumn stored{hv::Column::from_bytes(bytes), format.value_or(""), file.size()};
-        if (format && (!stored.type().logical || !are_texts({*format}))) throw refused;
-        return stored;
+        if (format) return column_after_line(file, *format, bytes);
+        hv::TypedColumn read = hv::Column::from_typed_bytes(bytes);
+        return {std::move(read.column), std::move(read.logical_type), file.size()};
     } catch (const hv::Error &error) {
         if (error.number != HV_BAD_METADATA) throw;
-        throw refused;
+        throw Failure(file.path() + ", of " + with_commas(file.size()) + " bytes, is not the file of a column");
     }
 }
 
-void save_column(const hv::Column &column, const RowType &type, const std::string &path) {
-    hv::Bytes bytes = column.to_bytes();
-    if (type.logical) {
-        const std::string line = line_of_type + type.logical->format() + "\n";
-        if (line.find('\n') + 1 < line.size()) throw Failure(path + ": the zone of a column in a file is one line");
-        bytes.insert(bytes.begin(), line.begin(), line.end());
-    }
-    hv::save_bytes(bytes, path);
+void save_column(const hv::Column &column, const std::string &logical_type, const std::string &path) {
+    hv::save_bytes(column.to_bytes(logical_type), path);
 }

@@ -1,6 +1,6 @@
-// Columns in files, each a message of its own as docs/BYTES.md says it. Where the integers of a column mean something
-// else, a line comes first, "hivevigil type 1 FORMAT", as docs/TYPES.md says it. What the system refuses of a file is
-// an hv::TableError.
+// Columns in files, each a message of its own as docs/BYTES.md says it, which keeps what the integers of a column mean.
+// Versions before 1.7 wrote a line before the message of the integers in place of that, "hivevigil type 1 FORMAT": it
+// is read too. What the system refuses of a file is an hv::TableError.
 #ifndef HIVEVIGIL_PROGRAM_COLUMN_FILE_HPP
 #define HIVEVIGIL_PROGRAM_COLUMN_FILE_HPP
 #include "logical.hpp"
@@ -19,6 +19,6 @@ struct StoredColumn {
 // The column of a file. Throws a Failure where it is not a column's.
 StoredColumn load_column(const hv::StoredFile &file);
 
-void save_column(const hv::Column &column, const RowType &type, const std::string &path);
+void save_column(const hv::Column &column, const std::string &logical_type, const std::string &path);
 
 #endif

@@ -29,6 +29,8 @@ struct RowType {
     hv_kind kind;
     std::optional<LogicalType> logical;
     bool is_float() const { return logical && logical->sort == Sort::floating; }
+    // The format of Arrow that names what it means, or nothing.
+    std::string format() const { return logical ? logical->format() : ""; }
 };
 
 // The type of rows of a kind that have a format of Arrow, which may be empty, or be that of other integers.

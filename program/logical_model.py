@@ -29,8 +29,8 @@ NAMED_FLOATS = {"nan", "NaN", *(sign + name for sign in ("", "+", "-") for name 
 
 
 def name_of_format(format: str) -> str | None:
-    """The type that a format of Arrow names; None of another."""
-    zone = format[4:] if format[:2] == "ts" and format[3:4] == ":" else ""
+    """The type that a format of Arrow names, which has no zero byte; None of another."""
+    zone = format[4:] if format[:2] == "ts" and format[3:4] == ":" and "\0" not in format else ""
     name = FORMATS.get(format.removesuffix(zone))
     return name[:-1] + f", {zone}]" if name and zone else name
 
@@ -68,6 +68,44 @@ def storage_of(kind: str) -> str:
 
 def is_logical(kind: str) -> bool:
     return storage_of(kind) != kind
+
+
+# ---- Files of columns: a message, within one of version 2 where the column has a logical type
+
+
+def varint(number: int) -> bytes:
+    return bytes([number]) if number < 128 else bytes([number % 128 + 128]) + varint(number // 128)
+
+
+def file_of(format: str, message: bytes) -> bytes:
+    """The file of the column of a message, which has the type that a format of Arrow names, or none where it is empty:
+    version 2, the format in field 22, and the message in field 23."""
+    if not format:
+        return message
+    name = format.encode()
+    return b"\x08\x02\xb2\x01" + varint(len(name)) + name + b"\xba\x01" + varint(len(message)) + message
+
+
+def field_at_front(data: bytes, key: bytes) -> tuple[bytes, bytes] | None:
+    """The bytes of the field with which the data begin, and what comes after them; None where no such field is there."""
+    rest = data.removeprefix(key)
+    for size in range(1, 11) if rest != data else ():
+        length = sum((byte & 127) << 7 * place for place, byte in enumerate(rest[:size]))
+        if rest[:size] == varint(length) and length <= len(rest) - size:
+            return rest[size : size + length], rest[size + length :]
+    return None
+
+
+def parts_of(data: bytes) -> tuple[str, bytes] | None:
+    """The format and the message of a file; None where it is in version 2 and not as `file_of` makes it."""
+    if not data.startswith(b"\x08\x02"):
+        return "", data
+    try:
+        name, rest = field_at_front(data[2:], b"\xb2\x01")
+        message, end = field_at_front(rest, b"\xba\x01")
+        return (name.decode(), message) if name and not end else None
+    except (TypeError, UnicodeDecodeError):
+        return None
 
 
 # ---- Floats

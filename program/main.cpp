@@ -176,12 +176,9 @@ static void convert(const Arguments &arguments) {
         if (arguments.has(option) && is_one)
             throw BadUsage("--" + std::string(option) + " is of a table, and --column keeps a column");
     std::vector<CsvColumn> found = read_csv(csv_options(arguments));
-    if (is_one) return save_column(found[0].runs, found[0].type, to);
+    if (is_one) return save_column(found[0].runs, found[0].type.format(), to);
     std::vector<hv::NamedColumn> columns;
-    for (CsvColumn &column : found) {
-        const std::string format = column.type.logical ? column.type.logical->format() : "";
-        columns.push_back({column.name, std::move(column.runs), format});
-    }
+    for (CsvColumn &column : found) columns.push_back({column.name, std::move(column.runs), column.type.format()});
     in_order(arguments, hv::Table(std::move(columns))).save(to, arguments.has("differences"));
 }
 
@@ -238,9 +235,10 @@ static void show(const Arguments &arguments) {
                 with_commas(column.bytes_used()).c_str());
 }
 
-static void answer(const Arguments &arguments, const Column &rows, const RowType &type) {
+static void answer(const Arguments &arguments, const Column &rows, const std::string &logical_type) {
     const std::string question = arguments.words[2];
-    if (question == "filter" && arguments.has("to")) return save_column(rows, type, *arguments.value("to"));
+    if (question == "filter" && arguments.has("to")) return save_column(rows, logical_type, *arguments.value("to"));
+    const RowType type = type_of_format(rows.kind(), logical_type);
     about_file(arguments, [&] {
         if (question == "filter") print_rows(rows, type, 0, rows.size());
         else if (question == "sum") std::printf("%s\n", sum_of(rows, type).c_str());
@@ -262,7 +260,7 @@ static void query_table(const Arguments &arguments, const hv::StoredFile &file, 
     const hv::Table rows = in_order(arguments, table_where(load_table(file, wanted), conditions));
     if (is_one) {
         const hv::NamedColumn &named = rows.at(wanted[0]);
-        answer(arguments, named.column, type_of(named));
+        answer(arguments, named.column, type_of(named).format());
     } else if (arguments.has("to")) rows.save(*arguments.value("to"), arguments.has("differences"));
     else about_file(arguments, [&] { print_table_rows(rows, 0, rows.rows()); });
 }
@@ -290,7 +288,7 @@ static void query(const Arguments &arguments) {
     std::vector<Condition> conditions;
     for (const std::string &text : texts) conditions.push_back(condition_of_text(text));
     const StoredColumn stored = asked_column(arguments, file);
-    answer(arguments, rows_where(stored.column, stored.type(), conditions), stored.type());
+    answer(arguments, rows_where(stored.column, stored.type(), conditions), stored.logical_type);
 }
 
 static void run(const Arguments &arguments) {

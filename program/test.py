@@ -30,7 +30,7 @@ from csv_model import (
     IN_WORDS, OPERATORS, flat_bytes, found_mark, meets, random_csv, random_value, read_by_csv, rows_of, run_bytes, runs_of,
     shown, type_of, value_of,
 )
-from logical_model import format_of, is_logical
+from logical_model import file_of, format_of, is_logical, parts_of
 
 TOP = Path(__file__).resolve().parents[1]
 PART_ROWS = 65536
@@ -88,9 +88,12 @@ def expected_report(columns: dict[str, list[str]]) -> str:
     return "\n".join([*table, "{:,} bytes flat, {:,} in runs\n".format(*sums)])
 
 
-def line_of_type(kind: str) -> bytes:
-    """What a file of a column of this type begins with."""
-    return f"hivevigil type 1 {format_of(kind)}\n".encode() if is_logical(kind) else b""
+def message_of(data: bytes, kind: str) -> bytes:
+    """The message in the file of a column of this type, which is in version 2 where the type is a logical one."""
+    format, message = parts_of(data)
+    assert format == (format_of(kind) if is_logical(kind) else "") and message.startswith(b"\x08\x01"), data[:40]
+    assert file_of(format, message) == data, data[:40]
+    return message
 
 
 def lines_of(rows: list, kind: str) -> str:
@@ -104,10 +107,16 @@ def check_column(chance: random.Random, program: Program, name: str, fields: lis
 
 
 def check_kept(chance: random.Random, program: Program, rows: list, kind: str) -> None:
-    """What is shown and asked of a file of these rows."""
-    data = (program.folder / "column.hv").read_bytes()
-    size, line = len(data), line_of_type(kind)
-    assert data.startswith(line + b"\x08\x01"), data[:40]
+    """What is shown and asked of a file of these rows, also of one of the older form."""
+    file = program.folder / "column.hv"
+    message = message_of(file.read_bytes(), kind)
+    check_shown(chance, program, rows, kind, file.stat().st_size)
+    if is_logical(kind):
+        file.write_bytes(f"hivevigil type 1 {format_of(kind)}\n".encode() + message)
+        check_shown(chance, program, rows, kind, file.stat().st_size)
+
+
+def check_shown(chance: random.Random, program: Program, rows: list, kind: str, size: int) -> None:
     summary = f"{kind}: {len(rows):,} rows in {len(runs_of(rows)):,} runs, {rows.count(None):,} null; "
     assert program.answers("show", "column.hv") == summary + (
         f"{size:,} bytes in the file, {run_bytes(rows, kind):,} in memory\n"
@@ -163,6 +172,7 @@ def check_condition(chance: random.Random, program: Program, rows: list, kind: s
     more = [word for condition in conditions[1:] for word in ("--where", condition)]
     assert program.answers("query", "column.hv", "filter", conditions[0], *more) == lines_of(left, kind), conditions
     program.answers("query", "column.hv", "filter", conditions[0], *more, "--to", "left.hv")
+    message_of((program.folder / "left.hv").read_bytes(), kind)
     assert program.answers("show", "left.hv", "--rows", str(len(rows) + 1)) == lines_of(left, kind)
     check_questions(program, left, kind, [f"--where={condition}" for condition in conditions])
 
@@ -405,6 +415,37 @@ def check_page(program: Program) -> None:
         assert (status == 0) == (said == ""), words
 
 
+def check_types_in_files(program: Program) -> None:
+    """Formats that are not served are kept, and a file is refused where it ends early, or has another byte before its
+    message, unless that makes another format."""
+    file = program.folder / "message.hv"
+    message = bytes.fromhex("080110071801200228013a08474d0000484d0000")  # two days of i32: 19783 and 19784
+    dates, numbers, whole = "2024-03-01\n2024-03-02\n", "19783\n19784\n", file_of("tdD", message)
+    for format in "tdD", "", "tiM", "tsu:UTC", "g", "tss:Z\u00fcrich", "a\nb", "z" * 300:
+        file.write_bytes(file_of(format, message))
+        assert program.answers("show", "message.hv", "--rows=9") == (dates if format == "tdD" else numbers), format
+        program.answers("query", "message.hv", "filter", "< 2024-03-02" if format == "tdD" else "< 19784", "--to=left.hv")
+        assert parts_of((program.folder / "left.hv").read_bytes())[0] == format
+    for size in range(len(whole)):
+        file.write_bytes(whole[:size])
+        refuse_file(program, whole[:size])
+    for place in range(len(whole) - len(message)):
+        for bit in range(8):
+            data = whole[:place] + bytes([whole[place] ^ 1 << bit]) + whole[place + 1 :]
+            file.write_bytes(data)
+            if parts_of(data) and parts_of(data)[1] == message:
+                assert program.answers("show", "message.hv", "--rows=9") == numbers, data.hex()
+            else:
+                refuse_file(program, data)
+    for data in whole + b"\0", file_of("tdD", whole), b"hivevigil type 1 tdD\n" + whole, whole[:2] + whole[11:]:
+        file.write_bytes(data)
+        refuse_file(program, data)
+    (program.folder / "typed.csv").write_text("a\n2024-03-01T10:00Z\n")
+    zone = "timestamp[s,\udcff]"  # a byte that is not UTF-8
+    convert = ["convert", "typed.csv", "--column=a", "--to=left.hv", "--type", zone]
+    program.refuses(1, r"typed\.csv: the logical type is not UTF-8", *convert)
+
+
 # ---- Messages of all forms, and damaged ones
 
 
@@ -465,16 +506,25 @@ def field_of(model, message, row: str, format: str = "") -> str | None:
     return shown(item if message.type == model.UTF8 else item.hex().encode(), "utf8")
 
 
-def line_before(chance: random.Random) -> tuple[bytes, str]:
-    """A line of a type, which one of three has changed, and the format in it; or none."""
-    if chance.random() < 0.4:
-        return b"", ""
-    format = chance.choice([*logical_model.FORMATS, "tsu:UTC", "tss:\u00fc", "tsx:", "", "tdD "])
+def with_type(chance: random.Random, message: bytes) -> tuple[bytes, bytes | None, str]:
+    """The file of a message and of a logical type, or of none, which one of three has changed: its bytes, the message
+    in it, None where it is damaged, and the format. It may be of the older form, which has a line before the message."""
+    format = chance.choice([*logical_model.FORMATS, "tsu:UTC", "tss:\u00fc", "tsx:", "", "tdD ", "z" * 130])
+    is_older = chance.random() < 0.4
     line = f"hivevigil type 1 {format}\n".encode()
-    if chance.random() < 0.3:
-        place = chance.randrange(len(line))
-        line = chance.choice([line[:place], line[place + 1 :], line.replace(b"1", b"2"), line[:-2] + b"\xff\n", line * 2])
-    return line, format if line == f"hivevigil type 1 {format}\n".encode() else "damaged"
+    data = line + message if is_older else file_of(format, message)
+    front = data[: len(data) - len(message)]
+    if front and chance.random() < 0.3:
+        place, byte = chance.randrange(len(front)), bytes([chance.randrange(256)])
+        before, after = front[:place], front[place + 1 :]
+        changed = [before, after, before + byte + after, before + byte + front[place:], front * 2, front[:-2] + b"\xff\n"]
+        front = chance.choice([*changed, front.replace(b"\x01", b"\x02"), front.replace(b"1", b"2")])
+        data = front + message
+    if found := re.match(rb"hivevigil type 1 ([^\n]*)\n", data):
+        is_text = found[1] == found[1].decode(errors="ignore").encode()
+        return data, data[found.end() :] if is_text else None, found[1].decode(errors="ignore")
+    format, message = parts_of(data) or ("", None)
+    return data, message, format
 
 
 def check_rows_of_message(program: Program, rows: list, kind: str | None, data: bytes) -> None:
@@ -487,15 +537,19 @@ def check_rows_of_message(program: Program, rows: list, kind: str | None, data: 
     assert found == due, f"{data.hex()}: {found} and not {due}"
 
 
-def check_message(program: Program, model, data: bytes, line: bytes = b"", format: str = "") -> bool:
-    """Whether the message is a column's, as the model has it, and the program too; a line of its type may come first."""
-    message = model.column(data)
-    data = line + data
+def refuse_file(program: Program, data: bytes) -> None:
+    """The file of a message is not a column's."""
+    what = "table" if data.startswith(b"\n") else "column"
+    program.refuses(1, rf"message\.hv, of {len(data):,} bytes, is not the file of a {what}", "show", "message.hv")
+
+
+def check_message(program: Program, model, data: bytes, storage: bytes | None = None, format: str = "") -> bool:
+    """Whether the file is a column's, as the model has the message in it, and the program too."""
+    message = model.column(storage) if storage is not None else None
     (program.folder / "message.hv").write_bytes(data)
-    kind = meant(model, message, format) if message is not None and line else None
-    if message is None or line and not kind:
-        sentence = rf"message\.hv, of {len(data):,} bytes, is not the file of a column"
-        program.refuses(1, sentence, "show", "message.hv")
+    kind = meant(model, message, format) if message is not None else None
+    if message is None or data.startswith(b"hivevigil") and not kind:
+        refuse_file(program, data)
         return False
     rows = [model.row(message, row) for row in range(message.rows)]
     fields = [field_of(model, flat_of(message), row, format) for row in rows]
@@ -522,8 +576,8 @@ def check_value(program: Program, fields: list, number, field: str, kind: str) -
 
 
 def check_messages(program: Program, count: int, seed: int) -> int:
-    """Shows random messages, of which two of three are changed, some of them with the line of a type in front; how many
-    of them are refused."""
+    """Shows random messages, of which two of three are changed, and those of integers also with a logical type; how many
+    are refused."""
     sys.path.insert(0, str(TOP / "examples/bytes"))
     import messages
     import model
@@ -533,8 +587,8 @@ def check_messages(program: Program, count: int, seed: int) -> int:
     made = [data for data in messages.messages(count, seed) if (model.column(data) or model.Column()).rows <= 1000]
     chance = random.Random(seed)
     of_integers = [data for data in made if (found := model.column(data)) and found.type in (6, 7, 8)]
-    refused = sum(not check_message(program, model, data, *line_before(chance)) for data in of_integers)
-    return refused + sum(not check_message(program, model, data) for data in made)
+    refused = sum(not check_message(program, model, *with_type(chance, data)) for data in of_integers)
+    return refused + sum(not check_message(program, model, data, data) for data in made)
 
 
 def main() -> None:
@@ -550,6 +604,7 @@ def main() -> None:
         check_bad_files(program)
         check_files(program)
         check_page(program)
+        check_types_in_files(program)
         for number in range(chosen.files):
             check_random_file(random.Random(f"{chosen.seed} {number}"), program)
         check_guessed_types(program)

@@ -24,7 +24,7 @@ from csv_model import (
     type_of, value_of,
 )
 from logical_model import format_of, is_logical
-from test import TOP, Program, check_questions, field_of, flat_of, line_of_type, lines_of, meant
+from test import TOP, Program, check_questions, field_of, flat_of, lines_of, meant, message_of
 
 # ---- The model: what is printed of a table
 
@@ -68,8 +68,8 @@ def check_random_file(chance: random.Random, program: Program, model) -> None:
     sizes = {}
     for name in columns:
         program.answers("convert", "random.csv", "--column", name, "--to", "column.hv", *options)
-        size = (program.folder / "column.hv").stat().st_size
-        sizes[name] = size - len(line_of_type(kinds[name]))
+        data = (program.folder / "column.hv").read_bytes()
+        size, sizes[name] = len(data), len(message_of(data, kinds[name]))
         due = program.answers("show", "column.hv").replace(f"{size:,} bytes in", f"{sizes[name]:,} bytes in")
         assert program.answers("show", "table.hv", "--column", name) == due
     kept = (program.folder / "table.hv").read_bytes()
