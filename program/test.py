@@ -437,7 +437,10 @@ def check_types_in_files(program: Program) -> None:
                 assert program.answers("show", "message.hv", "--rows=9") == numbers, data.hex()
             else:
                 refuse_file(program, data)
-    for data in whole + b"\0", file_of("tdD", whole), b"hivevigil type 1 tdD\n" + whole, whole[:2] + whole[11:]:
+    second = bytes.fromhex("0801100818012001 28013a08 6400000000000000")  # 100 in a row of i64
+    not_text = b"hivevigil type 1 tss:\xff\n" + second
+    line = b"hivevigil type 1 tdD\n"
+    for data in whole + b"\0", file_of("tdD", whole), line + whole, whole[:2] + whole[11:], line + second, not_text:
         file.write_bytes(data)
         refuse_file(program, data)
     (program.folder / "typed.csv").write_text("a\n2024-03-01T10:00Z\n")
