@@ -1,7 +1,7 @@
 //! Columns as bytes with what their numbers are. The bytes are put together here, by the fields of docs/BYTES.md.
 use hivevigil::{Column, Error, ErrorKind, Kind};
 
-/// Two days, 19783 and 19784, as i32: version 1, type 7, form 1, two rows without null, their items.
+/// Has two days, 19783 and 19784, as i32: version 1, type 7, form 1, two rows without null, their items.
 const DAYS: [u8; 20] = [
     8, 1, 16, 7, 24, 1, 32, 2, 40, 1, 58, 8, 0x47, 0x4d, 0, 0, 0x48, 0x4d, 0, 0,
 ];
@@ -24,7 +24,7 @@ fn typed(name: &[u8], message: &[u8]) -> Vec<u8> {
     [&key[..], &name_size, name, &[0xba, 0x01], &size, message].concat()
 }
 
-/// The bytes are the message of the column with this logical type, or of one without where it is empty.
+/// Asserts that the bytes are the message of the column with this logical type, or of one without where it is empty.
 fn check_typed(message: &[u8], storage: &[u8], name: &str) -> Result<(), Error> {
     let (column, logical_type) = Column::from_typed_bytes(message)?;
     let due = (!name.is_empty()).then(|| name.to_string());
