@@ -34,7 +34,7 @@ LINE = re.compile(r"(?:refuse )?(?:([a-z][a-z0-9_]*) = )?(.*)")
 MEMORY = re.compile(r" (?:memory|none)$")
 # Lines that change nothing.
 LOOKS = "form rows type floats float_at at row probe stored validity meta bytes equals hash sum minmax constant sorted"
-LOOKS = {*LOOKS.split(), "strict", "sum_decimals", "sum_floats", "min_max_numbers", "min_max_total"}
+LOOKS = {*LOOKS.split(), "strict", "typed_bytes", "sum_decimals", "sum_floats", "min_max_numbers", "min_max_total"}
 # What the models answer of lists.
 OF_LISTS = ("type", "equals", "hash", "sum_decimals")
 BY_BITS_KIND = {format.bits_kind: format for format in FORMATS.values()}

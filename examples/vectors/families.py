@@ -11,6 +11,7 @@ import groups
 import mixed
 import orders
 import pairs
+import typed_lines
 from float_pairs import floats_case
 from writer import Writer
 
@@ -104,6 +105,24 @@ NUMBERS = {
         "picks of decimals, by chance: the first row that is not null, the lesser, the greater, and by a mask",
         decimals.pick_case,
         85,
+    ),
+}
+# Messages that keep a logical type: all but the last are lines of fixed columns, and no chance makes them.
+TYPED = {
+    "names": Family(
+        0,
+        "messages that keep a logical type (docs/BYTES.md): each type's name in Arrow, and names of any letters",
+        typed_lines.names_case,
+        1,
+    ),
+    "unkept": Family(0, "without a logical type a message is that of the column", typed_lines.unkept_case, 1),
+    "prefixes": Family(0, "messages that end early, at each of their bytes", typed_lines.prefixes_case, 1),
+    "damages": Family(0, "bytes with one fault each", typed_lines.damages_case, 1),
+    "chance": Family(
+        1,
+        "names by chance, and messages with a byte before the column's changed, put in or left out",
+        typed_lines.chance_case,
+        12,
     ),
 }
 

@@ -2,7 +2,7 @@
 """Writes lines of vectors with their answers, which the rows themselves give: nothing of the library is used.
 
     python3 examples/vectors/lines.py SEED COUNT            lines of COUNT cases of each group, by chance from SEED
-        --group rows|floats|numbers                         of this group only
+        --group rows|floats|numbers|typed                   of this group only
         --wide                                              some columns have hundreds of rows
     python3 examples/vectors/lines.py --stored GROUP        the lines of a group, or of `picks`, in crates/vectors/stdin
 
@@ -17,7 +17,7 @@ from __future__ import annotations
 
 import argparse
 
-from families import FLOATS, NUMBERS, ROWS, as_stored, by_chance, in_turn
+from families import FLOATS, NUMBERS, ROWS, TYPED, as_stored, by_chance, in_turn
 from writer import Writer
 
 WITHOUT_PICKS = {name: family for name, family in NUMBERS.items() if name != "picks"}
@@ -28,8 +28,10 @@ STORED = {
     "floats": (FLOATS, 1, False),
     "numbers": (WITHOUT_PICKS, 2911, False),
     "picks": (PICKS, 2912, True),
+    "typed": (TYPED, 2913, True),
 }
 GROUPS = {"numbers": (NUMBERS, by_chance), "rows": (ROWS, by_chance), "floats": (FLOATS, in_turn)}
+GROUPS["typed"] = (TYPED, by_chance)
 
 
 def stored_lines(group: str) -> list[str]:

@@ -15,6 +15,7 @@ import struct
 import subprocess
 import sys
 import unittest
+import warnings
 from fractions import Fraction
 from functools import partial
 from pathlib import Path
@@ -27,9 +28,11 @@ from float_pairs import partner
 from floats import F16, F32, F64, FORMATS, OPERATIONS, Format, NotThere
 from groups import folded, running
 from lines import GROUPS, STORED, new_lines, stored_lines
+from messages import Constant, Flat, Runs, typed
 from orders import counted
 from pairs import picked, truth
 from siphash import hash_of, siphash
+from typed_lines import SMALL, changed, damages, format_of
 from words import Type, encoded_form, flat_form, order, runs_of, stored, word
 from writer import Refusal
 
@@ -38,6 +41,11 @@ try:
     import numpy
 except ImportError:
     numpy = None
+try:
+    from google.protobuf import descriptor_pb2, descriptor_pool, message_factory
+    from google.protobuf.message import DecodeError
+except ImportError:
+    descriptor_pb2 = None
 
 
 class Words(unittest.TestCase):
@@ -237,13 +245,81 @@ class Decimals(unittest.TestCase):
             self.assertEqual(decimals.exact_sum(rows), expected)
 
 
+def class_of(fields: dict[int, tuple[str, str]]) -> type:
+    """Returns a class of messages of Protocol Buffers with these fields, each of which may be absent."""
+    file = descriptor_pb2.FileDescriptorProto(name="typed.proto", syntax="proto3")
+    message = file.message_type.add(name="Typed")
+    for place, (number, (name, kind)) in enumerate(fields.items()):
+        message.oneof_decl.add(name="_" + name)
+        kind = getattr(descriptor_pb2.FieldDescriptorProto, "TYPE_" + kind)
+        message.field.add(name=name, number=number, type=kind, label=1, proto3_optional=True, oneof_index=place)
+    pool = descriptor_pool.DescriptorPool()
+    pool.Add(file)
+    found = pool.FindMessageTypeByName("Typed")
+    if hasattr(message_factory, "GetMessageClass"):
+        return message_factory.GetMessageClass(found)
+    return message_factory.MessageFactory(pool).GetPrototype(found)
+
+
+class Messages(unittest.TestCase):
+    def test_columns_have_the_bytes_of_the_page(self) -> None:
+        runs = Runs("u8", 0, 5, [3, 5], Flat(Type("i16", True), [7, None]))
+        cases = {
+            "08011006180220054000480152020302 5a130801100618012002280432010 13a0407000000": runs,
+            "0801100b18012004280432010d620402000001 6a03616263": Flat(Type("utf8", True), ["ab", None, "", "c"]),
+            "0801100b180320808080808080808010 28013a026162": Constant(Type("utf8", False), "ab", 2**60),
+            "0801100a1803200328033a00 70057804": Constant(Type((5, 2), True), None, 3),
+            f"0801100a1801200228043201013a20 96{'00' * 31} 70057804": Flat(Type((5, 2), True), [150, None]),
+        }
+        for expected, column in cases.items():
+            self.assertEqual(column.message(), bytes.fromhex(expected.replace(" ", "")))
+
+    def test_a_name_comes_before_the_message_of_the_column(self) -> None:
+        self.assertEqual(typed("", b"ab"), b"ab")
+        self.assertEqual(typed("e", b"ab"), bytes.fromhex("0802 b2010165 ba01026162"))
+        self.assertEqual(len(typed("x" * 128, b"ab")), 2 + 4 + 128 + 3 + 2)
+
+    @unittest.skipUnless(descriptor_pb2, "no Protocol Buffers")
+    def test_protocol_buffers_write_the_same_bytes_and_read_no_damaged_ones(self) -> None:
+        kept = class_of({1: ("version", "UINT32"), 22: ("format", "BYTES"), 23: ("column", "BYTES")})
+        message = SMALL.message()
+        for format in ("e", "tsu:Europe/Berlin", "\U0001f41d", "x" * 128):
+            made = kept(version=2, format=format.encode(), column=message)
+            self.assertEqual(made.SerializeToString(), typed(format, message))
+        found = list(damages())
+        self.assertGreater(len(found), 60)
+        self.assertEqual(len(set(found)), len(found))
+        for data in found:
+            try:
+                with warnings.catch_warnings():
+                    warnings.simplefilter("ignore")
+                    read = kept.FromString(data)
+            except DecodeError:
+                continue
+            is_name = read.format > b"" and read.format.decode(errors="ignore").encode() == read.format
+            fields = (read.version, is_name, read.column, read.SerializeToString())
+            self.assertNotEqual(fields, (2, True, message, data))
+
+    def test_a_changed_front_is_read_only_with_another_name(self) -> None:
+        chance, message = random.Random(3), SMALL.message()
+        names = set()
+        for _ in range(3000):
+            front = changed(chance, typed("tsu:é", message)[: -len(message)])
+            name = format_of(front, len(message))
+            names.add(name)
+            if name is not None:
+                self.assertEqual(typed(name, message), front + message)
+        self.assertIn(None, names)
+        self.assertGreater(len(names), 100)
+
+
 class Lines(unittest.TestCase):
     def test_the_stored_lines_of_each_group_are_made_again(self) -> None:
         stored = VECTORS.read_text(encoding="utf-8").split("\n")
         for group in STORED:
             lines = stored_lines(group)
             start = stored.index(lines[0])
-            self.assertGreater(len(lines), 900)
+            self.assertGreater(len(lines), 400)
             self.assertEqual(stored[start : start + len(lines)], lines)
 
     def test_a_seed_makes_the_same_lines_again_and_another_makes_others(self) -> None:

@@ -1,3 +1,4 @@
 pub mod Outcomes
 pub mod Lines
 pub mod Counts
+pub mod TypedAnswers

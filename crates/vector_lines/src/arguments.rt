@@ -8,7 +8,7 @@ use crate::lists::row_validity;
 use crate::request::{self, Derived, FloatOperator, Lists, NEXT, Record, RowOperator, Runs, Views};
 use crate::row_work::RowWork;
 use crate::types::read_type;
-use crate::values::{Value, bytes_of, bytes_of_words, paired, read_value};
+use crate::values::{Value, bytes_of, bytes_of_words, paired, read_value, text_of};
 use bytes::Bytes;
 use column_words::parse_count;
 use runend_commands::Command;
@@ -33,12 +33,16 @@ pub fn prepare<A: Allocator + Copy>(
         request::Call::Validity => on_copy(name, Task::Validity, columns, ctx),
         request::Call::Meta => on_copy(name, Task::Meta, columns, ctx),
         request::Call::Bytes => on_copy(name, Task::Bytes, columns, ctx),
+        request::Call::TypedBytes(quoted) => typed_copy(name, quoted, columns, ctx),
         request::Call::Equals(other) => prepared_equality(name, other, columns, ctx),
         request::Call::Hash => on_copy(name, Task::Hash, columns, ctx),
         request::Call::Floats(question) => on_copy(name, Task::Floats(question), columns, ctx),
         request::Call::SumDecimals => on_copy(name, Task::SumDecimals, columns, ctx),
         request::Call::Derived(derived) => Ok(Call::Derive(prepared_work(derived, columns, ctx)?)),
         request::Call::Read(words) => Ok(Call::Read(bytes_of_words(*ctx.allocator(), words)?)),
+        request::Call::ReadTyped(words) => {
+            Ok(Call::ReadTyped(bytes_of_words(*ctx.allocator(), words)?))
+        }
         _ => Ok(Call::Make(prepared_maker(call, columns, ctx)?)),
     }
 }
@@ -117,6 +121,17 @@ fn on_copy<A: Allocator + Copy>(
             Err(error)
         }
     }
+}
+
+// The message of a copy of the column of this name, with the logical type of a quoted name.
+fn typed_copy<A: Allocator + Copy>(
+    name: &str,
+    quoted: &str,
+    columns: &Columns<A>,
+    ctx: &mut ExecutionCtx<A>,
+) -> LineResult<Call<A>> {
+    let format = text_of(*ctx.allocator(), quoted)?;
+    on_copy(name, Task::TypedBytes(format), columns, ctx)
 }
 
 // Whether copies of the columns of two names have the same rows.
@@ -256,6 +271,9 @@ fn prepared_maker<A: Allocator + Copy>(
         request::Call::Deserialize(record) => prepared_record(record, columns, ctx),
         request::Call::FromBytes(words) => {
             Ok(Maker::FromBytes(bytes_of_words(*ctx.allocator(), words)?))
+        }
+        request::Call::FromTypedBytes(words) => {
+            Ok(Maker::FromTypedBytes(bytes_of_words(*ctx.allocator(), words)?))
         }
         _ => Err(LineError::Bad),
     }

@@ -9,6 +9,7 @@ use crate::questions::{
 };
 use crate::request::{FloatQuestion, NEXT};
 use crate::row_work::{RowWork, WorkError};
+use crate::typed_work::{type_reply, typed_bytes_reply, typed_column};
 use bytes::Bytes;
 use column_base::VortexResult;
 use column_bytes::{read_column, write_column};
@@ -32,6 +33,8 @@ pub enum Call<A: Allocator> {
     On(ArrayRef<A>, Task<A>),
     /// A record of these bytes is read.
     Read(Vec<u8, A>),
+    /// Asks for the logical type of the message of these bytes.
+    ReadTyped(Vec<u8, A>),
 }
 
 /// How a column is made.
@@ -53,6 +56,8 @@ pub enum Maker<A: Allocator> {
     Deserialize(DType, usize, Vec<u8, A>, ArrayRef<A>, ArrayRef<A>),
     /// Of the bytes of a message.
     FromBytes(Vec<u8, A>),
+    /// Reads the bytes of a message that may keep a logical type.
+    FromTypedBytes(Vec<u8, A>),
 }
 
 /// What a builder is given.
@@ -74,6 +79,8 @@ pub enum Task<A: Allocator> {
     Validity,
     Meta,
     Bytes,
+    /// Asks for the message with the logical type of this name.
+    TypedBytes(String<A>),
     /// Asks whether this column has the same rows.
     Equals(ArrayRef<A>),
     Hash,
@@ -151,6 +158,10 @@ impl<A: Allocator + Copy> Call<A> {
                 reply: read_of(&bytes, ample)?,
                 column: None,
             }),
+            Call::ReadTyped(bytes) => Ok(CallResult {
+                reply: type_reply(*ctx.allocator(), &bytes, ample)?,
+                column: None,
+            }),
         }
     }
 }
@@ -217,6 +228,7 @@ impl<A: Allocator + Copy> Maker<A> {
                 drop(bytes);
                 column
             }
+            Maker::FromTypedBytes(bytes) => typed_column(*ctx.allocator(), &bytes),
         }
     }
 }
@@ -285,6 +297,7 @@ impl<A: Allocator + Copy> Task<A> {
             Task::Validity => validity_of(column, ctx, ample),
             Task::Meta => meta_of(column, ctx, ample),
             Task::Bytes => bytes_reply(write_column(*ctx.allocator(), column), ample),
+            Task::TypedBytes(format) => typed_bytes_reply(format.as_str(), column, ctx, ample),
             Task::Equals(other) => equality_of(column, other, ctx, ample),
             Task::Hash => hash_of(column, ctx, ample),
             Task::Floats(question) => float_reply(question, column, ctx, ample),

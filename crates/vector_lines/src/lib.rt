@@ -25,6 +25,7 @@ mod row_work;
 mod session;
 mod session_words;
 mod stored;
+mod typed_work;
 mod types;
 mod values;
 

@@ -109,10 +109,11 @@ fn read_built<'a>(words: &'a [&'a str]) -> Option<Call<'a>> {
     Some(Call::Built(read_type(dtype)?, parts))
 }
 
-// The column of a message, whose bytes stand behind the word `bytes`.
+// The column of a message, whose bytes come after the word `bytes`, or `typed_bytes` where it may keep a logical type.
 fn read_from<'a>(words: &'a [&'a str]) -> Option<Call<'a>> {
     match words {
         ["bytes", bytes @ ..] => Some(Call::FromBytes(bytes)),
+        ["typed_bytes", bytes @ ..] => Some(Call::FromTypedBytes(bytes)),
         _ => None,
     }
 }

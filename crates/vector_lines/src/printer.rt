@@ -1,6 +1,8 @@
 //! Values, types and forms as words. Each call puts its words behind a text, separated by spaces.
-ghost use Rattle.std.specs.Prelude.{IsOkUnless};
+ghost use Rattle.std.specs.Prelude.{◌≡◌, ◌++◌, IsOkUnless, MatchOption, OnOk, encode_utf8};
+ghost use Rattle.std.specs.String.{string_bytes};
 ghost use Rattle.column_fields.specs.EndsType.{IsEndsTypeNumber};
+ghost use Rattle.vector_lines.specs.TypedAnswers.{quoted, quoted_letter, spaced_bytes};
 
 use crate::types::push_type;
 use column_base::{VortexError, VortexResult};
@@ -22,6 +24,7 @@ pub fn push_word<A: Allocator + Copy>(text: &mut String<A>, word: &str) -> Vorte
 
 // Letters right behind the text.
 fn push_letters<A: Allocator + Copy>(text: &mut String<A>, letters: &str) -> VortexResult<()>
+    ensures written { OnOk result (string_bytes text.new ≡ string_bytes text.old ++ letters.now) }
     ensures only { IsOkUnless result VortexError.OutOfMemory }
 {
     text.push_str(letters)?;
@@ -117,7 +120,13 @@ fn push_single<A: Allocator + Copy>(
 }
 
 // A text within quotes, with its escapes.
-fn push_quoted<A: Allocator + Copy>(text: &mut String<A>, letters: &str) -> VortexResult<()> {
+pub(crate) fn push_quoted<A: Allocator + Copy>(
+    text: &mut String<A>,
+    letters: &str,
+) -> VortexResult<()>
+    ensures written { OnOk result (string_bytes text.new ≡ string_bytes text.old ++ quoted letters.now) }
+    ensures only { IsOkUnless result VortexError.OutOfMemory }
+{
     push_letters(text, "\"")?;
     for letter in letters.chars() {
         push_escaped(text, letter)?;
@@ -126,15 +135,21 @@ fn push_quoted<A: Allocator + Copy>(text: &mut String<A>, letters: &str) -> Vort
 }
 
 // A letter of a text within quotes.
-fn push_escaped<A: Allocator + Copy>(text: &mut String<A>, letter: char) -> VortexResult<()> {
+fn push_escaped<A: Allocator + Copy>(text: &mut String<A>, letter: char) -> VortexResult<()>
+    ensures written { OnOk result (string_bytes text.new ≡ string_bytes text.old ++ quoted_letter letter) }
+    ensures only { IsOkUnless result VortexError.OutOfMemory }
+{
     match escape_of(letter) {
         Some(escape) => push_letters(text, escape),
         None => Ok(text.push(letter)?),
     }
 }
 
-// What is written for a letter that does not stand for itself within quotes.
-fn escape_of(letter: char) -> Option<&'static str> {
+// What is written for a letter that is not itself within quotes.
+fn escape_of(letter: char) -> Option<&'static str>
+    ensures { MatchOption result (quoted_letter letter ≡ encode_utf8 letter)
+        (λ escape. quoted_letter letter ≡ escape.now) }
+{
     match letter {
         ' ' => Some("\\s"),
         '\n' => Some("\\n"),
@@ -399,18 +414,17 @@ fn push_bits<A: Allocator + Copy>(text: &mut String<A>, bits: &BitBuffer<A>) -> 
     Ok(())
 }
 
-/// Returns the bytes of a record or of a message, a word of two hexadecimal digits each, or `-` where there are none.
-pub fn push_byte_words<A: Allocator + Copy>(
-    text: &mut String<A>,
-    bytes: &[u8],
-) -> VortexResult<()> {
-    if bytes.is_empty() {
-        push_word(text, "-")?;
-    }
-    for byte in bytes {
-        push_space(text)?;
-        push_byte(text, *byte)?;
-    }
+/// Puts the bytes of a record or of a message right after the text: a word of two hexadecimal digits each, or `-` where
+/// there are none. Refused only as `OutOfMemory`.
+pub fn push_byte_words<A: Allocator + Copy>(text: &mut String<A>, bytes: &[u8]) -> VortexResult<()>
+    ensures written { OnOk result (string_bytes text.new ≡ string_bytes text.old ++ spaced_bytes bytes.now) }
+    ensures only { IsOkUnless result VortexError.OutOfMemory }
+{
+    let Some((first, rest)) = bytes.split_first() else {
+        return push_letters(text, "-");
+    };
+    push_byte(text, *first)?;
+    column_words::push_bytes(text, rest)?;
     Ok(())
 }
 

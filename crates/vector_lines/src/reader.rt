@@ -1,9 +1,10 @@
 //! What the words of a line ask.
 use crate::commands::{read_bare, read_worded};
 use crate::makers::read_maker;
-use crate::names::{is_name, only_count, only_name};
+use crate::names::{is_name, only, only_count, only_name};
 use crate::request::{Call, FloatQuestion, Look, Request};
 use crate::session_words::{read_kernels, read_thresholds};
+use crate::values::between;
 use column_words::parse_count;
 
 /// Returns what these words ask, or `None` where they cannot be read.
@@ -43,9 +44,12 @@ fn read_refused_call<'a>(words: &'a [&'a str]) -> Option<Request<'a>> {
     }
 }
 
-// What these words ask of a record or of a column, whose name is the first of them.
+// What these words ask of a record, of a message or of a column, whose name is the first of them.
 fn read_done<'a>(words: &'a [&'a str]) -> Option<Request<'a>> {
     match words {
+        ["read", "typed_bytes", bytes @ ..] => {
+            Some(Request::Call("read", Call::ReadTyped(bytes)))
+        }
         ["read", bytes @ ..] => Some(Request::Call("read", Call::Read(bytes))),
         _ => read_on_column(words),
     }
@@ -102,6 +106,7 @@ fn read_call<'a>(verb: &str, words: &'a [&'a str]) -> Option<Call<'a>> {
         "row" => Some(Call::Row(only_count(words)?)),
         "probe" => Some(Call::Probe(only_count(words)?)),
         "equals" => Some(Call::Equals(only_name(words)?)),
+        "typed_bytes" => Some(Call::TypedBytes(between(only(words)?, "\"", '"')?)),
         "float_at" => Some(Call::Floats(FloatQuestion::At(only_count(words)?))),
         _ => Some(Call::Command(read_worded(verb, first, rest)?)),
     }

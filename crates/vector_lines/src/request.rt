@@ -58,6 +58,8 @@ pub enum Call<'a> {
     Deserialize(Record<'a>),
     /// The column of which these are the bytes of the message.
     FromBytes(&'a [&'a str]),
+    /// Reads a message that may keep the logical type of its column.
+    FromTypedBytes(&'a [&'a str]),
     Derived(Derived<'a>),
     Command(VectorCommand<'a>),
     /// The words of commands, to be run as one list, parted by `NEXT`.
@@ -69,6 +71,8 @@ pub enum Call<'a> {
     Meta,
     /// The message of a column.
     Bytes,
+    /// Writes the message of a column with the logical type of this name, which is quoted.
+    TypedBytes(&'a str),
     /// Asks whether the column of this name has the same rows.
     Equals(&'a str),
     /// Asks for the hash of the rows.
@@ -79,6 +83,8 @@ pub enum Call<'a> {
     SumDecimals,
     /// What a record says. It is asked of no column, so its request is named `read`, as no column is.
     Read(&'a [&'a str]),
+    /// Asks a message for the name of the logical type that it keeps; as `Read` it is asked of no column.
+    ReadTyped(&'a [&'a str]),
 }
 
 impl<'a> Call<'a> {
@@ -88,9 +94,11 @@ impl<'a> Call<'a> {
             Call::Copy(_) | Call::Encode(_) | Call::EncodeRows(_) => true,
             Call::Built(_, _) | Call::Runs(_) | Call::Whole(_) => true,
             Call::Lists(_) | Call::Views(_) => true,
-            Call::Deserialize(_) | Call::FromBytes(_) | Call::Derived(_) => true,
+            Call::Deserialize(_) | Call::FromBytes(_) | Call::FromTypedBytes(_) => true,
+            Call::Derived(_) => true,
             Call::Command(_) | Call::Run(_) | Call::Row(_) | Call::Probe(_) => false,
-            Call::Validity | Call::Meta | Call::Bytes | Call::Read(_) => false,
+            Call::Validity | Call::Meta | Call::Bytes | Call::TypedBytes(_) => false,
+            Call::Read(_) | Call::ReadTyped(_) => false,
             Call::Equals(_) | Call::Hash | Call::Floats(_) | Call::SumDecimals => false,
         }
     }
