@@ -88,7 +88,7 @@ def exact_sum(rows):
     try:
         return float(total)
     except OverflowError:
-        return math.copysign(math.inf, total)
+        return math.inf if total > 0 else -math.inf
 
 
 def known_of_floats(rows):

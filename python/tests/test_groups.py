@@ -88,10 +88,11 @@ def exact_sum(rows):
     others = [row for row in rows if not math.isfinite(row)]
     if others:
         return sum(others)
+    total = sum(map(Fraction, rows))
     try:
-        return float(sum(map(Fraction, rows)))
+        return float(total)
     except OverflowError:
-        return math.copysign(math.inf, sum(map(Fraction, rows)))
+        return math.inf if total > 0 else -math.inf
 
 
 def due_of(name, fold, rows):
