@@ -1,6 +1,6 @@
 use Rattle.std.proofs.Common.{◌≡◌, ◌++◌, IsUtf8, string_bytes}
 use Rattle.std.specs.Prelude.{codes}
-use Rattle.core.specs.Str.Iter.{chars_rest}
+use Rattle.std.specs.Str.Iter.{chars_rest}
 use Rattle.vector_lines.specs.TypedAnswers.{quoted_letters}
 use Rattle.vector_lines.proofs.printer.push_quoted.Given as goal
 
