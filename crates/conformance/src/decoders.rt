@@ -4,12 +4,11 @@ ghost use Rattle.column_core.specs.PrimitiveForm.{primitive_dtype};
 ghost use Rattle.runend_windows.specs.Ends.{IsEndsType};
 
 use crate::columns::{both, context, ends_column, full_context, nullable, required};
-use crate::parts::{bits, nullable_truths, three_texts};
+use crate::parts::{bits, nullable_truths, three_lists, three_texts};
 use crate::shown::are_shown;
 use refusing::{Calls, are_answered_in_turn};
 use runend_windows::validate_ends;
 use std::alloc::{Allocator, Global};
-use std::rc::Rc;
 use std::test::Fail;
 use vortex_runend::compress::{
     runend_decode_decimal, runend_decode_listview, runend_decode_primitive,
@@ -17,9 +16,9 @@ use vortex_runend::compress::{
 };
 use vortex_runend::decompress_bool::{runend_decode_bools, runend_decode_typed_bool};
 use vortex_runend::{
-    ArrayRef, BitBuffer, BitBufferMut, BoolArray, DecimalArray, DecimalDType, ExecutionCtx,
-    FlatColumn, ListViewArray, Mask, Nullability, PrimitiveArray, RowValidity, UnsignedPType,
-    Validity, VortexError, VortexResult, trimmed_ends_iter,
+    ArrayRef, BitBuffer, BitBufferMut, BoolArray, DecimalArray, DecimalDType, ExecutionCtx, Mask,
+    Nullability, PrimitiveArray, UnsignedPType, Validity, VortexError, VortexResult,
+    trimmed_ends_iter,
 };
 
 // Where three runs end. Of the rows 1 to 8 one is in the first run, three in the second and four in the last. The first
@@ -188,24 +187,6 @@ fn decoded_texts_keep_their_buffer(rt: HostRuntime) -> Result<(), Fail> {
     let made = words(&mut context(rt.alloc()));
     assert!(rt; are_in_one_buffer(made)?);
     Ok(())
-}
-
-// The lists 1 2, null and 4 5 6.
-fn three_lists<A: Allocator + Copy>(ctx: &mut ExecutionCtx<A>) -> VortexResult<ListViewArray<A>> {
-    let alloc = *ctx.allocator();
-    let numbers = FlatColumn::Primitive(required(alloc, &[1i64, 2, 3, 4, 5, 6])?);
-    let elements = match Rc::new(alloc, numbers) {
-        Ok(elements) => Ok(elements),
-        Err(failed) => Err(failed.into()),
-    };
-    let starts_and_sizes = both(
-        required(alloc, &[0u64, 2, 3]),
-        required(alloc, &[2u64, 1, 3]),
-    );
-    let flags = bits(alloc, &[true, false, true]);
-    let ((elements, flags), (starts, sizes)) = both(both(elements, flags), starts_and_sizes)?;
-    let (starts, sizes) = (ArrayRef::Primitive(starts), ArrayRef::Primitive(sizes));
-    ListViewArray::try_new(elements, starts, sizes, RowValidity::Bits(flags), ctx)
 }
 
 fn three_runs_of_lists<A: Allocator + Copy>(

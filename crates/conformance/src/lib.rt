@@ -3,6 +3,8 @@
 #![tactic(auto)]
 
 #[cfg(test)]
+mod batch_append;
+#[cfg(test)]
 mod batch_forms;
 #[cfg(test)]
 mod batches;

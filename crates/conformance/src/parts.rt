@@ -1,9 +1,11 @@
-//! Columns of which run columns are made: booleans and texts.
-use crate::columns::both;
+//! Columns of which run columns are made: booleans, texts and lists.
+use crate::columns::{both, required};
 use bytes::Bytes;
 use std::alloc::Allocator;
+use std::rc::Rc;
 use vortex_runend::{
-    BitBuffer, BitBufferMut, BoolArray, Validity, VarBinKind, VarBinViewArray, View, VortexResult,
+    ArrayRef, BitBuffer, BitBufferMut, BoolArray, ExecutionCtx, FlatColumn, ListViewArray,
+    RowValidity, Validity, VarBinKind, VarBinViewArray, View, VortexResult,
 };
 
 /// Returns a bit for each flag.
@@ -23,6 +25,26 @@ pub(crate) fn nullable_truths<A: Allocator + Copy>(
 ) -> VortexResult<BoolArray<A>> {
     let (items, flags) = both(bits(alloc, items), bits(alloc, flags))?;
     BoolArray::try_new(items, Validity::Bits(flags))
+}
+
+/// Returns the lists 1 2, null and 4 5 6.
+pub(crate) fn three_lists<A: Allocator + Copy>(
+    ctx: &mut ExecutionCtx<A>,
+) -> VortexResult<ListViewArray<A>> {
+    let alloc = *ctx.allocator();
+    let numbers = FlatColumn::Primitive(required(alloc, &[1i64, 2, 3, 4, 5, 6])?);
+    let elements = match Rc::new(alloc, numbers) {
+        Ok(elements) => Ok(elements),
+        Err(failed) => Err(failed.into()),
+    };
+    let starts_and_sizes = both(
+        required(alloc, &[0u64, 2, 3]),
+        required(alloc, &[2u64, 1, 3]),
+    );
+    let flags = bits(alloc, &[true, false, true]);
+    let ((elements, flags), (starts, sizes)) = both(both(elements, flags), starts_and_sizes)?;
+    let (starts, sizes) = (ArrayRef::Primitive(starts), ArrayRef::Primitive(sizes));
+    ListViewArray::try_new(elements, starts, sizes, RowValidity::Bits(flags), ctx)
 }
 
 // One buffer of the bytes of "first" and "last".

@@ -14,7 +14,7 @@ use Rattle.column_ops.specs.declared.operator.CompareOperator.{CompareOperator}
 use Rattle.runend_array.specs.Column.{Column, column_dtype, column_rows}
 use Rattle.runend_array.specs.ColumnCode.{column_code}
 use Rattle.vortex_runend.specs.declared.batch.fault.BatchError.{BatchError}
-use Rattle.vortex_runend.specs.declared.batch.fault.BatchError.TheVariants.{Refused, NoColumns, NameCount, RowCount, RepeatedName, UnknownName}
+use Rattle.vortex_runend.specs.declared.batch.fault.BatchError.TheVariants.{Refused, NoColumns, NameCount, RowCount, RepeatedName, UnknownName, OtherNames, OtherType}
 
 -- names, as bytes, and columns, each at the place of its name
 pub record Batch : Type 0 where
@@ -102,6 +102,8 @@ IsBatchError names columns (RowCount place found expected) =
 IsBatchError names columns (RepeatedName place) = (length names ≡ length columns) × AreEven columns × IsFirstRepeated names place
 IsBatchError names columns (Refused error) = ⊥
 IsBatchError names columns UnknownName = ⊥
+IsBatchError names columns OtherNames = ⊥
+IsBatchError names columns (OtherType place) = ⊥
 
 -- the rows of each column at which the operator holds of the row of the named column and the value
 pub record IsFilteredBy (before after : Batch) (name : List ℕ) (operator : CompareOperator) (dtype : DType) (value : Option Value) : Type 0 where

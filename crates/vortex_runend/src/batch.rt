@@ -1,12 +1,13 @@
-//! Several named columns of one number of rows, filtered, cut and taken together.
+//! Several named columns of one number of rows, filtered, cut, taken and appended to together.
 mod columns;
 mod fault;
+mod joined;
 mod masks;
 mod names;
 mod taken;
 
 ghost use Rattle.std.specs.List.{AllZip};
-ghost use Rattle.std.specs.Prelude.{◌≡◌, IfErr, IfNone, IfOk, IfSome, OnErr, OnOk, length, map, option_map, slice_range};
+ghost use Rattle.std.specs.Prelude.{◌≡◌, IfErr, IfNone, IfOk, IfSome, MatchOption, OnErr, OnOk, All, length, map, option_map, slice_range};
 ghost use Rattle.std.specs.String.{string_bytes};
 ghost use Rattle.column_base.specs.Mask.{mask_bits};
 ghost use Rattle.column_base.specs.declared.mask.Mask.{Mask};
@@ -18,6 +19,7 @@ ghost use Rattle.column_ops.specs.Nullable.{take_dtype};
 ghost use Rattle.column_ops.specs.Take.{take_fault, take_rows as rows_at_indices};
 ghost use Rattle.runend_array.specs.Array.{column_of, rows};
 ghost use Rattle.runend_array.specs.Column.{column_dtype, column_rows};
+ghost use Rattle.vortex_runend.specs.BatchAppend.{IsAppendError, IsAppendable, IsEncoded, joined_rows};
 ghost use Rattle.vortex_runend.specs.BatchForms.{HasFilteredForm, HasSlicedForm, HasTakenForm, IsMaskBy};
 ghost use Rattle.vortex_runend.specs.Batches.{Batch, IsBatch, IsBatchError, IsFilterByError, IsFilteredBy, IsNamed, IsUnknown, dtypes_of, row_count, rows_of};
 
@@ -25,6 +27,7 @@ use column_core::{Mask, PrimitiveArray, Scalar, VortexResult};
 use column_ops::CompareOperator;
 use columns::{filter_each, slice_each};
 pub use fault::BatchError;
+use joined::{fault_of_joining, first_other_type, join_each};
 use masks::mask_by;
 use names::{fault_of_batch, place_of};
 use runend_array::{ArrayRef, ExecutionCtx};
@@ -191,5 +194,49 @@ impl<A: Allocator + Copy> ColumnBatch<A> {
         drop(mask);
         filtered?;
         Ok(())
+    }
+
+    /// Puts the rows of each column of the other batch after those of the column of the same place, and leaves each
+    /// column as the encoding of all its rows, whatever its form was: runs are read and not rows, except of flat
+    /// columns. Refused, in this order, as `OtherNames` where the names are not the same in the same order; as
+    /// `OtherType` at the first column whose type is another one (whether null is allowed belongs to a type); as
+    /// `Unsupported` where a column has lists; and as `WindowOverflow` where there were 2^64 rows or more: all of these
+    /// before any memory is taken, then only as `OutOfMemory`. A refusal leaves the batch as it was.
+    pub fn append(
+        &mut self,
+        other: &ColumnBatch<A>,
+        ctx: &mut ExecutionCtx<A>,
+    ) -> Result<(), BatchError>
+        ensures refused { IfErr result (IsAppendError self.old other.now) }
+        ensures allowed { OnOk result (IsAppendable self.old other.now) }
+        ensures rows { OnOk result (rows_of self.new ≡ joined_rows self.old.columns other.now.columns) }
+        ensures dtypes { OnOk result (dtypes_of self.new ≡ dtypes_of self.old) }
+        ensures forms { OnOk result (All IsEncoded self.new.columns) }
+        ensures names { self.new.names ≡ self.old.names }
+        ensures kept { OnErr result (self.new ≡ self.old) }
+        ensures session { ctx.new ≡ ctx.old }
+    {
+        if let Some(error) = self.fault_of_append(other) {
+            return Err(error);
+        }
+        let joined = join_each(&self.columns, &other.columns, ctx)?;
+        drop(replace(&mut self.columns, joined));
+        Ok(())
+    }
+}
+
+impl<A: Allocator + Copy> ColumnBatch<A> {
+    // Why the rows of the other batch are not put after those of the batch, if they are not.
+    fn fault_of_append(&self, other: &ColumnBatch<A>) -> Option<BatchError>
+        ensures { MatchOption result (IsAppendable self.now other.now) (IsAppendError self.now other.now) }
+    {
+        if self.names != other.names {
+            return Some(BatchError::OtherNames);
+        }
+        if let Some(column) = first_other_type(&self.columns, &other.columns) {
+            return Some(BatchError::OtherType { column });
+        }
+        let error = fault_of_joining(&self.columns, &other.columns)?;
+        Some(BatchError::Refused(error))
     }
 }

@@ -1,11 +1,12 @@
-//! Why names and columns do not make a batch, or a batch is not filtered.
+//! Why names and columns do not make a batch, or a batch is not filtered or appended to.
 ghost use Rattle.std.specs.Prelude.{◌≡◌};
 ghost use Rattle.vortex_runend.specs.declared.batch.fault.BatchError.TheVariants.{Refused};
 
 use column_core::VortexError;
 use thiserror::Error;
 
-/// Says why names and columns do not make a batch, or why a batch is not filtered. Columns are counted from 0.
+/// Says why names and columns do not make a batch, or why a batch is not filtered or appended to. Columns are counted
+/// from 0.
 #[derive(Clone, Copy, Debug, Drop, PartialEq, Eq, Error)]
 pub enum BatchError {
     /// Says that a column does not go with the value, or that a growth of memory was refused.
@@ -35,6 +36,14 @@ pub enum BatchError {
     /// Says that no column has the name.
     #[error("UnknownName")]
     UnknownName,
+    /// Says that the names of the other batch are not those of the batch, in the same order.
+    #[error("OtherNames")]
+    OtherNames,
+    /// Has the first column whose type the other batch's column of its place does not have.
+    #[error("OtherType")]
+    OtherType {
+        column: usize,
+    },
 }
 
 impl From<VortexError> for BatchError {
