@@ -22,7 +22,7 @@ pub enum Operation {
 impl LogicalType {
     /// Returns the type of an operation's answer: that of the column, except that a sum of integers is of 64 bits.
     /// `None` where the operation says nothing of such values: a sum of dates, of times, of timestamps,
-    /// of the keys of floats, and of decimals, which the library does not add.
+    /// of the keys of floats, and of decimals, whose sums have a precision of their own.
     pub fn answer(self, operation: Operation) -> Option<LogicalType>
         ensures { result ≡ answer_of self operation }
     {

@@ -44,8 +44,8 @@ pub(crate) trait Pairwise<Z: Copy + Drop, K: Stored<Z>> {
 }
 
 /// Returns the runs of the answers of `count` rows, all closed. The operation is asked once for each stretch of rows in
-/// which both columns stay in one run, which `steps` counts: at most m + n - 1 times for m and n runs. Refused with the
-/// first row whose answer the type does not have, and as `OutOfMemory`.
+/// which both columns stay in one run. `steps` counts the answers that are put together: at most m + n - 1 for m and n
+/// runs. Refused with the first row whose answer the type does not have, and as `OutOfMemory`.
 pub(crate) fn zip_runs<Z: Copy + Drop, K: Stored<Z>, O: Pairwise<Z, K>, A: Allocator + Copy>(
     alloc: A,
     left: &ColumnRuns<A>,
