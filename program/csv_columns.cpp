@@ -19,6 +19,11 @@ public:
         if (twice != sorted.end()) throw Failure(options.path + ": two columns have the name '" + *twice + "'");
     }
     const Fields &names() const { return found; }
+    // Goes back to the first record after the names.
+    void restart() {
+        reader.restart();
+        reader.next(found);
+    }
     bool next(Fields &fields) {
         if (!reader.next(fields)) return false;
         if (fields.size() == found.size()) return true;
@@ -149,12 +154,13 @@ static std::vector<size_t> places_of(const CsvOptions &options, const Fields &na
     return places;
 }
 
-static std::vector<RowType> guessed(const CsvOptions &options, const std::vector<size_t> &places) {
+// The type of each column, for which the records are read, and the reader goes back to the first.
+static std::vector<RowType> guessed(const CsvOptions &options, NamedReader &reader, const std::vector<size_t> &places) {
     if (options.type) return {*options.type};
-    NamedReader reader(options);
     std::vector<Guess> guesses(places.size());
     for (Fields fields; reader.next(fields);)
         for (size_t at = 0; at < places.size(); at++) guesses[at].add(fields[places[at]]);
+    reader.restart();
     std::vector<RowType> types;
     for (const Guess &guess : guesses) types.push_back(guess.type());
     return types;
@@ -177,7 +183,7 @@ std::vector<CsvColumn> read_csv(const CsvOptions &options) {
     NamedReader reader(options);
     const std::vector<size_t> places = places_of(options, reader.names());
     std::vector<Gathered> gathered;
-    for (RowType &type : guessed(options, places)) gathered.emplace_back(std::move(type));
+    for (RowType &type : guessed(options, reader, places)) gathered.emplace_back(std::move(type));
     for (Fields fields; reader.next(fields);)
         for (size_t at = 0; at < places.size(); at++) add_field(gathered[at], fields[places[at]], reader, places[at]);
     std::vector<CsvColumn> columns;

@@ -2,16 +2,32 @@
 #include "failure.hpp"
 #include <algorithm>
 
-InputFile::InputFile(const std::string &path) : name(path), file(std::fopen(path.c_str(), "rb")), block(1 << 16) {
-    if (!file) throw refused_file(name);
+// The bytes in a file that is removed where it is closed, and that can be read twice, as a pipe cannot.
+static File copied(std::FILE *from, const std::string &path, std::vector<char> &block) {
+    File copy(std::tmpfile());
+    if (!copy) throw refused_file(path + ": a temporary file");
+    for (size_t count; (count = std::fread(block.data(), 1, block.size(), from)) > 0;)
+        if (std::fwrite(block.data(), 1, count, copy.get()) != count) throw refused_file(path + ": a temporary file");
+    if (std::ferror(from)) throw refused_file(path);
+    if (std::fflush(copy.get())) throw refused_file(path + ": a temporary file");
+    return copy;
 }
 
-InputFile::~InputFile() { std::fclose(file); }
+InputFile::InputFile(const std::string &path) : name(path), file(std::fopen(path.c_str(), "rb")), block(1 << 16) {
+    if (!file) throw refused_file(name);
+    if (std::fseek(file.get(), 0, SEEK_SET)) file = copied(file.get(), name, block);
+    restart();
+}
+
+void InputFile::restart() {
+    std::rewind(file.get());
+    at = filled = 0;
+}
 
 int InputFile::filled_peek() {
     at = 0;
-    filled = std::fread(block.data(), 1, block.size(), file);
-    if (filled == 0 && std::ferror(file)) throw refused_file(name);
+    filled = std::fread(block.data(), 1, block.size(), file.get());
+    if (filled == 0 && std::ferror(file.get())) throw refused_file(name);
     return filled ? static_cast<unsigned char>(block[0]) : EOF;
 }
 
@@ -24,6 +40,12 @@ static char separator_of(std::string_view begun) {
 
 CsvReader::CsvReader(const std::string &path, std::optional<char> separator)
     : input(path), mark(separator ? *separator : separator_of(input.begun())) {
+    restart();
+}
+
+void CsvReader::restart() {
+    input.restart();
+    lines = 0;
     if (input.begun().substr(0, 3) == "\xef\xbb\xbf")
         for (int byte = 0; byte < 3; byte++) input.get();
 }

@@ -3,17 +3,22 @@
 #ifndef HIVEVIGIL_PROGRAM_CSV_READER_HPP
 #define HIVEVIGIL_PROGRAM_CSV_READER_HPP
 #include <cstdio>
+#include <memory>
 #include <optional>
 #include <string>
 #include <vector>
 
-// The bytes of a file in turn, read by blocks.
+struct ClosesFile {
+    void operator()(std::FILE *file) const { std::fclose(file); }
+};
+using File = std::unique_ptr<std::FILE, ClosesFile>;
+
+// The bytes of a file in turn, read by blocks. One that cannot be read twice, as a pipe, is copied to a temporary file.
 class InputFile {
 public:
     explicit InputFile(const std::string &path);
-    ~InputFile();
-    InputFile(const InputFile &) = delete;
-    InputFile &operator=(const InputFile &) = delete;
+    // Goes back to the first byte.
+    void restart();
     // The next byte, which stays; EOF at the end.
     int peek() { return at < filled ? static_cast<unsigned char>(block[at]) : filled_peek(); }
     // The next byte.
@@ -28,7 +33,7 @@ public:
 
 private:
     std::string name;
-    std::FILE *file;
+    File file;
     std::vector<char> block;
     size_t at = 0, filled = 0;
     int filled_peek();
@@ -40,6 +45,8 @@ class CsvReader {
 public:
     // Fields are divided by `separator`; where there is none, by the first of , ; tab | that the first line has.
     CsvReader(const std::string &path, std::optional<char> separator);
+    // Goes back to the first record.
+    void restart();
     // The fields of the next record; false at the end of the file. Throws a Failure that names the line.
     bool next(std::vector<std::string> &fields);
     // The line on which the last record ended, from 1.

@@ -13,6 +13,7 @@ import csv
 import io
 import random
 import re
+import resource
 import sys
 import tempfile
 import warnings
@@ -243,6 +244,24 @@ def check_refused_orders(program: Program) -> None:
         assert program.answers("show", "b.hv", "--rows=9", "--sort", text) == head + rows, text
 
 
+def check_pipes(program: Program) -> None:
+    """A CSV file that comes through a pipe, longer than what is read at once, is kept whole; so is it with a mark in
+    front. A field of its last line that does not fit is refused by its line, and a copy that has no room too."""
+    levels = [*range(20_000), 2**40]
+    for mark in b"", b"\xef\xbb\xbf":
+        data = mark + b"level\n" + b"".join(b"%d\n" % level for level in levels)
+        assert program.run("convert", "/dev/stdin", "--to", "pipe.hv", stdin=data) == (0, b"", "")
+        assert program.answers("show", "pipe.hv", "--rows=99999").split() == ["level", *map(str, levels)]
+        status, out, said = program.run("report", "/dev/stdin", stdin=data)
+        assert (status, said, out.split()[10:15]) == (0, "", [b"level", b"i64?", b"20,001", b"0", b"20,001"]), out
+    line = len(levels) + 1
+    sentence = f"/dev/stdin: line {line}: column 'level': {2**40} does not fit i32"
+    words = "convert", "/dev/stdin", "--column=level", "--type=i32", "--to=pipe.hv"
+    program.refuses(1, sentence, *words, stdin=data)
+    no_room = {"preexec_fn": lambda: resource.setrlimit(resource.RLIMIT_FSIZE, (0, 0)), "restore_signals": False}
+    program.refuses(1, "/dev/stdin: a temporary file: File too large", "report", "/dev/stdin", stdin=data, **no_room)
+
+
 # ---- Messages, and damaged ones
 
 
@@ -329,6 +348,7 @@ def main() -> None:
         program = Program(chosen.program, Path(folder))
         check_refusals(program)
         check_stored_tables(program)
+        check_pipes(program)
         for number in range(chosen.files):
             check_random_file(random.Random(f"{chosen.seed} {number}"), program, model)
         said = f"{chosen.files} random files"
