@@ -59,9 +59,10 @@ public:
     template <class T> static Column of(std::initializer_list<T> items, const std::vector<bool> &valid) {
         return of(items.begin(), items.size(), &valid);
     }
-    // Booleans or texts; std::optional of these or of integers, null where there is none.
+    // Booleans or texts; std::optional of these or of integers, null where there is none; integers of any other range.
     template <class Items, class T = detail::Row<Items>,
-              class = std::enable_if_t<detail::is_row<T> && !detail::is_number<T>>, class = void>
+              class = std::enable_if_t<detail::is_row<T> && !(detail::is_number<T> && detail::has_data<Items>)>,
+              class = void>
     static Column of(const Items &rows) {
         return of_rows(rows);
     }

@@ -290,6 +290,10 @@ template <class Call, class Words> void ask(Call call, Words words) {
 template <class Items>
 using Item = std::remove_cv_t<std::remove_pointer_t<decltype(std::data(std::declval<const Items &>()))>>;
 template <class T> inline constexpr bool is_text = std::is_convertible_v<const T &, std::string_view>;
+// Do the items lie one after the other, as those of a vector, and not of a std::deque?
+template <class Items, class = void> inline constexpr bool has_data = false;
+template <class Items>
+inline constexpr bool has_data<Items, std::void_t<decltype(std::data(std::declval<const Items &>()))>> = true;
 
 #ifdef __cpp_lib_span
 template <class T> inline constexpr bool is_span = false;
@@ -344,6 +348,7 @@ public:
     using pointer = const value_type *;
     using reference = value_type;
 
+    Walk() = default; // which walks nothing, and is assigned to, as std::ranges asks for
     Walk(const Source *walked, size_t first) : source(walked), position(first) {}
     value_type operator*() const { return source->item(position); }
     Walk &operator++() {
@@ -355,8 +360,8 @@ public:
     friend bool operator!=(const Walk &left, const Walk &right) { return !(left == right); }
 
 private:
-    const Source *source;
-    size_t position;
+    const Source *source = nullptr;
+    size_t position = 0;
 };
 
 } // namespace detail

@@ -1,11 +1,18 @@
-// Columns in parts, and, where C++20 is, columns made of spans and read into spans. Rows are compared with those that
-// the columns were made of, and parts with a loop.
+// Columns in parts, columns made of ranges of every sort, and, where C++20 is, columns as ranges, made of spans and read
+// into spans. Rows are compared with those that the columns were made of, and parts with a loop.
 #include "hivevigil.hpp"
 #include <array>
 #include <cstdlib>
+#include <deque>
 #include <iostream>
+#include <list>
 #include <random>
+#include <set>
 #include <thread>
+#if __cplusplus >= 202002L && !(defined(__clang__) && __clang_major__ < 16) // whose views libstdc++ does not serve
+#include <ranges>
+#define WITH_VIEWS
+#endif
 
 using hv::Column;
 using hv::SplitBy;
@@ -95,6 +102,40 @@ static void check_threads() {
     CHECK(sums[0] + sums[1] + sums[2] + sums[3] == due);
 }
 
+// Rows that do not lie one after the other.
+static void check_other_ranges() {
+    const std::deque<int64_t> numbers = {4, 4, -7};
+    const std::list<uint8_t> small = {9, 255};
+    CHECK(Column::of(numbers).numbers<int64_t>() == std::vector<int64_t>({4, 4, -7}));
+    CHECK(Column::of(numbers).kind().nullable == 0);
+    CHECK(Column::of(small).numbers<uint8_t>() == std::vector<uint8_t>({9, 255}));
+    CHECK(Column::of(std::set<int>{3, 1, 2}).numbers<int>() == std::vector<int>({1, 2, 3}));
+    CHECK(Column::of(std::deque<int>()).empty());
+    CHECK(Column::of(std::deque<bool>{true, false}).truths() == std::vector<bool>({true, false}));
+    CHECK(Column::of(std::list<std::string>{"Oslo", ""}).get<std::string>(0) == "Oslo");
+    CHECK(Column::of(std::deque<Row>{4, std::nullopt}).optionals<int64_t>() == std::vector<Row>({4, std::nullopt}));
+}
+
+#ifdef WITH_VIEWS
+// Columns and their runs, by the algorithms and the views of C++20.
+static void check_ranges() {
+    static_assert(std::ranges::input_range<const Column> && std::ranges::input_range<const hv::Runs>);
+    const std::vector<int64_t> rows = {4, 4, 4, 7, 7, 9};
+    const Column column = Column::of(rows), runs = column.encode();
+    const auto number = [](const hv::Value &value) { return std::get<int64_t>(value); };
+    for (const Column *each : {&column, &runs}) {
+        CHECK(std::ranges::equal(*each | std::views::transform(number), rows));
+        CHECK(std::ranges::count(*each, hv::Value(int64_t{7})) == 2);
+        CHECK(std::ranges::distance(*each | std::views::take_while([&](auto row) { return number(row) < 9; })) == 5);
+    }
+    std::vector<size_t> stops;
+    for (const hv::Run &run : runs.runs() | std::views::drop(1)) stops.push_back(run.stop);
+    CHECK(stops == std::vector<size_t>({5, 6}));
+    const auto doubled = std::views::transform(rows, [](int64_t row) { return 2 * row; });
+    CHECK(Column::of(doubled).numbers<int64_t>() == std::vector<int64_t>({8, 8, 8, 14, 14, 18}));
+}
+#endif
+
 #ifdef __cpp_lib_span
 static void check_making() {
     const std::array<int16_t, 4> numbers = {4, 4, 7, 9};
@@ -169,12 +210,16 @@ static void check_typed_messages() {
 int main() {
     check_split();
     check_threads();
+    check_other_ranges();
+#ifdef WITH_VIEWS
+    check_ranges();
+#endif
 #ifdef __cpp_lib_span
     check_making();
     check_reading();
     check_messages();
     check_typed_messages();
-    std::cout << "parts and spans hold\n";
+    std::cout << "parts, ranges and spans hold\n";
 #else
     std::cout << "parts hold; this is a language without spans\n";
 #endif
