@@ -265,6 +265,7 @@ static std::string sum_of_floats(const Column &column, int width) {
 std::string sum_of(const Column &column, const RowType &type) {
     if (type.is_float()) return sum_of_floats(column, type.logical->width());
     if (type.logical && type.logical->sort != Sort::duration) throw Failure(to_string(type) + " has no sum");
+    if (type.kind.number == HV_DECIMAL) return to_string(column.decimal_sum().total);
     const hv::Sum sum = column.sum();
     if (type.logical) return text_of_count(std::get<int64_t>(sum.total), *type.logical);
     return std::visit([](auto total) { return std::to_string(total); }, sum.total);

@@ -52,8 +52,8 @@ std::string csv_field(const hv::Value &value, const RowType &type);
 hv::Column compare_with_text(const hv::Column &column, const RowType &type, hv::Operator by, const std::string &text);
 // The least or the greatest row that is not null, of floats that is a number; null where there is none.
 hv::Value extreme_of(const hv::Column &column, const RowType &type, bool is_greatest);
-// The sum of the rows that are not null: of floats exact, and rounded once to a double. Throws a Failure where such
-// rows have no sum.
+// The sum of the rows that are not null: of decimals exact, of floats too, and rounded once to a double. Throws a
+// Failure where such rows have no sum.
 std::string sum_of(const hv::Column &column, const RowType &type);
 
 #endif

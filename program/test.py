@@ -148,6 +148,9 @@ def check_sum(program: Program, valid: list, kind: str, file: str, where: list[s
     if is_logical(kind) and (due := logical_model.total(valid, kind)) is not None:
         assert program.answers("query", file, "sum", *where) == f"{due}\n", (valid, kind)
         return
+    if kind.startswith("decimal"):
+        check_decimal_sum(program, valid, kind, file, where)
+        return
     sums = list(itertools.accumulate(valid, initial=0)) if kind[0] == "i" else []
     overflow = next((True for total in sums if not -(2**63) <= total < 2**63), False)
     if kind[0] != "i":
@@ -157,6 +160,18 @@ def check_sum(program: Program, valid: list, kind: str, file: str, where: list[s
         program.refuses(1, sentence, "query", file, "sum", *where)
     else:
         assert program.answers("query", file, "sum", *where) == f"{sum(valid)}\n"
+
+
+def check_decimal_sum(program: Program, valid: list, kind: str, file: str, where: list[str]) -> None:
+    with localcontext() as context:
+        context.prec = 99
+        sums = list(itertools.accumulate(valid, initial=Decimal(0)))
+        most = 10 ** (38 - int(kind.partition(", ")[2].rstrip(")?")))
+        if any(abs(total) >= most for total in sums):
+            sentence = rf"{re.escape(file)}: decimal overflow: with row \d+ the sum leaves 38 digits"
+            program.refuses(1, sentence, "query", file, "sum", *where)
+        else:
+            assert program.answers("query", file, "sum", *where) == f"{shown(sums[-1], kind)}\n", (valid, kind)
 
 
 def check_condition(chance: random.Random, program: Program, rows: list, kind: str) -> None:
@@ -392,6 +407,10 @@ def check_files(program: Program) -> None:
     assert program.answers("query", "typed.hv", "sum") == "2\n"
     status, out, _ = program.run("convert", "typed.csv", "--column", "a", "--to", "/dev/stdout")
     assert (status, out) == (0, saved.read_bytes())
+    file.write_text("a\n" + "9" * 38 + "\n-1\n" + "9" * 38 + "\n")
+    program.answers("convert", "typed.csv", "--column", "a", "--to", "typed.hv")
+    program.refuses(1, "typed.hv: decimal overflow: with row 2 the sum leaves 38 digits", "query", "typed.hv", "sum")
+    assert program.answers("query", "typed.hv", "sum", "--where", "> 0", "--where", "< 0") == "0\n"
     # 2^60 rows "ab" in 22 bytes, as docs/BYTES.md has them
     saved.write_bytes(bytes.fromhex("0801100b1803208080808080808080102801 3a026162"))
     rows = 2**60
