@@ -48,6 +48,12 @@ enum Detail {
         what: What,
         kind: Kind,
     },
+    /// Says that a row is not a float, or an integer, of the type of this name.
+    Inexact {
+        row: usize,
+        what: What,
+        to: &'static str,
+    },
     /// A row of another sort than is asked for.
     Sort {
         row: Option<usize>,
@@ -77,8 +83,9 @@ enum Detail {
 }
 
 #[derive(Clone, Copy)]
-enum What {
+pub(crate) enum What {
     Number(Decimal),
+    Float(f64),
     Sort(&'static str),
 }
 
@@ -212,6 +219,11 @@ impl Error {
             what,
             kind,
         })
+    }
+
+    /// Names the row that is not one of the type of this name.
+    pub(crate) fn inexact(self, row: usize, what: What, to: &'static str) -> Error {
+        self.with(Detail::Inexact { row, what, to })
     }
 
     /// Refuses a value of another sort than is asked for.
@@ -365,6 +377,10 @@ impl fmt::Display for What {
     fn fmt(&self, formatter: &mut fmt::Formatter<'_>) -> fmt::Result {
         match self {
             What::Number(number) => number.fmt(formatter),
+            What::Float(number) if number.is_nan() && number.to_bits() << 13 != 0 => {
+                formatter.write_str("a NaN with a payload")
+            }
+            What::Float(number) => write!(formatter, "{number:?}"),
             What::Sort(sort) => formatter.write_str(sort),
         }
     }
@@ -389,6 +405,9 @@ impl fmt::Display for Error {
                 Some(row) => write!(formatter, "row {row} is {what}, which does not fit {kind}"),
                 None => write!(formatter, "{what} does not fit {kind}"),
             },
+            Detail::Inexact { row, what, to } => {
+                write!(formatter, "row {row} is {what}, which does not fit {to}")
+            }
             Detail::Sort { row, found, asked } => match row {
                 Some(row) => write!(formatter, "row {row} is {found}, not {asked}"),
                 None => write!(formatter, "{found} is not {asked}"),

@@ -1,5 +1,6 @@
 //! Columns of floats, stored by their keys.
 use crate::column::turn_of;
+use crate::error::What;
 use crate::{ask, raw, Column, Error, ErrorKind, Kind, Native, Operator};
 use std::marker::PhantomData;
 
@@ -18,6 +19,8 @@ mod sealed {
         fn bits(self) -> u64;
         /// Returns the float with these bits.
         fn of(bits: u64) -> Self;
+        /// Returns the same number in 64 bits.
+        fn wide(self) -> f64;
         /// Returns the place in the total order, counted from 0.0.
         fn key(self) -> i64;
         /// Makes the column of the bits of rows.
@@ -38,6 +41,9 @@ macro_rules! float {
             }
             fn of(bits: u64) -> $type {
                 <$type>::from_bits(bits as $bits)
+            }
+            fn wide(self) -> f64 {
+                f64::from(self)
             }
             fn key(self) -> i64 {
                 let magnitude = i64::from(self.abs().to_bits() as $key);
@@ -123,7 +129,11 @@ impl<T: Float> Floats<T> {
                 keys,
                 float: PhantomData,
             }),
-            false => Err(Error::of(ErrorKind::TypeMismatch)),
+            false => {
+                let words = "rows are not keys of these floats, which are";
+                let (kind, other) = (keys.kind().not_nullable(), ErrorKind::TypeMismatch);
+                Err(Error::of(other).about(other, kind, words, Some(T::KEYS)))
+            }
         }
     }
 
@@ -277,9 +287,27 @@ impl<T: Float> Floats<T> {
 
     fn cast_by<U: Float>(&self, is_rounded: u8) -> Result<Floats<U>, Error> {
         let to = U::KEYS.number;
-        Floats::of_keys(self.keys.part(|keys, out, fields| unsafe {
-            raw::hv_float_cast(keys, to, is_rounded, out, fields)
-        })?)
+        let cast = |keys: &Column| {
+            keys.part(|keys, out, fields| unsafe {
+                raw::hv_float_cast(keys, to, is_rounded, out, fields)
+            })
+        };
+        Floats::of_keys(self.converted(format_of(U::KEYS), cast)?)
+    }
+
+    /// Converts the keys; of a refusal the sentence says which row is the first that is not one of the type.
+    fn converted(
+        &self,
+        to: &'static str,
+        convert: impl Fn(&Column) -> Result<Column, Error>,
+    ) -> Result<Column, Error> {
+        convert(&self.keys).map_err(|error| {
+            let row = first_refused(&self.keys, error, convert);
+            let found = row.and_then(|row| Some((row, self.at(row).ok()??)));
+            found.map_or(error, |(row, float)| {
+                error.inexact(row, What::Float(float.wide()), to)
+            })
+        })
     }
 
     /// Makes the floats that the integers of a column are, in as few runs as possible; refused as `TypeMismatch` unless
@@ -303,16 +331,27 @@ impl<T: Float> Floats<T> {
     }
 
     fn of_numbers(integers: &Column, is_rounded: u8) -> Result<Floats<T>, Error> {
-        Floats::of_keys(integers.part(|integers, out, fields| unsafe {
-            raw::hv_float_of_integers(integers, T::KEYS.number, is_rounded, out, fields)
+        let convert = |integers: &Column| {
+            integers.part(|integers, out, fields| unsafe {
+                raw::hv_float_of_integers(integers, T::KEYS.number, is_rounded, out, fields)
+            })
+        };
+        Floats::of_keys(convert(integers).map_err(|error| {
+            let row = first_refused(integers, error, convert);
+            let found = row.and_then(|row| Some((row, integers.at(row).ok()?.number()?)));
+            found.map_or(error, |(row, number)| {
+                error.inexact(row, What::Number(number), format_of(T::KEYS))
+            })
         })?)
     }
 
     /// Returns the integers that the floats are, in as few runs as possible; refused as `CastOutOfRange` where a float is
     /// not an integer of the type.
     pub fn to_integers<N: Native>(&self) -> Result<Column, Error> {
-        self.keys.part(|keys, out, fields| unsafe {
-            raw::hv_float_to_integers(keys, N::KIND.number, out, fields)
+        self.converted(N::KIND.name(), |keys| {
+            keys.part(|keys, out, fields| unsafe {
+                raw::hv_float_to_integers(keys, N::KIND.number, out, fields)
+            })
         })
     }
 
@@ -321,4 +360,32 @@ impl<T: Float> Floats<T> {
             bits.part(|bits, out, fields| unsafe { raw::hv_float_encode(bits, 0, out, fields) })?,
         )
     }
+}
+
+/// Names the format of the floats that have keys of a type.
+fn format_of(keys: Kind) -> &'static str {
+    match keys == f32::KEYS {
+        true => "float32",
+        false => "float64",
+    }
+}
+
+/// Returns the first row with which a conversion is refused as `CastOutOfRange`; `None` for another refusal.
+fn first_refused(
+    column: &Column,
+    error: Error,
+    convert: impl Fn(&Column) -> Result<Column, Error>,
+) -> Option<usize> {
+    if error.kind() != Some(ErrorKind::CastOutOfRange) {
+        return None;
+    }
+    let (mut fits, mut refused) = (0, column.len()); // the rows before the first of both are converted
+    while fits + 1 < refused {
+        let middle = fits + (refused - fits) / 2;
+        match convert(&column.slice(fits..middle).ok()?) {
+            Ok(_) => fits = middle,
+            Err(_) => refused = middle,
+        }
+    }
+    Some(fits)
 }

@@ -30,7 +30,7 @@ macro_rules! kinds {
             /// The types whose number is enough to name them.
             pub const PLAIN: &'static [Kind] = &[$(Kind::$name,)*];
 
-            fn name(self) -> &'static str {
+            pub(crate) fn name(self) -> &'static str {
                 match self.number {
                     $($number => $text,)*
                     DECIMAL => "decimal",

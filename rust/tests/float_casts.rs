@@ -162,3 +162,53 @@ fn floats_that_are_no_integers() {
         .unwrap();
     assert_eq!(zero.decode().unwrap().numbers::<u8>().unwrap(), [0, 255]);
 }
+
+/// Asks for the row and its value in each sentence, also after rows that fit and in long runs.
+#[test]
+fn refusals_name_the_first_row() {
+    let sentence = |error: Option<hivevigil::Error>| error.unwrap().to_string();
+    let mut rows = vec![Some(1.5f64); 1000];
+    rows[10] = None;
+    rows[700..].fill(Some(0.1));
+    rows[900] = Some(1e300);
+    let floats = Floats::of_options(&rows).unwrap();
+    assert_eq!(
+        sentence(floats.cast::<f32>().err()),
+        "row 700 is 0.1, which does not fit float32"
+    );
+    assert_eq!(
+        sentence(floats.to_integers::<u8>().err()),
+        "row 0 is 1.5, which does not fit u8"
+    );
+    let large = Floats::of(&[-0.0f32, 255.0, -1.0, 0.5]).unwrap();
+    assert_eq!(
+        sentence(large.to_integers::<u8>().err()),
+        "row 2 is -1.0, which does not fit u8"
+    );
+    let nan = Floats::of(&[f64::NAN, f64::from_bits(0x7ff8_0000_0000_0001)]).unwrap();
+    assert_eq!(
+        sentence(nan.cast::<f32>().err()),
+        "row 1 is a NaN with a payload, which does not fit float32"
+    );
+    assert_eq!(
+        sentence(nan.to_integers::<u8>().err()),
+        "row 0 is NaN, which does not fit u8"
+    );
+    let integers = Column::try_from(&[Some(1i64 << 24), None, Some((1 << 24) + 1)]).unwrap();
+    assert_eq!(
+        sentence(Floats::<f32>::of_integers(&integers).err()),
+        "row 2 is 16777217, which does not fit float32"
+    );
+    let wide = Column::try_from([u64::MAX]).unwrap();
+    assert_eq!(
+        sentence(Floats::<f64>::of_integers(&wide).err()),
+        "row 0 is 18446744073709551615, which does not fit float64"
+    );
+}
+
+#[test]
+fn keys_of_another_width_are_refused_by_both_types() {
+    let refused = Floats::<f32>::of_keys(Column::try_from([Some(4i64), None]).unwrap());
+    let said = "i64 rows are not keys of these floats, which are i32";
+    assert_eq!(refused.err().unwrap().to_string(), said);
+}
