@@ -241,6 +241,22 @@ fn what_a_column_does_not_serve_is_refused_by_its_name() -> Result<(), Error> {
 }
 
 #[test]
+fn times_have_no_sum_and_durations_have() {
+    let table = readings().unwrap();
+    let times = table.with_logical_type("level", "tsu:UTC").unwrap();
+    let said =
+        "column \"level\": dates, times of day and timestamps have no sum, and durations have one";
+    let refused = times.group_by(["station"]).unwrap().sum("level");
+    assert_eq!(refused.unwrap_err().to_string(), said);
+    let gaps = table.with_logical_type("level", "tDs").unwrap();
+    let sums = gaps.group_by(["station"]).unwrap().sum("level").unwrap();
+    assert_eq!(
+        sums["level"].options::<i64>().unwrap(),
+        [Some(900), Some(40)]
+    );
+}
+
+#[test]
 fn no_keys_are_refused() -> Result<(), Error> {
     let (table, none) = (readings()?, &[] as &[&str]);
     assert!(matches!(table.sort(none), Err(TableError::NoKeys)));

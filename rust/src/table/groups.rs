@@ -140,6 +140,11 @@ impl Groups<'_> {
             Fold::Sum if is_float => return self.float_sums(column),
             Fold::Sum if column.kind().is_decimal() => self.decimal_sums(column)?,
             Fold::Sum if is_integer && is_summed(entry) => folded(column)?,
+            Fold::Sum if is_integer => {
+                let words =
+                    "dates, times of day and timestamps have no sum, and durations have one";
+                return Err(Error::said(ErrorKind::Unsupported, words));
+            }
             Fold::Sum => {
                 let unsupported = Error::of(ErrorKind::Unsupported);
                 let kind = column.kind().not_nullable();
