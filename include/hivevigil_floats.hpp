@@ -7,6 +7,9 @@
 #ifndef HIVEVIGIL_FLOATS_HPP
 #define HIVEVIGIL_FLOATS_HPP
 #include "hivevigil.hpp"
+#include <cmath>
+#include <cstdio>
+#include <cstdlib>
 #include <cstring>
 
 namespace hv {
@@ -28,6 +31,49 @@ struct FloatSum {
     double total;
     uint64_t rows;
 };
+
+namespace detail {
+
+// A float in the fewest digits that no other has.
+template <class T> std::string words_of_float(T number) {
+    uint64_t bits = 0;
+    std::memcpy(&bits, &number, sizeof number);
+    const int above_payload = sizeof number == sizeof bits ? 13 : 42; // the sign, the power and whether it is quiet
+    if (std::isnan(number)) return bits << above_payload ? "a NaN with a payload" : "NaN";
+    char text[32];
+    for (int digits = std::numeric_limits<T>::digits10; digits <= std::numeric_limits<T>::max_digits10; digits++) {
+        std::snprintf(text, sizeof text, "%.*g", digits, static_cast<double>(number));
+        if (static_cast<T>(std::strtod(text, nullptr)) == number) break;
+    }
+    return text;
+}
+
+// The first row with which a conversion is refused: those before it are converted.
+template <class Convert> size_t first_refused(const Column &column, Convert convert) {
+    size_t fits = 0, refused = column.size();
+    hv_error ignored{};
+    while (fits + 1 < refused) {
+        const size_t middle = fits + (refused - fits) / 2;
+        const Column some = column.slice(fits, middle);
+        Column made;
+        (convert(some.raw(), made.raw(), &ignored) ? refused : fits) = middle;
+    }
+    return fits;
+}
+
+// The column of another type. The sentence of a refusal names the first row that the type does not have.
+template <class Convert, class Shown>
+Column converted(const Column &column, const std::string &type, Convert convert, Shown shown) {
+    Column made;
+    hv_error fields{};
+    const int32_t answer = convert(column.raw(), made.raw(), &fields);
+    if (!answer) return made;
+    if (answer != HV_CAST_OUT_OF_RANGE) throw Error(answer, fields);
+    const size_t row = first_refused(column, convert);
+    throw Error(answer, fields, "row " + std::to_string(row) + " is " + shown(row) + ", which does not fit " + type);
+}
+
+} // namespace detail
 
 template <class T> class Floats {
     static_assert(std::is_same_v<T, float> || std::is_same_v<T, double>, "floats are of 32 or of 64 bits");
@@ -54,7 +100,10 @@ public:
     }
     // The floats that have these keys. Refused as HV_TYPE_MISMATCH unless the column has integers of T's width.
     explicit Floats(Column keys) : stored(std::move(keys)) {
-        if (stored.kind().number != detail::Native<Key>::kind.number) throw Error(HV_TYPE_MISMATCH, {});
+        if (stored.kind().number != detail::Native<Key>::kind.number)
+            throw Error(HV_TYPE_MISMATCH, {},
+                        to_string(detail::not_nullable(stored.kind())) +
+                            " rows are not keys of these floats, which are " + to_string(detail::Native<Key>::kind));
     }
 
     // ---- Read ----
@@ -149,9 +198,10 @@ public:
     static Floats of_rounded_integers(const Column &integers) { return of_numbers(integers, 1); }
     // The integers that the floats are; refused as HV_CAST_OUT_OF_RANGE where one is not an integer of the type.
     Column to_integers(hv_kind kind) const {
-        return Column::made([&](auto *out, auto *error) {
-            return hv_float_to_integers(&stored.handle, kind.number, out, error);
-        });
+        return detail::converted(
+            stored, to_string(detail::not_nullable(kind)),
+            [=](auto *keys, auto *out, auto *error) { return hv_float_to_integers(keys, kind.number, out, error); },
+            [this](size_t row) { return in_words(row); });
     }
 
 private:
@@ -189,15 +239,23 @@ private:
         return Column::made([&](auto *out, auto *error) { return hv_float_decode(&stored.handle, out, error); });
     }
     template <class U> static constexpr uint8_t keys_of = sizeof(U) == 4 ? HV_I32 : HV_I64;
+    template <class U> static constexpr const char *format_of = sizeof(U) == 4 ? "float32" : "float64";
+    std::string in_words(size_t row) const { return detail::words_of_float(at(row).value_or(T{})); }
     template <class U> Floats<U> cast_by(uint8_t is_rounded) const {
-        return Floats<U>(Column::made([&](auto *out, auto *error) {
-            return hv_float_cast(&stored.handle, keys_of<U>, is_rounded, out, error);
-        }));
+        return Floats<U>(detail::converted(
+            stored, format_of<U>,
+            [=](auto *keys, auto *out, auto *error) {
+                return hv_float_cast(keys, keys_of<U>, is_rounded, out, error);
+            },
+            [this](size_t row) { return in_words(row); }));
     }
     static Floats of_numbers(const Column &integers, uint8_t is_rounded) {
-        return Floats(Column::made([&](auto *out, auto *error) {
-            return hv_float_of_integers(&integers.handle, keys_of<T>, is_rounded, out, error);
-        }));
+        return Floats(detail::converted(
+            integers, format_of<T>,
+            [=](auto *from, auto *out, auto *error) {
+                return hv_float_of_integers(from, keys_of<T>, is_rounded, out, error);
+            },
+            [&](size_t row) { return to_string(integers.at(row)); }));
     }
 };
 

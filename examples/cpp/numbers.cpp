@@ -418,17 +418,22 @@ static void check_float_casts() {
         if (!rows[row]) continue;
         CHECK(*singles[row] == static_cast<float>(*rows[row]) && std::signbit(*singles[row]) == std::signbit(*rows[row]));
     }
-    check_refused(HV_CAST_OUT_OF_RANGE, "a row does not fit the type", [&] { (void)floats.cast<float>(); });
+    check_refused(HV_CAST_OUT_OF_RANGE, "row 2 is 0.1, which does not fit float32", [&] { (void)floats.cast<float>(); });
     const auto halves = hv::Floats<float>::of({1.5f, 1.5f, -0.0f}).cast<double>();
     CHECK(halves.at(1) == 1.5 && std::signbit(*halves.at(2)) && halves.keys().values().size() == 2);
     const Column integers = Column::of(std::vector<int64_t>{3, 3, -(int64_t{1} << 53), (int64_t{1} << 53) + 1});
     CHECK(hv::Floats<double>::of_rounded_integers(integers).at(3) == 9007199254740992.0);
-    check_refused(HV_CAST_OUT_OF_RANGE, "a row does not fit the type",
+    check_refused(HV_CAST_OUT_OF_RANGE, "row 3 is 9007199254740993, which does not fit float64",
                   [&] { (void)hv::Floats<double>::of_integers(integers); });
     const auto exact = hv::Floats<double>::of_integers(integers.slice(0, 3));
     CHECK(exact.at(2) == -9007199254740992.0);
     CHECK(exact.to_integers(hv::kinds::i64).numbers<int64_t>() == (std::vector<int64_t>{3, 3, -(int64_t{1} << 53)}));
-    check_refused(HV_CAST_OUT_OF_RANGE, "a row does not fit the type", [&] { (void)exact.to_integers(hv::kinds::u8); });
+    check_refused(HV_CAST_OUT_OF_RANGE, "row 2 is -9007199254740992, which does not fit u8",
+                  [&] { (void)exact.to_integers(hv::kinds::u8); });
+    check_refused(HV_CAST_OUT_OF_RANGE, "row 1 is NaN, which does not fit i8",
+                  [] { (void)hv::Floats<float>::of({7.0f, std::nanf("")}).to_integers(hv::nullable(hv::kinds::i8)); });
+    check_refused(HV_TYPE_MISMATCH, "i64 rows are not keys of these floats, which are i32",
+                  [] { (void)hv::Floats<float>(Column::of<int64_t>({4})); });
 }
 
 // The bits of a number, and of every NaN those of the quiet one with a plus and no payload.
