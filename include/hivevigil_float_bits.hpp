@@ -1,9 +1,9 @@
 // Floats of 16, 32 and 64 bits as doubles (which have the numbers of all three), as bits, and as keys, which are what
 // columns of floats store; and comparisons with a number that may lie between two floats. A part of
-// hivevigil_table.hpp, which includes it.
+// hivevigil.hpp, which includes it.
 #ifndef HIVEVIGIL_FLOAT_BITS_HPP
 #define HIVEVIGIL_FLOAT_BITS_HPP
-#include "hivevigil.hpp"
+#include "hivevigil_values.hpp"
 #include <cmath>
 
 namespace hv {

@@ -7,6 +7,7 @@
 #ifndef HIVEVIGIL_FLOATS_HPP
 #define HIVEVIGIL_FLOATS_HPP
 #include "hivevigil.hpp"
+#include "hivevigil_float_bits.hpp"
 #include <cmath>
 #include <cstdio>
 #include <cstdlib>
@@ -133,6 +134,13 @@ public:
         return Column::made([&](auto *out, auto *error) {
             return hv_float_compare(&stored.handle, static_cast<uint8_t>(by), bits_of(right),
                                     static_cast<uint8_t>(order), out, error);
+        });
+    }
+    // The same with an integer, exactly, also with one that no float is: none is equal to 2^53 + 1.
+    template <class N, class = std::enable_if_t<detail::is_number<N>>> Column compare(Operator by, N right) const {
+        const detail::FloatComparison asked = detail::float_comparison(by, detail::Wide{right}, 8 * int{sizeof(T)});
+        return Column::made([&](auto *out, auto *error) {
+            return hv_float_compare(&stored.handle, static_cast<uint8_t>(asked.by), asked.bits, 1, out, error);
         });
     }
     // The least and the greatest row that is not null, none where there is none: of numbers, unless the total order is

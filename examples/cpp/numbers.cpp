@@ -436,6 +436,23 @@ static void check_float_casts() {
                   [] { (void)hv::Floats<float>(Column::of<int64_t>({4})); });
 }
 
+// Floats next to an integer that lies between two of them, and to one that is one of them.
+static void check_float_comparisons() {
+    const double low = 9007199254740992.0; // 2^53, after which comes 2^53 + 2
+    const auto floats = hv::Floats<double>::of({low, low + 2, std::nan("")});
+    using Flags = std::vector<bool>;
+    const int64_t between = (int64_t{1} << 53) + 1;
+    CHECK(floats.compare(Operator::equal, between).truths() == Flags({false, false, false}));
+    CHECK(floats.compare(Operator::not_equal, between).truths() == Flags({true, true, true}));
+    CHECK(floats.compare(Operator::less, between).truths() == Flags({true, false, false}));
+    CHECK(floats.compare(Operator::greater_or_equal, between).truths() == Flags({false, true, false}));
+    CHECK(floats.compare(Operator::equal, between - 1).truths() == Flags({true, false, false}));
+    CHECK(floats.compare(Operator::less, UINT64_MAX).truths() == Flags({true, true, false}));
+    const auto singles = hv::Floats<float>::of({16777216.0f, -0.0f});
+    CHECK(singles.compare(Operator::greater_or_equal, 16777217).truths() == Flags({false, false}));
+    CHECK(singles.compare(Operator::equal, 0).truths() == Flags({false, true}));
+}
+
 // The bits of a number, and of every NaN those of the quiet one with a plus and no payload.
 template <class T> static uint64_t bits_of(T number) {
     if (number != number) number = std::numeric_limits<T>::quiet_NaN();
@@ -593,6 +610,7 @@ int main() {
     check_floats<double>();
     check_float_sums();
     check_float_casts();
+    check_float_comparisons();
     check_float_pairs<float>();
     check_float_pairs<double>();
     check_same();
