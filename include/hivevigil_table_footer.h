@@ -114,6 +114,16 @@ static inline int32_t hv_table_column_in(hv_table_span message, hv_column *out, 
     return answer == HV_BAD_METADATA ? hv_table_damaged(error) : answer;
 }
 
+/* Is a message that of a flat column of no row or two, which says of all its rows that they are valid? */
+static inline bool hv_table_is_of_bounds(hv_table_span message) {
+    enum { FORM = 3, ROWS = 4, VALIDITY = 5, FLAT = 1, NEVER_NULL = 1, NONE_NULL = 2 }; /* of docs/column.proto */
+    hv_table_fields fields = hv_table_fields_of(message);
+    uint64_t said[VALIDITY + 1] = {0};
+    for (unsigned field = 1; field <= VALIDITY; field++) said[field] = hv_table_number(&fields, field);
+    return !fields.is_damaged && said[FORM] == FLAT && (said[ROWS] == 0 || said[ROWS] == 2) &&
+           (said[VALIDITY] == NEVER_NULL || said[VALIDITY] == NONE_NULL);
+}
+
 /* What is said of all columns but lists. */
 static inline int32_t hv_table_read_known(hv_table_fields *fields, uint64_t version, hv_column_footer *out,
                                           hv_error *error) {
@@ -125,9 +135,8 @@ static inline int32_t hv_table_read_known(hv_table_fields *fields, uint64_t vers
     out->kept = (uint8_t)kept;
     const int32_t answer = hv_table_column_in(bounds, &out->bounds, error);
     if (answer) return answer;
-    const size_t rows = hv_length(&out->bounds);
-    const bool are_bounds = hv_form(&out->bounds) == HV_FORM_FLAT && hv_null_count(&out->bounds) == 0;
-    return are_bounds && (rows == 0 || rows == 2) ? HV_OK : hv_table_damaged(error);
+    const bool may_be_kept = kept == HV_TABLE_KEPT_ROWS || hv_kind_of(&out->bounds).number <= HV_I64;
+    return may_be_kept && hv_table_is_of_bounds(bounds) ? HV_OK : hv_table_damaged(error);
 }
 
 static inline int32_t hv_table_read_said(hv_table_span said, uint64_t version, hv_column_footer *out,

@@ -258,6 +258,46 @@ static void check_spellings(void) {
     CHECK(is_refused_table(bytes, times_size));
 }
 
+/* Is a file a table by its footer, of which no column is read? */
+static bool has_footer(const char *digits) {
+    static uint8_t bytes[128];
+    hv_table_footer footer = HV_TABLE_FOOTER_EMPTY;
+    const hv_stored_file file = hv_stored_bytes(bytes, bytes_of(digits, bytes));
+    const int32_t answer = hv_table_footer_of(&file, &footer, &error);
+    CHECK((!answer || answer == HV_BAD_METADATA) && footer.count == !answer);
+    CHECK(is_refused_table(bytes, file.size) == (answer != 0));
+    hv_table_footer_free(&footer);
+    return !answer;
+}
+
+/* Two rows in one run: bounds are flat rows of which all are valid, by the validity of the whole. */
+static void check_bounds(void) {
+#define SEVENS "0a0968697665766967696c 1001 1a0e 0801100118012002 28023a020707 "
+#define NULLS "0a0968697665766967696c 1001 1a0c 0801100118032002 28033a00 "
+#define TEXTS "1a0d 0801100b18032002 28013a0161 "
+#define TEXTS_BOUNDS "3212 0801100b18012002 2801620201016a026161 "
+    CHECK(has_footer(SEVENS "221f 0802 121b 0a016112 00180e 20002801 "
+                     "320e 0801100118012002 28023a020707 29 1f00000000000000"));
+    CHECK(!has_footer(SEVENS "2222 0802 121e 0a016112 00180e 20002801 "
+                      "3211 0801100118012002 28043201033a020707 29 2200000000000000"));
+    CHECK(!has_footer(SEVENS "221e 0802 121a 0a016112 00180e 20002801 "
+                      "320d 0801100118032002 28023a0107 29 1e00000000000000"));
+    CHECK(has_footer(NULLS "221d 0802 1219 0a016112 00180c 20022801 "
+                     "320c 0801100118012000 28023a00 29 1d00000000000000"));
+    CHECK(!has_footer(NULLS "221d 0802 1219 0a016112 00180c 20022801 "
+                      "320c 0801100118012000 28033a00 29 1d00000000000000"));
+    CHECK(!has_footer(NULLS "221f 0802 121b 0a016112 00180c 20022801 "
+                      "320e 0801100118012000 280432003a00 29 1f00000000000000"));
+    CHECK(has_footer("0a0968697665766967696c 1001 " TEXTS "2223 0802 121f 0a01611200180d 20002801 " TEXTS_BOUNDS
+                     "29 2300000000000000"));
+    CHECK(!has_footer("0a0968697665766967696c 1002 " TEXTS "2225 0802 1221 0a01611200180d 20002801 " TEXTS_BOUNDS
+                      "3801 29 2500000000000000")); /* as differences, which texts do not have */
+#undef SEVENS
+#undef NULLS
+#undef TEXTS
+#undef TEXTS_BOUNDS
+}
+
 /* Two columns of one name. */
 static void check_names_twice(void) {
     static uint8_t bytes[512];
@@ -693,6 +733,7 @@ int main(int count, char **given) {
     check_damaged(times, times_size, &refused_files, &tried);
     CHECK(with_zeros == (long)strlen("day" "tdD" "place" "at" "tss:UTC")); /* each letter once */
     check_spellings();
+    check_bounds();
     check_names_twice();
     check_differences();
     check_no_differences();

@@ -13,7 +13,7 @@ from . import _differences, _files, _float_columns, _floats
 from ._making import decimals_of, flat_of, validity_of, view_of
 from ._protobuf import Damaged, Fields, number_field, sized_field, sized_head
 from ._table_making import about, meant, refuse_twice
-from ._types import TYPES
+from ._types import TYPES, WHOLE_NUMBERS
 from ._values import Scalar
 from .column import Column
 from .errors import BadMetadata, NoName, in_words
@@ -229,14 +229,22 @@ def _entry(data: bytes, start: int, version: int) -> _Entry:
     name, logical_type, size = fields.text(1), fields.text(2), fields.number(3)
     if fields.is_at_end:
         return _Entry(ColumnFooter(name, logical_type or None, size), data, start)
-    nulls, runs, bounds = fields.number(4), fields.number(5), _column_of(fields.content(6))
+    nulls, runs, message = fields.number(4), fields.number(5), fields.content(6)
     form = fields.number(7) if version == 2 else 0
-    if not fields.is_at_end or bounds.form != "flat" or bounds._length not in (0, 2) or bounds.null_count:
+    bounds = _column_of(message)
+    if not fields.is_at_end or form >= len(_differences.FORMS) or not _is_of_bounds(message):
         raise Damaged
-    if form >= len(_differences.FORMS):
+    if form and TYPES[bounds._kind.number] not in WHOLE_NUMBERS:
         raise Damaged
     known = nulls, runs, meant(bounds, logical_type or None), _differences.FORMS[form] or None
     return _Entry(ColumnFooter(name, logical_type or None, size, *known), data, start, form)
+
+
+def _is_of_bounds(message: bytes) -> bool:
+    """Whether a message is that of a flat column of no row or two, which says of all its rows that they are valid."""
+    fields = Fields(message)
+    _, _, form, rows, validity = (fields.number(field) for field in range(1, 6))
+    return form == 1 and rows in (0, 2) and validity in (1, 2)  # as docs/column.proto numbers them
 
 
 def _column_of_entry(entry: _Entry, message: bytes) -> Column:

@@ -146,6 +146,45 @@ def test_each_byte_counts(tmp_path):
     assert refused > 2 * len(data)
 
 
+def sized(field, content):
+    return bytes([field * 8 + 2, len(content)]) + content
+
+
+def file_of(message, nulls, bounds, kept=None):
+    """The file of two rows in one run, by docs/BYTES.md: version 2 where it says how they are kept."""
+    said = sized(1, b"a") + sized(2, b"") + bytes([24, len(message), 32, nulls, 40, 1]) + sized(6, bounds)
+    footer = bytes([8, 2]) + sized(2, said + (b"" if kept is None else bytes([56, kept])))
+    head = sized(1, b"hivevigil") + bytes([16, 1 if kept is None else 2])
+    return head + sized(3, message) + sized(4, footer) + b"\x29" + len(footer).to_bytes(8, "little")
+
+
+SEVENS, NULLS, TEXTS = map(bytes.fromhex, (
+    "0801100118012002 28023a020707", "0801100118032002 28033a00", "0801100b18032002 28013a0161",
+))  # fmt: skip
+FOOTERS = [
+    # seven twice: all are valid, by its validity, by a bit for each, and as a constant
+    (True, SEVENS, 0, "0801100118012002 28023a020707"), (False, SEVENS, 0, "0801100118012002 28043201033a020707"),
+    (False, SEVENS, 0, "0801100118032002 28023a0107"),
+    # null twice: no row, of which none is null, all are null, and with bits of none
+    (True, NULLS, 2, "0801100118012000 28023a00"), (False, NULLS, 2, "0801100118012000 28033a00"),
+    (False, NULLS, 2, "0801100118012000 280432003a00"),
+    # a text twice, as it is, and as differences, which texts do not have
+    (True, TEXTS, 0, "0801100b18012002 2801620201016a026161"), (False, TEXTS, 0, "0801100b18012002 2801620201016a026161", 1),
+]  # fmt: skip
+
+
+@pytest.mark.parametrize("at", range(len(FOOTERS)))
+def test_footers_are_tested_where_no_column_is_read(tmp_path, at):
+    is_read, message, nulls, bounds, *kept = FOOTERS[at]
+    (tmp_path / "table").write_bytes(file_of(message, nulls, bytes.fromhex(bounds), *kept))
+    for call in (Table.footer, Table.load, lambda path: Table.load(path, [])):
+        if is_read:
+            assert call(tmp_path / "table").rows == 2
+        else:
+            with pytest.raises(errors.BadMetadata):
+                call(tmp_path / "table")
+
+
 def test_files_that_are_no_tables(tmp_path):
     KEPT["same"].save(tmp_path / "column")
     Column.of([1, 2], "i32").cast("date").save(tmp_path / "days")
