@@ -24,7 +24,7 @@ extern "C" {
  * integers as the differences of its rows where that is shorter, and version 2 where one is. 13 for a column of more
  * than 16 levels of runs. */
 HV_ANSWER hv_table_to_bytes(const hv_table *table, uint8_t differences, hv_buffer *out, hv_error *error);
-/* The table that was written so, each column in its form; 17, and 13 for a name or a logical type with a zero byte,
+/* The table that was written so, each column in its form; 17, else 13 for a name or a logical type with a zero byte,
  * which C's texts do not have. */
 HV_ANSWER hv_table_from_bytes(const uint8_t *bytes, size_t size, hv_table *out, hv_error *error);
 /* Writes the bytes to a file, which is replaced whole or not at all; 203. */
@@ -173,26 +173,29 @@ static inline int32_t hv_table_column_at(const hv_stored_file *file, const hv_ta
     return answer;
 }
 
-/* Adds a column of a file to a table of room; 13 for a text with a zero byte. */
+/* Has a name or a logical type a zero byte? */
+static inline bool hv_table_has_zero(const hv_column_footer *known) {
+    return strlen(known->name) != known->name_size || strlen(known->logical_type) != known->logical_type_size;
+}
+
+/* Adds a column of a file to a table of room. */
 static inline int32_t hv_table_add_stored(hv_table *made, const hv_stored_file *file, const hv_table_footer *footer,
                                           size_t place, hv_error *error) {
     const hv_column_footer *const known = &footer->columns[place];
     hv_column column = HV_EMPTY;
     int32_t answer = hv_table_column_at(file, footer, place, &column, error);
-    if (!answer &&
-        (strlen(known->name) != known->name_size || strlen(known->logical_type) != known->logical_type_size))
-        answer = hv_arrow_refuse(HV_UNSUPPORTED, 0, 0, error);
     if (!answer) answer = hv_table_add(made, known->name, known->logical_type, &column, error);
     hv_free(&column);
     return answer;
 }
 
-/* The columns of these names of a file that is open, or, where `names` is null, all. */
+/* The columns of these names of a file that is open, or, where `names` is null, all; 13 for a text with a zero byte. */
 static inline int32_t hv_table_of_file(const hv_stored_file *file, const char *const *names, size_t count,
                                        hv_table *out, hv_error *error) {
     hv_table_footer footer = HV_TABLE_FOOTER_EMPTY;
     hv_table made = HV_TABLE_EMPTY;
     size_t place = 0;
+    bool has_zero = false;
     int32_t answer = hv_table_footer_of(file, &footer, error);
     const size_t columns = names ? count : footer.count;
     if (!answer && names) answer = hv_table_check_names(names, count, error);
@@ -204,7 +207,9 @@ static inline int32_t hv_table_of_file(const hv_stored_file *file, const char *c
         place = i;
         if (names) answer = hv_table_find_footer(&footer, names[i], &place, error);
         if (!answer) answer = hv_table_add_stored(&made, file, &footer, place, error);
+        has_zero |= !answer && hv_table_has_zero(&footer.columns[place]);
     }
+    if (has_zero && !answer) answer = hv_arrow_refuse(HV_UNSUPPORTED, 0, 0, error);
     hv_table_footer_free(&footer);
     return hv_table_done(answer, &made, out);
 }

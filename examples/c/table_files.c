@@ -441,6 +441,9 @@ static void check_zero_byte(const char *path) {
     memcpy(bytes, days, days_size);
     bytes[13 + 43 + 16 + 2 + 2 + 2 + 3] = 0; /* the second letter of "day" */
     CHECK_REFUSED(hv_table_from_bytes(bytes, days_size, &kept, &error), HV_UNSUPPORTED, 0, 0, 0);
+    bytes[13 + 43 + 15] ^= 1; /* the last letter of the second column, which is damaged, so that this is not a table */
+    CHECK_REFUSED(hv_table_from_bytes(bytes, days_size, &kept, &error), HV_BAD_METADATA, 0, 0, 0);
+    bytes[13 + 43 + 15] ^= 1;
     CHECK(!hv_save_bytes(bytes, days_size, path, &error) && !hv_table_load_footer(path, &footer, &error));
     CHECK(footer.columns[0].name_size == 3 && !memcmp(footer.columns[0].name, "d\0y", 4));
     CHECK(!hv_table_load_columns(path, place, 1, &kept, &error) && kept.rows == 3);
