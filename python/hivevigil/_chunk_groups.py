@@ -154,7 +154,7 @@ class Groups:
     def _cell(self, name: str, answer: Any, key: Column) -> Column:
         """An answer as a row of the column that has it."""
         column = self.none._column(name)
-        logical, scale = column.logical_type, column._kind.scale
+        logical, scale = column._logical, column._kind.scale
         if isinstance(answer, float):
             return Column.of([answer], f"{logical}?")
         if isinstance(answer, Fraction):

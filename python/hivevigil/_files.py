@@ -40,10 +40,10 @@ def of_bytes(kind: type[Column], data: bytes) -> Column:
     """The column of a message, also of one after a line that names its type; no message begins with such a line."""
     format, message = _without_line(data)
     if format is not None:
-        return _meaning(kind._of_message(message), format)
+        return _after_line(kind._of_message(message), format)
     column, at, size = kind._owning(Handle()), ctypes.c_size_t(), ctypes.c_size_t()
     ask(calls.hv_read_typed, data or b"\0", len(data), column._handle, at, size)
-    return _meaning(column, data[at.value : at.value + size.value].decode()) if size.value else column
+    return meant(column, data[at.value : at.value + size.value].decode())
 
 
 def is_message(data: bytes) -> bool:
@@ -51,15 +51,11 @@ def is_message(data: bytes) -> bool:
     format, message = _without_line(data)
     call, truth = calls.hv_is_typed_message if format is None else calls.hv_is_message, ctypes.c_uint8()
     ask(call, message or b"\0", len(message), truth)
-    if not truth.value:
-        return False
+    if not truth.value or format is None:
+        return bool(truth.value)
     fields = Fields(message)
-    if format is None and message.startswith(_TYPED):
-        fields.number(1)
-        format = fields.text(22)
-        fields.size(23)
     fields.number(1)
-    return format is None or _logical_of(format, TYPES[fields.number(2) - 1]) is not None  # messages count from 1
+    return _logical_of(format, TYPES[fields.number(2) - 1]) is not None  # messages count from 1
 
 
 def is_begun(data: bytes) -> bool:
@@ -75,8 +71,16 @@ def _without_line(data: bytes) -> tuple[Optional[str], bytes]:
     return line[len(_LINE) :].decode(errors="replace"), data[len(line) + 1 :]
 
 
-def _meaning(column: Column, format: str) -> Column:
-    """The column, which was read just now, with the logical type that a format names."""
+def meant(column: Column, format: str) -> Column:
+    """The column, which was made just now, whose rows mean what a format of Arrow says; one that is empty says nothing,
+    and one that is not of their type is kept."""
+    logical = _logical_of(format, column.type.rstrip("?")) if format else None
+    return column._meaning(logical or (LogicalType("other", format) if format else None))
+
+
+def _after_line(column: Column, format: str) -> Column:
+    """The column, which was read just now, with the logical type that the line before it names, which is one of its
+    rows, since versions that wrote lines wrote no other."""
     storage = column.type.rstrip("?")
     logical = _logical_of(format, storage)
     if logical is None:

@@ -127,7 +127,7 @@ def shifted(column: Column, rows: Any) -> Column:
 
 def is_same(column: Column, other: Column) -> bool:
     """Whether type and rows are the same, whatever the forms, by the runs of both."""
-    if (column.type, column._logical, column._length) != (other.type, other._logical, other._length):
+    if any(getattr(column, name) != getattr(other, name) for name in ("type", "logical_type", "_length")):
         return False
     if _lists.is_list(column):
         return column.to_list() == other.to_list()

@@ -12,7 +12,7 @@ from typing import Any, BinaryIO, Optional
 from . import _differences, _files, _float_columns, _floats
 from ._making import decimals_of, flat_of, validity_of, view_of
 from ._protobuf import Damaged, Fields, number_field, sized_field, sized_head
-from ._table_making import about, meant, refuse_twice
+from ._table_making import about, refuse_twice
 from ._types import TYPES, WHOLE_NUMBERS
 from ._values import Scalar
 from .column import Column
@@ -236,7 +236,7 @@ def _entry(data: bytes, start: int, version: int) -> _Entry:
         raise Damaged
     if form and TYPES[bounds._kind.number] not in WHOLE_NUMBERS:
         raise Damaged
-    known = nulls, runs, meant(bounds, logical_type or None), _differences.FORMS[form] or None
+    known = nulls, runs, _files.meant(bounds, logical_type), _differences.FORMS[form] or None
     return _Entry(ColumnFooter(name, logical_type or None, size, *known), data, start, form)
 
 

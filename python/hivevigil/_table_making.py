@@ -6,12 +6,12 @@ import os
 from collections.abc import Iterable, Iterator, Mapping
 from typing import TYPE_CHECKING, Any, Optional
 
+from . import _files
 from ._values import checked_text, size_of
 from .builder import Builder
 from .column import Column
 from .csv_files import CsvFile
 from .errors import HivevigilError, TypeMismatch, in_words
-from .logical import LogicalType
 
 if TYPE_CHECKING:
     from .table import Table
@@ -94,17 +94,10 @@ def meanings(columns: Mapping[str, Column], formats: Mapping[str, str]) -> dict[
     for name, column in columns.items():
         if name in formats:
             found[name] = formats[name]
-            meant(column, formats[name])
+            _files.meant(column, formats[name])
         elif column.logical_type is not None:
             found[name] = column.logical_type.format
     return found
-
-
-def meant(column: Column, format: Optional[str]) -> Column:
-    """The column, whose rows mean what a format of Arrow says, where it is one of their type."""
-    logical = None if format is None else LogicalType.of_format(format)
-    is_stored_so = logical is not None and logical.storage == column.type.rstrip("?")
-    return column._meaning(logical if is_stored_so else None)
 
 
 def check_alike(table: Table, other: Any) -> None:

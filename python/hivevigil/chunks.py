@@ -128,7 +128,7 @@ class Partial:
             raise TypeError(f"Partial.of takes a Column, not {in_words(column)}")
         if column.type.startswith("list"):
             raise Unsupported().about("Partial.of", column)
-        logical = column.logical_type
+        logical = column._logical
         name = column.type if logical is None else f"{logical}{'?' * column.nullable}"
         if not column._length:
             return cls.empty(name)

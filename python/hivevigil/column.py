@@ -27,10 +27,11 @@ class Column(_comparing.Comparisons, _pairs.Pairs):
     as NoColumn. Threads may use one column at once: calls over many rows release the interpreter's lock.
     """
 
-    __slots__ = ("_handle", "_as_parameter_", "_logical", "__weakref__")
+    __slots__ = ("_handle", "_as_parameter_", "_logical", "_other", "__weakref__")
     _handle: Handle
     _as_parameter_: Any  # what ctypes passes for a column, which it keeps alive during the call
-    _logical: Optional[LogicalType]
+    _logical: Optional[LogicalType]  # what the rows are read as
+    _other: Optional[LogicalType]  # of a sort that only bytes keep
 
     def __init__(self, *_: object, **__: object) -> None:
         raise TypeError("Column.of(rows) makes a column; so do from_buffer, from_runs, from_arrow and from_record")
@@ -40,8 +41,8 @@ class Column(_comparing.Comparisons, _pairs.Pairs):
     @classmethod
     def _owning(cls, handle: Handle, logical: Optional[LogicalType] = None) -> Column:
         column = cls.__new__(cls)
-        column._handle, column._as_parameter_, column._logical = handle, ctypes.pointer(handle), logical
-        return column
+        column._handle, column._as_parameter_ = handle, ctypes.pointer(handle)
+        return column._meaning(logical)
 
     @classmethod
     def _made(cls, call: Any, *arguments: Any) -> Column:
@@ -51,11 +52,12 @@ class Column(_comparing.Comparisons, _pairs.Pairs):
 
     def _kept(self, call: Any, *arguments: Any) -> Column:
         """What a call makes whose rows mean what those of this column do."""
-        return self._made(call, *arguments)._meaning(self._logical)
+        return self._made(call, *arguments)._meaning(self._logical or self._other)
 
     def _meaning(self, logical: Optional[LogicalType]) -> Column:
         """This column, which was made just now, of integers that mean something."""
-        self._logical = logical
+        is_other = logical is not None and logical.sort == "other"
+        self._logical, self._other = (None, logical) if is_other else (logical, None)
         return self
 
     def _there(self) -> Column:
@@ -412,8 +414,9 @@ class Column(_comparing.Comparisons, _pairs.Pairs):
     @property
     def logical_type(self) -> Optional[LogicalType]:
         """What the integers mean, as 'timestamp[us, UTC]' by str: dates, times, timestamps, durations. None where
-        they mean themselves, and for columns of other types."""
-        return self._there()._logical
+        they mean themselves, and for columns of other types. One of the sort 'other' came with the bytes, and is kept:
+        the rows are those that are stored."""
+        return self._there()._logical or self._other
 
     def storage(self) -> Column:
         """The same column of the integers that its rows are stored as."""
@@ -657,7 +660,7 @@ class Column(_comparing.Comparisons, _pairs.Pairs):
         """The column as bytes, in the form that it has, to keep or to send: a message of the Protocol Buffers encoding,
         which keeps the logical type. Texts and bytes are read into one buffer. Only more than 16 levels of runs are
         refused, as `Unsupported`."""
-        return self._message(self._logical)
+        return self._message(self.logical_type)
 
     def _message(self, logical: Optional[LogicalType] = None) -> bytes:
         """The message of the column, of this logical type or of none."""

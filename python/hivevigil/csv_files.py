@@ -178,7 +178,7 @@ def _fields(column: Column) -> Iterator[str]:
 
 def _words_of(column: Column) -> Callable[[Any], str]:
     """How a row of a column is written, null as nothing."""
-    name, logical = column.type.rstrip("?").partition("(")[0], column.logical_type
+    name, logical = column.type.rstrip("?").partition("(")[0], column._logical
     writers: dict[str, Callable[[Any], str]] = {
         "utf8": _text_field, "binary": bytes.hex, "bool": lambda row: str(row).lower(), "decimal": lambda row: f"{row:f}",
     }

@@ -25,10 +25,10 @@ def concat(columns: Iterable[Column]) -> Column:
     given = [_column(column) for column in listed(columns, "columns")]
     if not given:
         raise ValueError("concat takes at least one column, whose type is that of the answer")
-    logical = given[0]._logical
+    logical = given[0].logical_type
     for column in given:
-        if column._logical != logical:
-            names = f"{logical or given[0].type.rstrip('?')} and {column._logical or column.type.rstrip('?')}"
+        if column.logical_type != logical:
+            names = f"{logical or given[0].type.rstrip('?')} and {column.logical_type or column.type.rstrip('?')}"
             raise TypeMismatch().saying(f"concat: {names} are two types; columns of one type are joined")
     if all(map(_decimals.is_decimal, given)):
         given = _decimals.at_one_scale(given, "concat")

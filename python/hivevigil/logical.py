@@ -44,15 +44,18 @@ _CLASSES: dict[Any, str] = {
 class LogicalType:
     """What the integers of a column mean: `sort` is 'date', 'time', 'timestamp' or 'duration', `unit` what they
     count ('D' for the days of dates, 's', 'ms', 'us', 'ns'), `zone` that of timestamps, empty where there is none. With
-    the sort 'float' they are keys of floats, and `unit` is the number of their bits: '16', '32' or '64'."""
+    the sort 'float' they are keys of floats, and `unit` is the number of their bits: '16', '32' or '64'. A type that is
+    kept with bytes, and that rows are not read as, has the sort 'other' and its format as `unit`."""
 
     sort: str
     unit: str
     zone: str = ""
 
     def __post_init__(self) -> None:
-        units = {"date": ("D", "ms"), "float": tuple(_FLOATS)}.get(self.sort, tuple(_LETTERS))
-        if self.sort not in (*_SORTS, "float") or self.unit not in units:
+        units = {"date": ("D", "ms"), "float": tuple(_FLOATS), "other": (self.unit or None,)}.get(
+            self.sort, tuple(_LETTERS)
+        )
+        if self.sort not in (*_SORTS, "float", "other") or self.unit not in units:
             raise ValueError(f"{self.sort}[{self.unit}] is not a logical type: see hivevigil.logical")
         if self.zone and self.sort != "timestamp" or "\0" in self.zone:
             raise ValueError(f"only timestamps have a zone, which is a text without a zero, not {in_words(self.zone)}")
@@ -62,11 +65,15 @@ class LogicalType:
             return "date"
         if self.sort == "float":
             return self.sort + self.unit
+        if self.sort == "other":
+            return self.unit
         return f"{self.sort}[{self.unit}{', ' if self.zone else ''}{self.zone}]"
 
     @property
     def storage(self) -> str:
-        """The type of the integers."""
+        """The type of the integers; that of the sort 'other' is refused, since rows of any type may have it."""
+        if self.sort == "other":
+            raise TypeError(f"{in_words(self.unit)} does not say of which type its rows are")
         if self.sort == "float":
             return "i" + self.unit
         return "i32" if (self.sort, self.unit) in _NARROW else "i64"
@@ -76,6 +83,8 @@ class LogicalType:
         """The format of Arrow's C data interface."""
         if self.sort == "float":
             return _FLOATS[self.unit]
+        if self.sort == "other":
+            return self.unit
         letter = "D" if self.unit == "D" else _LETTERS[self.unit]
         return _SORTS[self.sort] + letter + (f":{self.zone}" if self.sort == "timestamp" else "")
 

@@ -93,9 +93,9 @@ class RunEndArray(ExtensionArray):
         column = rows.column if isinstance(rows, RunEndArray) else _column_of(rows, asked)
         if column.type.startswith("list"):
             raise TypeError("RunEndArray does not serve columns of lists")
-        if column.logical_type is not None:
+        if column._logical is not None:
             hint = "column.to_pandas() makes a Series, column.storage() has the integers"
-            raise TypeError(f"RunEndArray does not serve {column.logical_type}: {hint}")
+            raise TypeError(f"RunEndArray does not serve {column._logical}: {hint}")
         self._column = column if column.form == "runs" else column.to_runs()
 
     @property

@@ -9,7 +9,6 @@ from pathlib import Path
 import pytest
 
 from hivevigil import Column, Table
-from hivevigil.errors import BadMetadata
 
 CORPUS = Path(__file__).resolve().parents[2] / "examples/corpus"
 LINES = (CORPUS / "messages.txt").read_text(encoding="utf-8").splitlines()
@@ -143,7 +142,7 @@ def test_most_messages_are_made_of_their_rows():
 
 
 TYPED = (CORPUS / "typed.txt").read_text(encoding="utf-8").splitlines()
-# the lines whose logical type is none that this package has values for, or not one of such rows
+# the lines whose logical type is none that this package has values for, or not one of such rows: these are as stored
 OTHER_TYPES = {"months", "other-storage"}
 
 
@@ -152,14 +151,10 @@ def test_a_message_with_a_logical_type_is_read_and_written(line):
     """It has this type over these rows, and is written as its bytes again, also where it is made of its rows."""
     name, format, form, rows, digits = line.split("\t")
     message = bytes.fromhex(digits)
-    if name in OTHER_TYPES:
-        assert not Column.is_message(message)
-        with pytest.raises(BadMetadata, match=f"^from_bytes: '{format}' does not name a logical type of a column of "):
-            Column.from_bytes(message)
-        return
     column = Column.from_bytes(message)
     stored = column.storage()
     assert Column.is_message(message) and column.logical_type.format == format
+    assert (column.logical_type.sort == "other") == (name in OTHER_TYPES)
     assert (len(column), stored[:SHOWN].to_list()) == listed(rows, stored)
     assert column.to_bytes() == message and message.endswith(stored.to_bytes())
     assert column.form == form.partition(" ")[0]
@@ -168,7 +163,8 @@ def test_a_message_with_a_logical_type_is_read_and_written(line):
         assert " all-valid " in form
         return
     assert made.to_bytes() == stored.to_bytes()
-    if made.form == "flat" and column.logical_type.sort != "float":  # a cast keeps no window, and makes other floats
+    # a cast keeps no window, and makes other floats
+    if made.form == "flat" and column.logical_type.sort not in ("float", "other"):
         assert made.cast(f"{column.logical_type}{'?' * made.nullable}").to_bytes() == message
 
 

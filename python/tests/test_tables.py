@@ -316,7 +316,7 @@ T = Table({"a": [1, 2, None], "b": ["x", "y", "z"]}, {"a": "tiM"})
          "append: the tables have columns of different names: only the first has 'b'"),
         (lambda: T.drop("b").append(T), ValueError,
          "append: the tables have columns of different names: only the other has 'b'"),
-        (lambda: T.append(Table({"a": T["a"], "b": T["b"]})), errors.TypeMismatch,
+        (lambda: T.append(Table({"a": T["a"].storage(), "b": T["b"]})), errors.TypeMismatch,
          "append: the logical types of column 'a' are tiM and none"),
         (lambda: T.append(T.with_column("b", [1, 2, 3])), errors.TypeMismatch,
          "column 'b': concat: utf8 and i64 are two types; columns of one type are joined"),

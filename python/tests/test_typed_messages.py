@@ -19,7 +19,7 @@ import pytest
 from hypothesis import given
 from hypothesis import strategies as st
 
-from hivevigil import Column, Table, errors
+from hivevigil import Column, Table, concat, errors
 from hivevigil.logical import LogicalType
 from hivevigil.pandas import RunEndArray
 
@@ -277,15 +277,7 @@ def test_arrays_of_pandas_in_runs():
     assert found.to_pandas().tolist()[:2] == [pandas.Timestamp(NOON)] * 2
 
 
-# ---- What is refused ----
-
-
-def is_read(data):
-    try:
-        Column.from_bytes(data)
-    except errors.BadMetadata:
-        return False
-    return True
+# ---- Types that rows are not read as: the stored rows, and the type is kept ----
 
 
 I32, I64 = Column.of([7, None], "i32?").to_bytes(), Column.of([7], "i64").to_bytes()
@@ -297,18 +289,87 @@ UNKNOWN = [
 ]
 
 
+def check_stored(found, format, stored):
+    """The rows that are stored, as if the column had no logical type; the type is that of the bytes."""
+    plain = Column.from_bytes(stored)
+    assert found.logical_type == LogicalType("other", format)
+    assert found.logical_type.format == str(found.logical_type) == format and plain.logical_type is None
+    assert (found.type, found.form, found.to_list()) == (plain.type, plain.form, plain.to_list())
+    assert found.storage().to_bytes() == stored and found.to_bytes() == message_of(format, stored)
+
+
 @pytest.mark.parametrize("format, stored", UNKNOWN)
-def test_types_that_are_none_of_these_rows(tmp_path, format, stored):
-    """A message of the library, by its own calls, but not a column that this package has: by all ways of reading."""
-    lines = [line_of(format, stored)] if "\n" not in format else []
-    for data in (message_of(format, stored), *lines):
-        (tmp_path / "column").write_bytes(data)
-        with pytest.raises(errors.BadMetadata, match="^from_bytes: .* does not name a logical type of a column of "):
-            Column.from_bytes(data)
-        said = f"of {len(data)} bytes, is not a file that save wrote"
-        with pytest.raises(errors.BadMetadata, match=said):
-            Column.load(tmp_path / "column")
-        assert not Column.is_message(data)
+def test_types_that_are_none_of_these_rows_are_kept(tmp_path, format, stored):
+    """By all ways of reading and of copying, and in each part of the rows."""
+    data = message_of(format, stored)
+    (tmp_path / "column").write_bytes(data)
+    column = Column.from_bytes(data)
+    for found in (column, Column.load(tmp_path / "column"), pickle.loads(pickle.dumps(column)), copy.deepcopy(column)):
+        check_stored(found, format, stored)
+    assert Column.is_message(data)
+    column.to_runs().save(tmp_path / "runs")
+    assert Column.load(tmp_path / "runs").equals(column) and not column.equals(column.storage())
+    for part in (column[:1], column.take([0]), column.filter([True] + [False] * (len(column) - 1)), column.to_runs()[:1],
+                 column.to_runs().values()[:1].decode(), column.compact()[:1]):
+        assert part.logical_type.format == format and part.to_list() == column.to_list()[:1]
+        assert part.to_bytes() == message_of(format, part.storage().to_bytes())
+    assert repr(column).startswith(f"<Column {column.type} {format}: {len(column)} row")
+
+
+def test_what_is_asked_of_types_that_rows_are_not_read_as():
+    """What is asked of the stored rows, and columns of two types are not joined."""
+    months, numbers = Column.from_bytes(message_of("tiM", I32)), Column.from_bytes(I32)
+    assert (months.sum(), months.max(), months.eq(7).to_list(), months.to_runs().run_count()) == (7, 7, [True, None], 2)
+    assert (7 in months, months.fill(0).to_list(), months.fill(0).logical_type.format) == (True, [7, 0], "tiM")
+    assert concat([months, months]).to_bytes() == message_of("tiM", concat([numbers, numbers]).to_bytes())
+    with pytest.raises(errors.TypeMismatch, match="^concat: tiM and i32 are two types"):
+        concat([months, numbers])
+    assert months.cast("date?").to_list() == [date(1970, 1, 8), None] and months.cast("i64?").logical_type is None
+    assert months.to_numpy().tolist() == [7, None] and months.to_pandas().tolist()[0] == 7
+    for ask in (lambda: numbers.cast(months.logical_type), lambda: Column.of([7], months.logical_type)):
+        with pytest.raises(TypeError, match="'tiM' does not say of which type its rows are"):
+            ask()
+    with pytest.raises(ValueError):
+        LogicalType("other", "")
+
+
+@pytest.mark.parametrize("format, stored", UNKNOWN)
+def test_tables_keep_them_too(tmp_path, format, stored):
+    """A table of such a column has its type by its name, and gives the column as it was."""
+    column = Column.from_bytes(message_of(format, stored))
+    table = Table({"a": column})
+    assert table.logical_types == {"a": format} and table.equals(Table({"a": column.storage()}, {"a": format}))
+    for found in (table, Table.from_bytes(table.to_bytes()), table[:], table.rename({"a": "b"}).rename({"b": "a"})):
+        check_stored(found["a"], format, stored)
+        assert found.to_bytes() == table.to_bytes()
+    table.save(tmp_path / "table")
+    footer = Table.footer(tmp_path / "table").columns["a"]
+    assert (footer.logical_type, footer.least) == (format, column.min()) and Table.load(tmp_path / "table").equals(table)
+    assert footer.may_have("==", column.min())
+    assert table.append(table)["a"].logical_type.format == format
+
+
+# ---- What is refused ----
+
+
+def is_read(data):
+    try:
+        Column.from_bytes(data)
+    except errors.BadMetadata:
+        return False
+    return True
+
+
+@pytest.mark.parametrize("format, stored", UNKNOWN)
+def test_lines_with_types_that_are_none_of_these_rows(tmp_path, format, stored):
+    """No version wrote such a line: by all ways of reading."""
+    data = line_of(format, stored)
+    (tmp_path / "column").write_bytes(data)
+    with pytest.raises(errors.BadMetadata, match="^from_bytes: "):
+        Column.from_bytes(data)
+    with pytest.raises(errors.BadMetadata, match=f"of {len(data)} bytes, is not a file that save wrote"):
+        Column.load(tmp_path / "column")
+    assert not Column.is_message(data)
 
 
 DAMAGED = [
@@ -371,7 +432,7 @@ def messages():
 
 
 def stored_as(messages, format):
-    """The number that the type of rows of a format has in messages; None where this package has no such rows."""
+    """The number that the type of rows of a format has in messages; None where this package has no values for them."""
     if format[:4] in {"tss:", "tsm:", "tsu:", "tsn:"} and "\0" not in format:
         return 8
     return messages.FORMATS.get(format)
@@ -380,20 +441,22 @@ def stored_as(messages, format):
 @pytest.mark.filterwarnings("ignore::RuntimeWarning")  # Protocol Buffers warn of some bytes before they refuse them
 @pytest.mark.parametrize("seed", range(3))
 def test_random_messages(messages, seed):
-    """Read exactly where the model reads them and the type is one of such rows; then as the rows of the model, and
-    written as the same bytes."""
-    model, read, typed = sys.modules["model"], 0, 0
+    """Read exactly where the model reads them, as the rows of the model, and written as the same bytes; the type is of
+    the sort 'other' where it is not one of such rows."""
+    model, read, other = sys.modules["model"], 0, 0
     for data in [*messages.typed_messages(600, seed), *messages.messages(90, seed)]:
         message = model.typed_column(data)
         is_typed = message is not None and message.version == 2
-        due = message is not None and (not is_typed or message.storage.type == stored_as(messages, message.logical_type))
+        due = message is not None
         assert Column.is_message(data) == is_read(data) == due, data.hex()
-        read, typed = read + due, typed + (due and is_typed)
         if not due:
             continue
+        is_other = is_typed and message.storage.type != stored_as(messages, message.logical_type)
         column = Column.from_bytes(data)
         assert column.to_bytes() == data
         assert ("" if column.logical_type is None else column.logical_type.format) == message.logical_type
+        assert (getattr(column.logical_type, "sort", "") == "other") == is_other
         stored = model.written(message.storage) if is_typed else data
         assert column.storage().to_bytes() == stored
-    assert typed > 60 and read > typed + 20
+        read, other = read + 1, other + is_other
+    assert other > 60 and read > other + 60
