@@ -260,7 +260,7 @@ static void query_table(const Arguments &arguments, const hv::StoredFile &file, 
     const hv::Table rows = in_order(arguments, table_where(load_table(file, wanted), conditions));
     if (is_one) {
         const hv::NamedColumn &named = rows.at(wanted[0]);
-        answer(arguments, named.column, type_of(named).format());
+        answer(arguments, named.column, named.logical_type);
     } else if (arguments.has("to")) rows.save(*arguments.value("to"), arguments.has("differences"));
     else about_file(arguments, [&] { print_table_rows(rows, 0, rows.rows()); });
 }

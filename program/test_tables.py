@@ -24,7 +24,7 @@ from csv_model import (
     IN_WORDS, OPERATORS, found_mark, meets, random_csv, random_value, read_by_csv, rows_of, run_bytes, runs_of, shown,
     type_of, value_of,
 )
-from logical_model import format_of, is_logical
+from logical_model import format_of, is_logical, parts_of
 from test import TOP, Program, check_questions, field_of, flat_of, lines_of, meant, message_of
 
 # ---- The model: what is printed of a table
@@ -317,6 +317,18 @@ def check_stored_tables(program: Program) -> None:
         assert list(zip(*found, strict=True)) == [stored_column(*words.split(" ")) for words in columns.split(", ")]
 
 
+def check_types_are_kept(program: Program) -> None:
+    """A column that is taken from a table keeps a type that is not served, and its rows are the stored numbers."""
+    (program.folder / "days.csv").write_text("day\n2024-03-01\n2024-03-02\n")
+    program.answers("convert", "days.csv", "--to", "days.hv")
+    days = (program.folder / "days.hv").read_bytes()
+    (program.folder / "months.hv").write_bytes(days.replace(b"\x12\x03tdD", b"\x12\x03tiM"))
+    program.answers("query", "months.hv", "filter", "day > 19783", "--column", "day", "--to", "left.hv")
+    format, message = parts_of((program.folder / "left.hv").read_bytes())
+    assert format == "tiM" and message.endswith((19784).to_bytes(4, "little"))
+    assert program.answers("show", "left.hv", "--rows", "9") == "19784\n"
+
+
 def check_each_truncation(program: Program, model) -> None:
     data = next(data for data in model.tables(300, 1)[::3] if 150 < len(data) < 250 and model.table(data).columns)
     for size in range(len(data)):
@@ -349,6 +361,7 @@ def main() -> None:
         check_refusals(program)
         check_stored_tables(program)
         check_pipes(program)
+        check_types_are_kept(program)
         for number in range(chosen.files):
             check_random_file(random.Random(f"{chosen.seed} {number}"), program, model)
         said = f"{chosen.files} random files"
