@@ -88,6 +88,18 @@ fn bytes_are_the_table_again() -> Result<(), TableError> {
     Ok(())
 }
 
+/// Its columns are found in one walk: with one for each, this would take minutes.
+#[test]
+fn a_table_of_many_columns_is_read() -> Result<(), TableError> {
+    let level = Column::constant(Kind::U8, 7, 1)?;
+    let columns = (0..20_000).map(|place| (place.to_string(), level.clone()));
+    let bytes = Table::try_from_iter(columns)?.to_bytes()?;
+    let table = Table::from_bytes(&bytes)?;
+    assert!(table.len() == 20_000 && table.to_bytes()? == bytes);
+    assert_eq!(table["19999"].get::<u8>(0)?, Some(7));
+    Ok(())
+}
+
 #[test]
 fn files_have_all_columns_or_some() -> Result<(), TableError> {
     let (mut dice, folder) = (Dice(22), folder("some"));

@@ -143,30 +143,29 @@ impl<'a> Kept<'a> {
     }
 
     fn table(&mut self) -> Result<Table, TableError> {
-        let names: Vec<String> = self
-            .footer
-            .columns
-            .iter()
-            .map(|column| column.name.clone())
-            .collect();
-        let entries = names.iter().map(|name| self.entry(name));
-        Ok(Table {
-            entries: entries.collect::<Result<_, _>>()?,
-            rows: self.footer.rows,
-        })
+        let (mut entries, mut start) = (Vec::new(), head(self.version).len());
+        for place in 0..self.footer.columns.len() {
+            entries.push(self.entry_at(place, start)?);
+            start += self.footer.columns[place].part_size();
+        }
+        let rows = self.footer.rows;
+        Ok(Table { entries, rows })
     }
 
-    /// Reads the column of a name that there is, and holds it against what the footer says of it.
+    /// Reads the column of a name that there is.
     fn entry(&mut self, name: &str) -> Result<Entry, TableError> {
-        let before = self
-            .footer
-            .columns
-            .iter()
-            .take_while(|column| column.name != name);
-        let start = before.fold(head(self.version).len(), |start, column| {
-            start + column.part_size()
-        });
-        let known = self.footer.column(name)?.clone();
+        let columns = self.footer.columns.iter();
+        let before = columns.take_while(|column| column.name != name);
+        let (place, start) = before
+            .fold((0, head(self.version).len()), |(place, start), column| {
+                (place + 1, start + column.part_size())
+            });
+        self.entry_at(place, start)
+    }
+
+    /// Reads the column of a place, whose field begins there, and holds it against what the footer says of it.
+    fn entry_at(&mut self, place: usize, start: usize) -> Result<Entry, TableError> {
+        let known = self.footer.columns[place].clone();
         let column = known.column(&mut self.source, start as u64, self.footer.rows);
         Ok(Entry {
             column: column.map_err(|unread| unread.about(self.path.as_deref()))?,
