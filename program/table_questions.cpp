@@ -61,7 +61,7 @@ std::vector<std::vector<std::string>> lines_of_table(const hv::Table &table, con
         lines.push_back({csv_field(named.name), to_string(type) + unknown,
                          with_commas(column.size() - count_valid(column)),
                          is_list ? "" : with_commas(column.encode_rows().runs().size()),
-                         with_commas(footer[named.name].size), with_commas(column.bytes_used())});
+                         with_commas(footer.columns[lines.size() - 1].size), with_commas(column.bytes_used())});
     }
     return lines;
 }
