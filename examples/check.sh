@@ -347,6 +347,12 @@ if echo '#include <sqlite3ext.h>' | $cc -E - >/dev/null 2>&1; then
     else
         skip "engines/proto_test.py" "protoc and protobuf for Python"
     fi
+    if found=$(python_with sqlite3,zoneinfo) &&
+        "$found" -c 'import sqlite3; sqlite3.connect(":memory:").enable_load_extension(True)' 2>/dev/null; then
+        run "engines/typed_test.py" timeout 200 "$found" -B examples/engines/typed_test.py sqlite lib/hivevigil_sqlite.so
+    else
+        skip "engines/typed_test.py" "Python whose sqlite3 loads extensions"
+    fi
 else
     skip "sqlite" "sqlite3ext.h (libsqlite3-dev)"
 fi

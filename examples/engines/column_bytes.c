@@ -59,9 +59,9 @@ static int32_t least_type(hv_column *runs, hv_column *out, hv_error *error) {
     return HV_OK;
 }
 
-/* The message of a column, of floats with the letter of their type, else without one. */
-static int32_t written(const hv_column *column, const uint8_t *format, uint8_t **bytes, size_t *size, hv_error *error) {
-    const size_t len = format != NULL;
+/* The message of a column, with the name of its logical type or without one. */
+static int32_t written(const hv_column *column, const uint8_t *format, size_t len, uint8_t **bytes, size_t *size,
+                       hv_error *error) {
     int32_t answer = hv_typed_size(column, format, len, size, error);
     if (answer) return answer;
     *bytes = malloc(*size);
@@ -76,25 +76,42 @@ static int32_t floats_write(const hv_column *runs, uint8_t **bytes, size_t *size
     hv_column keys = HV_EMPTY, least = HV_EMPTY;
     int32_t answer = hv_float_encode(runs, 0, &keys, error);
     if (!answer) answer = least_type(&keys, &least, error);
-    if (!answer) answer = written(&least, float_format(hv_kind_of(runs).number), bytes, size, error);
+    if (!answer) answer = written(&least, float_format(hv_kind_of(runs).number), 1, bytes, size, error);
     hv_free(&keys), hv_free(&least);
     return answer;
 }
 
-int32_t encoding_bytes_write(hv_column *runs, uint8_t **bytes, size_t *size, hv_error *error) {
+/* The encoding of rows that a logical type is of, with its name. */
+static int32_t typed_write(hv_column *runs, const logical_type *type, uint8_t **bytes, size_t *size, hv_error *error) {
+    hv_column stored = HV_EMPTY, least = HV_EMPTY;
+    int32_t answer = HV_OK;
+    if (hv_kind_of(runs).number == type->stored) hv_put(&stored, runs);
+    else answer = column_as_stored(runs, type->stored, &stored, error);
+    if (!answer) answer = least_type(&stored, &least, error);
+    if (!answer) answer = written(&least, type->format, type->len, bytes, size, error);
+    hv_free(&stored), hv_free(&least);
+    return answer;
+}
+
+int32_t encoding_bytes_write(hv_column *runs, const logical_type *type, uint8_t **bytes, size_t *size,
+                             hv_error *error) {
     const bool is_null = is_null_encoding(runs);
+    const uint8_t kind = hv_kind_of(runs).number;
     hv_column least = HV_EMPTY;
-    if (!is_null && is_float_type(hv_kind_of(runs).number)) return floats_write(runs, bytes, size, error);
+    if (!is_null && is_float_type(kind)) return floats_write(runs, bytes, size, error);
+    if (!is_null && type && type->len && (kind == type->stored || (kind == HV_I64 && type->stored < HV_I64)))
+        return typed_write(runs, type, bytes, size, error);
     int32_t answer = is_null ? null_numbers(runs, &least, error) : least_type(runs, &least, error);
-    if (!answer) answer = written(&least, NULL, bytes, size, error);
+    if (!answer) answer = written(&least, NULL, 0, bytes, size, error);
     hv_free(&least);
     return answer;
 }
 
-int32_t column_bytes_write(const hv_column *column, uint8_t **bytes, size_t *size, hv_error *error) {
+int32_t column_bytes_write(const hv_column *column, const logical_type *type, uint8_t **bytes, size_t *size,
+                           hv_error *error) {
     hv_column runs = HV_EMPTY;
     int32_t answer = hv_encode_rows(column, &runs, error);
-    if (!answer) answer = encoding_bytes_write(&runs, bytes, size, error);
+    if (!answer) answer = encoding_bytes_write(&runs, type, bytes, size, error);
     hv_free(&runs);
     return answer;
 }
@@ -130,19 +147,23 @@ int32_t column_of_truths(const hv_column *truths, hv_column *out, hv_error *erro
 }
 
 /* The column of a message, or of the message after a line, and of floats the type of the keys; else HV_LIST. */
-static int32_t read_message(const uint8_t *bytes, size_t size, hv_column *out, uint8_t *keys, hv_error *error) {
+static int32_t read_message(const uint8_t *bytes, size_t size, hv_column *out, uint8_t *keys, logical_type *type,
+                            hv_error *error) {
     size_t at = 0, len = 0;
     *keys = float_line_read(bytes, size);
     if (*keys != HV_LIST) return hv_read_column(bytes + FLOAT_LINE, size - FLOAT_LINE, out, error);
     const int32_t answer = hv_read_typed(bytes, size, out, &at, &len, error);
     if (!answer && len) *keys = float_keys_of(bytes + at, len);
+    if (!answer && *keys == HV_LIST && hv_kind_of(out).number != HV_BOOL)
+        *type = (logical_type){bytes + at, len, hv_kind_of(out).number};
     return answer;
 }
 
-int32_t column_bytes_read(const uint8_t *bytes, size_t size, hv_column *out, hv_error *error) {
+int32_t column_bytes_read(const uint8_t *bytes, size_t size, hv_column *out, logical_type *type, hv_error *error) {
+    logical_type found = NO_LOGICAL_TYPE;
     hv_column column = HV_EMPTY;
     uint8_t keys;
-    int32_t answer = read_message(bytes, size, &column, &keys, error);
+    int32_t answer = read_message(bytes, size, &column, &keys, &found, error);
     if (answer) return answer;
     hv_kind kind = hv_kind_of(&column);
     if (keys != HV_LIST) {
@@ -155,6 +176,7 @@ int32_t column_bytes_read(const uint8_t *bytes, size_t size, hv_column *out, hv_
     } else {
         answer = kind.number == HV_BOOL ? column_of_truths(&column, out, error) : HV_UNSUPPORTED;
     }
+    if (!answer && type) *type = found;
     hv_free(&column);
     return answer;
 }

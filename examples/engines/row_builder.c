@@ -1,6 +1,7 @@
 #include "row_builder.h"
 #include "column_bytes.h"
-#include <stdbool.h>
+#include <stdlib.h>
+#include <string.h>
 
 static const row_value null_row = {HV_NULL, 0, NULL, 0};
 
@@ -83,10 +84,27 @@ int32_t row_builder_add_column(row_builder *rows, const hv_column *column, hv_er
     return answer;
 }
 
+int32_t row_builder_add_typed(row_builder *rows, const hv_column *column, const logical_type *type, hv_error *error) {
+    uint8_t is_null = 0, *name = NULL;
+    int32_t answer = type->len ? column_is_null_alone(column, &is_null, error) : HV_OK;
+    if (answer || is_null || !type->len) return answer ? answer : row_builder_add_column(rows, column, error);
+    if (rows->type.len && !is_same_logical_type(&rows->type, type)) return OTHER_LOGICAL_TYPE;
+    if (rows->type.len) return row_builder_add_column(rows, column, error);
+    name = malloc(type->len);
+    answer = name ? row_builder_add_column(rows, column, error) : HV_OUT_OF_MEMORY;
+    if (answer) {
+        free(name);
+        return answer;
+    }
+    memcpy(name, type->format, type->len);
+    rows->type = (logical_type){name, type->len, type->stored};
+    return HV_OK;
+}
+
 int32_t row_builder_append(row_builder *rows, row_builder *others, hv_error *error) {
     hv_column column = HV_EMPTY;
     int32_t answer = row_builder_finish(others, &column, error);
-    if (!answer) answer = row_builder_add_column(rows, &column, error);
+    if (!answer) answer = row_builder_add_typed(rows, &column, &others->type, error);
     hv_free(&column);
     return answer;
 }
@@ -116,6 +134,7 @@ int32_t row_builder_finish(row_builder *rows, hv_column *out, hv_error *error) {
 void row_builder_free(row_builder *rows) {
     static const row_builder empty = ROW_BUILDER_EMPTY;
     hv_builder_free(&rows->runs);
+    free((void *)rows->type.format);
     *rows = empty;
 }
 

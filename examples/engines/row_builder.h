@@ -5,7 +5,7 @@
  * A call answers 0, or the number of an error of hivevigil.h, and then the rows are those that there were. */
 #ifndef HIVEVIGIL_ROW_BUILDER_H
 #define HIVEVIGIL_ROW_BUILDER_H
-#include "hivevigil.h"
+#include "logical_types.h"
 
 /* Kinds of rows next to HV_SIGNED, HV_TEXT and HV_BYTES: floats, of which `number` has the bits. */
 enum { ROW_FLOAT32 = 32, ROW_FLOAT64 = 64 };
@@ -18,6 +18,7 @@ typedef struct row_builder {
     uint8_t kind;    /* of the rows, and HV_NULL as long as each is null */
     uint64_t rows;   /* all of them */
     hv_builder runs; /* of the rows; none as long as each row is null */
+    logical_type type; /* of the rows, with a name in memory of malloc's */
 } row_builder;
 
 /* No rows. */
@@ -42,6 +43,10 @@ int32_t row_builder_add(row_builder *rows, const row_value *value, uint64_t coun
 /* Adds all rows of a column of any form; one of only null goes with rows of every type. Refused as above, and as 13
  * unless the column is one of signed numbers of 64 bits, floats, texts or bytes. */
 int32_t row_builder_add_column(row_builder *rows, const hv_column *column, hv_error *error);
+
+/* The same with the logical type of the column, after which all rows are of it: rows without one are taken to be of the
+ * type of the others. OTHER_LOGICAL_TYPE where the rows are of two. */
+int32_t row_builder_add_typed(row_builder *rows, const hv_column *column, const logical_type *type, hv_error *error);
 
 /* Adds all rows of another builder, which has none after; where it is refused, the other may have none too. */
 int32_t row_builder_append(row_builder *rows, row_builder *others, hv_error *error);

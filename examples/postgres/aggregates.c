@@ -101,9 +101,10 @@ static const char *words_of_rows(const row_builder *rows) {
 static void add_bytes(const char *function, row_builder *rows, bytea *bytes) {
     hv_error error = {0, 0, 0};
     hv_column column = HV_EMPTY;
-    hv_column_of(function, bytes, &column);
+    logical_type type;
+    hv_typed_of(function, bytes, &column, &type);
     const char *words = hv_words_of(hv_kind_of(&column));
-    const int32_t answer = row_builder_add_column(rows, &column, &error);
+    const int32_t answer = row_builder_add_typed(rows, &column, &type, &error);
     hv_free(&column);
     if (answer == HV_TYPE_MISMATCH)
         ereport(ERROR, (errcode(ERRCODE_DATATYPE_MISMATCH),
@@ -135,7 +136,7 @@ static bytea *bytes_of(FunctionCallInfo fcinfo, row_builder *rows) {
     hv_column runs = HV_EMPTY;
     const int32_t answer = rows->rows > PG_INT64_MAX ? HV_WINDOW_OVERFLOW : row_builder_encoding(rows, &runs, &error);
     hv_raise(name, answer, &error);
-    return hv_bytes_of_encoding(name, &runs);
+    return hv_bytes_of_encoding(name, &runs, &rows->type);
 }
 
 HV_FUNCTION(pg_hv_serial) { PG_RETURN_BYTEA_P(bytes_of(fcinfo, (row_builder *)PG_GETARG_POINTER(0))); }

@@ -20,7 +20,8 @@ Datum hv_appended(FunctionCallInfo fcinfo, const row_value *value) {
     const uint64_t count = hv_count_of("hv_append", fcinfo, 2);
     hv_error error = {0, 0, 0};
     hv_column column = HV_EMPTY, runs = HV_EMPTY;
-    hv_column_of("hv_append", PG_GETARG_BYTEA_PP(0), &column);
+    logical_type type;
+    hv_typed_of("hv_append", PG_GETARG_BYTEA_PP(0), &column, &type);
     const char *words = hv_words_of(hv_kind_of(&column));
     const int32_t answer = column_append(&column, value, count, &runs, &error);
     hv_free(&column);
@@ -29,7 +30,7 @@ Datum hv_appended(FunctionCallInfo fcinfo, const row_value *value) {
                         errmsg("hv_append: a column of %s takes no %s", words,
                                value->kind == HV_TEXT ? "text" : "bigint")));
     hv_raise("hv_append", answer, &error);
-    return PointerGetDatum(hv_bytes_of_encoding("hv_append", &runs));
+    return PointerGetDatum(hv_bytes_of_encoding("hv_append", &runs, &type));
 }
 
 HV_FUNCTION(pg_hv_append_number) {

@@ -143,7 +143,7 @@ HV_FUNCTION(pg_hv_filter_floats) {
                 (errcode(ERRCODE_INVALID_PARAMETER_VALUE), errmsg("hv_filter: an operator is one of = <> > >= < <=")));
     if (!PG_ARGISNULL(2)) return compared("hv_filter", fcinfo, column_filter_floats);
     hv_raise("hv_filter", row_builder_encoding(&nothing, &none, &error), &error);
-    PG_RETURN_BYTEA_P(hv_bytes_of_encoding("hv_filter", &none));
+    PG_RETURN_BYTEA_P(hv_bytes_of_encoding("hv_filter", &none, NULL));
 }
 
 /* ---- Rows ---- */

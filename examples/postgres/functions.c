@@ -14,10 +14,12 @@ static int error_code(int32_t answer) {
     case HV_OUT_OF_MEMORY: return ERRCODE_OUT_OF_MEMORY;
     case HV_BAD_METADATA: return ERRCODE_DATA_CORRUPTED;
     case HV_WINDOW_OVERFLOW: return ERRCODE_PROGRAM_LIMIT_EXCEEDED;
+    case PAST_LOGICAL_TYPE:
     case HV_CAST_OUT_OF_RANGE: return ERRCODE_NUMERIC_VALUE_OUT_OF_RANGE;
     case HV_BAD_RANGE:
     case HV_MASK_LENGTH:
     case HV_COLUMN_LENGTH: return ERRCODE_ARRAY_SUBSCRIPT_ERROR;
+    case OTHER_LOGICAL_TYPE:
     case HV_TYPE_MISMATCH: return ERRCODE_DATATYPE_MISMATCH;
     default: return ERRCODE_FEATURE_NOT_SUPPORTED;
     }
@@ -37,6 +39,9 @@ void hv_raise(const char *function, int32_t answer, const hv_error *error) {
     if (answer == HV_WINDOW_OVERFLOW) why = "a column of 2^63 rows or more";
     if (answer == HV_CAST_OUT_OF_RANGE) why = "a number of the column is 2^63 or more";
     if (answer == HV_TYPE_MISMATCH) why = "a column holds numbers, texts or bytes, and not two of them";
+    if (answer == OTHER_LOGICAL_TYPE) why = "columns of two logical types";
+    if (answer == PAST_LOGICAL_TYPE)
+        why = psprintf("row " UINT64_FORMAT " has no number of the logical type", (uint64)error->first);
     ereport(ERROR, (errcode(error_code(answer)), errmsg("%s: %s", function, why)));
 }
 
@@ -45,9 +50,12 @@ void hv_raise_range(const char *function, uint64_t row) {
                     errdetail("Row " UINT64_FORMAT " leaves the range.", (uint64)row)));
 }
 
-void hv_column_of(const char *function, bytea *bytes, hv_column *out) {
+void hv_column_of(const char *function, bytea *bytes, hv_column *out) { hv_typed_of(function, bytes, out, NULL); }
+
+void hv_typed_of(const char *function, bytea *bytes, hv_column *out, logical_type *type) {
+    const uint8_t *const start = (const uint8_t *)VARDATA_ANY(bytes);
     hv_error error = {0, 0, 0};
-    int32_t answer = column_bytes_read((const uint8_t *)VARDATA_ANY(bytes), VARSIZE_ANY_EXHDR(bytes), out, &error);
+    int32_t answer = column_bytes_read(start, VARSIZE_ANY_EXHDR(bytes), out, type, &error);
     if (!answer && hv_length(out) > PG_INT64_MAX) {
         hv_free(out);
         answer = HV_WINDOW_OVERFLOW;
@@ -55,21 +63,23 @@ void hv_column_of(const char *function, bytea *bytes, hv_column *out) {
     hv_raise(function, answer, &error);
 }
 
-bytea *hv_bytes_of_column(const char *function, hv_column *column) {
+bytea *hv_bytes_of_column(const char *function, hv_column *column) { return hv_bytes_of_typed(function, column, NULL); }
+
+bytea *hv_bytes_of_typed(const char *function, hv_column *column, const logical_type *type) {
     hv_error error = {0, 0, 0};
     hv_column runs = HV_EMPTY;
     const int32_t answer = hv_encode_rows(column, &runs, &error);
     hv_free(column);
     hv_raise(function, answer, &error);
-    return hv_bytes_of_encoding(function, &runs);
+    return hv_bytes_of_encoding(function, &runs, type);
 }
 
-bytea *hv_bytes_of_encoding(const char *function, hv_column *runs) {
+bytea *hv_bytes_of_encoding(const char *function, hv_column *runs, const logical_type *type) {
     hv_error error = {0, 0, 0};
     uint8_t *bytes = NULL;
     size_t size = 0;
     bytea *made = NULL;
-    const int32_t answer = encoding_bytes_write(runs, &bytes, &size, &error);
+    const int32_t answer = encoding_bytes_write(runs, type, &bytes, &size, &error);
     const bool fits = size <= MaxAllocSize - VARHDRSZ;
     hv_free(runs);
     if (!answer && fits) made = palloc_extended(size + VARHDRSZ, MCXT_ALLOC_NO_OOM);
@@ -278,15 +288,16 @@ HV_FUNCTION(pg_hv_slice) {
     const int64 start = PG_GETARG_INT64(1), stop = PG_GETARG_INT64(2);
     hv_error error = {0, 0, 0};
     hv_column column = HV_EMPTY, part = HV_EMPTY;
+    logical_type type;
     hv_session session;
     hv_session_initial(&session);
     if (start < 0 || stop < 0)
         ereport(ERROR, (errcode(ERRCODE_ARRAY_SUBSCRIPT_ERROR), errmsg("hv_slice: rows are numbered from 0")));
-    hv_column_of("hv_slice", PG_GETARG_BYTEA_PP(0), &column);
+    hv_typed_of("hv_slice", PG_GETARG_BYTEA_PP(0), &column, &type);
     const int32_t answer = hv_slice(&session, &column, (size_t)start, (size_t)stop, &part, &error);
     hv_free(&column);
     hv_raise("hv_slice", answer, &error);
-    PG_RETURN_BYTEA_P(hv_bytes_of_column("hv_slice", &part));
+    PG_RETURN_BYTEA_P(hv_bytes_of_typed("hv_slice", &part, &type));
 }
 
 uint8_t hv_operator_of(Datum label) {
@@ -298,10 +309,11 @@ static Datum filtered(FunctionCallInfo fcinfo, const row_value *value) {
     const uint8_t operator_ = PG_ARGISNULL(1) ? NO_OPERATOR : hv_operator_of(PG_GETARG_DATUM(1));
     hv_error error = {0, 0, 0};
     hv_column column = HV_EMPTY, left = HV_EMPTY;
+    logical_type type;
     if (operator_ == NO_OPERATOR)
         ereport(ERROR,
                 (errcode(ERRCODE_INVALID_PARAMETER_VALUE), errmsg("hv_filter: an operator is one of = <> > >= < <=")));
-    hv_column_of("hv_filter", PG_GETARG_BYTEA_PP(0), &column);
+    hv_typed_of("hv_filter", PG_GETARG_BYTEA_PP(0), &column, &type);
     const char *words = hv_words_of(hv_kind_of(&column));
     const int32_t answer = column_filter(&column, operator_, value, &left, &error);
     hv_free(&column);
@@ -310,7 +322,7 @@ static Datum filtered(FunctionCallInfo fcinfo, const row_value *value) {
                         errmsg("hv_filter: a column of %s is not compared with a %s", words,
                                value->kind == HV_TEXT ? "text" : "bigint")));
     hv_raise("hv_filter", answer, &error);
-    PG_RETURN_BYTEA_P(hv_bytes_of_column("hv_filter", &left));
+    PG_RETURN_BYTEA_P(hv_bytes_of_typed("hv_filter", &left, &type));
 }
 
 HV_FUNCTION(pg_hv_filter_numbers) {

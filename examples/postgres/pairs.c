@@ -40,7 +40,7 @@ static Datum paired(const pairing *called, hv_column *left, hv_column *right) {
 /* The column of an argument while another is held, which is freed where the bytes are none. */
 static void next_column_of(const char *function, bytea *bytes, hv_column *held, hv_column *out) {
     hv_error error = {0, 0, 0};
-    int32_t answer = column_bytes_read((const uint8_t *)VARDATA_ANY(bytes), VARSIZE_ANY_EXHDR(bytes), out, &error);
+    int32_t answer = column_bytes_read((const uint8_t *)VARDATA_ANY(bytes), VARSIZE_ANY_EXHDR(bytes), out, NULL, &error);
     if (!answer && hv_length(out) > PG_INT64_MAX) {
         hv_free(out);
         answer = HV_WINDOW_OVERFLOW;
@@ -129,12 +129,13 @@ HV_FUNCTION(pg_hv_filter_mask) {
     static const pairing called = {"hv_filter", HV_NE, "a mask"};
     hv_error error = {0, 0, 0};
     hv_column column = HV_EMPTY, mask = HV_EMPTY, out = HV_EMPTY;
-    hv_column_of("hv_filter", bytes, &column);
+    logical_type type;
+    hv_typed_of("hv_filter", bytes, &column, &type);
     next_column_of("hv_filter", mask_bytes, &column, &mask);
     const hv_kind kind = hv_kind_of(&mask);
     const int32_t answer = column_where(&column, &mask, &out, &error);
     hv_free(&column);
     hv_free(&mask);
     raise(&called, answer, &error, kind, kind);
-    PG_RETURN_BYTEA_P(hv_bytes_of_column("hv_filter", &out));
+    PG_RETURN_BYTEA_P(hv_bytes_of_typed("hv_filter", &out, &type));
 }

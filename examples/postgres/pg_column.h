@@ -26,6 +26,9 @@ void hv_raise(const char *function, int32_t answer, const hv_error *error);
 /* The column of an argument, or the error that it is none. */
 void hv_column_of(const char *function, bytea *bytes, hv_column *out);
 
+/* The same with its logical type, whose name is borrowed of the bytes. */
+void hv_typed_of(const char *function, bytea *bytes, hv_column *out, logical_type *type);
+
 /* The same of an hvfloat4 or an hvfloat8, of which one of only null may have been written as numbers. */
 void hv_floats_of(const char *function, bytea *bytes, hv_column *out);
 
@@ -36,9 +39,11 @@ row_value hv_float_value(uint8_t kind, Datum number);
 /* The number of an operator, whose label the enum has. */
 uint8_t hv_operator_of(Datum label);
 
-/* The bytes of a column, or of an encoding, as PostgreSQL's, or the error; the column is freed. */
+/* The bytes of a column, or of an encoding, as PostgreSQL's, or the error; the column is freed. A logical type may be
+ * null. */
 bytea *hv_bytes_of_column(const char *function, hv_column *column);
-bytea *hv_bytes_of_encoding(const char *function, hv_column *runs);
+bytea *hv_bytes_of_typed(const char *function, hv_column *column, const logical_type *type);
+bytea *hv_bytes_of_encoding(const char *function, hv_column *runs, const logical_type *type);
 
 /* The bytes of a text as PostgreSQL's, or the error that it cannot be one. */
 text *hv_text_of(const char *function, const uint8_t *bytes, size_t len);
@@ -55,11 +60,21 @@ row_value hv_text_or_null(const char *function, FunctionCallInfo fcinfo, int at)
 /* Adds `count` rows of a value to the rows of an aggregate, which are answered; its name is for a refusal. */
 Datum hv_added(FunctionCallInfo fcinfo, const char *function, const row_value *value, uint64_t count);
 
+/* The number of a day, a time of a day, a time or a length of time, in days or microseconds, as what SQL has. */
+Datum hv_date_datum(const char *function, int64 number);
+Datum hv_time_datum(const char *function, int64 number);
+Datum hv_timestamp_datum(const char *function, int64 number);
+Datum hv_interval_datum(const char *function, int64 number);
+
 /* A count of rows, which is an argument. */
 uint64_t hv_count_of(const char *function, FunctionCallInfo fcinfo, int at);
 
 /* The column of an argument with `count` rows of a value after it. */
 Datum hv_appended(FunctionCallInfo fcinfo, const row_value *value);
+
+/* The rows of a column as numbers of another logical type, or the error; the column is freed. */
+void hv_recounted(const char *function, hv_column *column, const logical_type *from, const logical_type *to,
+                  hv_column *out);
 
 /* Raises that a row leaves the range of bigint. */
 void hv_raise_range(const char *function, uint64_t row);

@@ -85,8 +85,14 @@ updated() {
     ask -c "CREATE DATABASE updated"
     found=$(ask_of one -d updated -At -c "CREATE EXTENSION hivevigil VERSION '1.0'" \
         -c "CREATE TABLE kept AS SELECT hv_column(g) AS c FROM generate_series(1, 4) g" \
-        -c "ALTER EXTENSION hivevigil UPDATE" -c "SELECT hv_sum(c), pg_typeof(hv_column(0.5)) FROM kept GROUP BY c")
+        -c "ALTER EXTENSION hivevigil UPDATE TO '1.1'" -c "ALTER EXTENSION hivevigil UPDATE" \
+        -c "SELECT hv_sum(hv_cast(c, 'tdD')), pg_typeof(hv_column(0.5)) FROM kept GROUP BY c")
     [ "$found" = "10|hvfloat8" ] || fail "an update of the extension leaves $found"
+}
+# columns with a logical type as bytes by hand, and what is answered of them
+typed_questions() {
+    if command -v python3 >/dev/null; then python3 -B "$top/examples/engines/typed_test.py" postgres
+    else echo "SELECT 'PostgreSQL: no python3 to make columns with a logical type by hand';"; fi
 }
 # sharded SENSORS DAYS [STAMPS]: a year of sensors, and then the same over two servers, with answers compared
 sharded() {
@@ -110,6 +116,9 @@ figures.sql) ask ${count:+-v "count=$count"} -At -f "$scripts/figures.sql" ;;
     ask ${count:+-v "count=$count"} -v "folder=$work/one/socket" -At -f "$scripts/test.sql"
     ask -At -f "$scripts/test_steps.sql"
     ask -v "folder=$work/one/socket" -At -f "$scripts/test_floats.sql"
+    ask -At -f "$scripts/test_types.sql"
+    typed_questions >"$work/typed.sql" || fail "no questions of columns with a logical type"
+    ask -At <"$work/typed.sql"
     sharded 5 12 10000 >"$work/sensors"
     tail -n 1 "$work/sensors"
     restored

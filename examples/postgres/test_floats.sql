@@ -95,11 +95,11 @@ SELECT same($$SELECT hv_column(v)::bytea FROM (VALUES (1.5::float8), (1.5), (NUL
          $$SELECT hashoidvector(b), hashoidvectorextended(b, 5) FROM (SELECT
            ('1702259048 1768384886 2037653612 824206704 134899488 403181569 1073815554 1375815680 ' ||
             '341442817 135266568 18874648 138019112 0 1073217536')::oidvector AS b) x$$),
-    -- times, as Python writes them, are their numbers
-    same($$SELECT hv_type(c), hv_sum(c), hv_concat(c)::bytea = hv_column(7)::bytea FROM (SELECT
+    -- times, as Python writes them, are their numbers, and keep what these mean
+    same($$SELECT hv_type(c), hv_sum(c), c = hv_column(7), hv_concat(c)::bytea FROM (SELECT
            '\x0802B201077473733A555443BA0114080110081801200128013A080700000000000000'::bytea::hvcolumn AS c) x
            GROUP BY c$$,
-         $$SELECT 'bigint', 7, true$$),
+         $$SELECT 'bigint', 7, true, '\x0802B201077473733A555443BA0125'::bytea || hv_column(7)::bytea$$),
     same($$SELECT float4send(hv_at(c, 0)), float8send(hv_at(c::hvfloat8, 0)), hv_column(hv_at(c, 0)) = c FROM (SELECT
            (convert_to(E'hivevigil type 1 f\n', 'UTF8') || '\x080110071801200128013A040100807F')::hvfloat4 AS c) x
            GROUP BY c$$,

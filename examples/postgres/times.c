@@ -43,28 +43,39 @@ HV_FUNCTION(pg_hv_number_of_interval) {
 
 /* ---- Back ---- */
 
-HV_FUNCTION(pg_hv_date_of_number) {
+Datum hv_date_datum(const char *function, int64 number) {
     int64 day = 0;
-    if (pg_sub_s64_overflow(PG_GETARG_INT64(0), EPOCH_DAYS, &day) || day < DATETIME_MIN_JULIAN - POSTGRES_EPOCH_JDATE ||
+    if (pg_sub_s64_overflow(number, EPOCH_DAYS, &day) || day < DATETIME_MIN_JULIAN - POSTGRES_EPOCH_JDATE ||
         day >= DATE_END_JULIAN - POSTGRES_EPOCH_JDATE)
-        refuse("hv_date", "date out of range");
+        refuse(function, "date out of range");
     PG_RETURN_DATEADT((DateADT)day);
 }
 
-static Timestamp time_of_number(const char *function, int64 number) {
+Datum hv_time_datum(const char *function, int64 number) {
+    if (number < 0 || number > USECS_PER_DAY) refuse(function, "time out of range");
+    PG_RETURN_TIMEADT(number);
+}
+
+Datum hv_timestamp_datum(const char *function, int64 number) {
     int64 time = 0;
     if (pg_sub_s64_overflow(number, EPOCH_MICROSECONDS, &time) || !IS_VALID_TIMESTAMP(time))
         refuse(function, "timestamp out of range");
-    return time;
+    PG_RETURN_TIMESTAMP(time);
 }
 
-HV_FUNCTION(pg_hv_timestamp_of_number) {
-    PG_RETURN_TIMESTAMP(time_of_number("hv_timestamp", PG_GETARG_INT64(0)));
+/* Of microseconds only, since a day of an interval may have other than 24 hours. */
+Datum hv_interval_datum(const char *function, int64 number) {
+    Interval *length = palloc0(sizeof *length);
+    (void)function;
+    length->time = number;
+    PG_RETURN_INTERVAL_P(length);
 }
 
-HV_FUNCTION(pg_hv_timestamptz_of_number) {
-    PG_RETURN_TIMESTAMP(time_of_number("hv_timestamptz", PG_GETARG_INT64(0)));
-}
+HV_FUNCTION(pg_hv_date_of_number) { return hv_date_datum("hv_date", PG_GETARG_INT64(0)); }
+HV_FUNCTION(pg_hv_time_of_number) { return hv_time_datum("hv_time", PG_GETARG_INT64(0)); }
+HV_FUNCTION(pg_hv_timestamp_of_number) { return hv_timestamp_datum("hv_timestamp", PG_GETARG_INT64(0)); }
+HV_FUNCTION(pg_hv_timestamptz_of_number) { return hv_timestamp_datum("hv_timestamptz", PG_GETARG_INT64(0)); }
+HV_FUNCTION(pg_hv_interval_of_number) { return hv_interval_datum("hv_interval", PG_GETARG_INT64(0)); }
 
 /* ---- Rows of an aggregate ---- */
 

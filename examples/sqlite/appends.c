@@ -40,12 +40,13 @@ static uint8_t kind_of(const hv_column *column) {
 
 static void ask_append(sqlite3_context *context, int count, sqlite3_value **values) {
     hv_column column = HV_EMPTY, runs = HV_EMPTY;
+    logical_type type;
     hv_error error = {0, 0, 0};
     char *reason = NULL;
     uint64_t rows;
     (void)count;
     if (sqlite3_value_type(values[0]) == SQLITE_NULL || !is_count(context, "hv_append", values[2], &rows)) return;
-    if (!column_of("hv_append", values[0], &column, &reason)) {
+    if (!typed_column_of("hv_append", values[0], &column, &type, &reason)) {
         fail(context, reason);
         return;
     }
@@ -53,7 +54,7 @@ static void ask_append(sqlite3_context *context, int count, sqlite3_value **valu
     const int32_t answer = column_append(&column, &value, rows, &runs, &error);
     if (answer == HV_TYPE_MISMATCH) fail(context, why_not("hv_append", kind_of(&column), values[1]));
     else if (answer) refuse(context, "hv_append", answer, &error);
-    else answer_encoding(context, "hv_append", &runs);
+    else answer_encoding(context, "hv_append", &runs, &type);
     hv_free(&column), hv_free(&runs);
 }
 

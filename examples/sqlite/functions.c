@@ -11,6 +11,7 @@
  *     hv_and(c, d)  hv_or(c, d)  hv_not(c)  hv_compare(c, '<', d)      the same, 1 for true and 0 for false
  *     hv_append(c, value, count)                                a blob with more rows at its end
  *     hv_steps(c)  hv_totals(c)  hv_buckets(c, width)  hv_step_buckets(c, width)      times, and where they lie
+ *     hv_logical_type(c)  hv_cast(c, 'tss:')                    what integers mean, and the same times in another unit
  *     SELECT start, stop, value FROM hv_runs(c)                 a row for each run
  *     SELECT key, sum FROM hv_groups(keys, values)              a row for each run of equal keys
  *
@@ -49,21 +50,29 @@ char *refusal(const char *function, int32_t answer, const hv_error *error) {
     if (answer == HV_WINDOW_OVERFLOW) why = too_long;
     if (answer == HV_UNSUPPORTED) why = "columns of decimals and lists are not served";
     if (answer == HV_CAST_OUT_OF_RANGE) why = "a number of the column is 2^63 or more";
+    if (answer == OTHER_LOGICAL_TYPE) why = "columns of two logical types";
+    if (answer == PAST_LOGICAL_TYPE)
+        return sqlite3_mprintf("%s: row %llu has no number of the logical type", function,
+                               (unsigned long long)error->first);
     return sqlite3_mprintf("%s: %s", function, why);
 }
 
 bool column_of(const char *function, sqlite3_value *value, hv_column *out, char **reason) {
+    return typed_column_of(function, value, out, NULL, reason);
+}
+
+bool typed_column_of(const char *function, sqlite3_value *value, hv_column *out, logical_type *type, char **reason) {
     hv_error error = {0, 0, 0};
-    const int type = sqlite3_value_type(value);
+    const int given = sqlite3_value_type(value);
     *reason = NULL;
-    if (type != SQLITE_BLOB) {
-        *reason = sqlite3_mprintf("%s: a column is a blob, and this is %s", function, type_in_words(type));
+    if (given != SQLITE_BLOB) {
+        *reason = sqlite3_mprintf("%s: a column is a blob, and this is %s", function, type_in_words(given));
         return false;
     }
     const void *bytes = sqlite3_value_blob(value); /* before its size, which it may change; null for no bytes */
     const size_t size = (size_t)sqlite3_value_bytes(value);
     hv_column read = HV_EMPTY;
-    int32_t answer = column_bytes_read(bytes ? bytes : "", size, &read, &error);
+    int32_t answer = column_bytes_read(bytes ? bytes : "", size, &read, type, &error);
     if (!answer) answer = float_column_widened(&read, out, &error); /* SQLite has no others */
     hv_free(&read);
     if (answer) {
@@ -86,21 +95,22 @@ void refuse(sqlite3_context *context, const char *function, int32_t answer, cons
     fail(context, refusal(function, answer, error));
 }
 
-void answer_encoding(sqlite3_context *context, const char *function, hv_column *runs) {
+void answer_encoding(sqlite3_context *context, const char *function, hv_column *runs, const logical_type *type) {
     hv_error error = {0, 0, 0};
     uint8_t *bytes = NULL;
     size_t size = 0;
-    const int32_t answer = encoding_bytes_write(runs, &bytes, &size, &error);
-    if (answer) refuse(context, function, answer, &error);
+    const int32_t answer = encoding_bytes_write(runs, type, &bytes, &size, &error);
+    if (answer == HV_TYPE_MISMATCH) fail(context, sqlite3_mprintf("%s: %s", function, not_utf8)); /* a name */
+    else if (answer) refuse(context, function, answer, &error);
     else sqlite3_result_blob64(context, bytes, size, free);
 }
 
-void answer_column(sqlite3_context *context, const char *function, const hv_column *column) {
+void answer_column(sqlite3_context *context, const char *function, const hv_column *column, const logical_type *type) {
     hv_error error = {0, 0, 0};
     hv_column runs = HV_EMPTY;
     const int32_t answer = hv_encode_rows(column, &runs, &error);
     if (answer) refuse(context, function, answer, &error);
-    else answer_encoding(context, function, &runs);
+    else answer_encoding(context, function, &runs, type);
     hv_free(&runs);
 }
 
@@ -199,6 +209,7 @@ static void concat_step(sqlite3_context *context, int count, sqlite3_value **val
     row_builder *rows = sqlite3_aggregate_context(context, sizeof *rows);
     hv_error error = {0, 0, 0};
     hv_column column = HV_EMPTY;
+    logical_type type;
     char *reason = NULL;
     (void)count;
     if (!rows) {
@@ -206,11 +217,11 @@ static void concat_step(sqlite3_context *context, int count, sqlite3_value **val
         return;
     }
     if (sqlite3_value_type(values[0]) == SQLITE_NULL) return;
-    if (!column_of("hv_concat", values[0], &column, &reason)) {
+    if (!typed_column_of("hv_concat", values[0], &column, &type, &reason)) {
         fail(context, reason);
         return;
     }
-    const int32_t answer = row_builder_add_column(rows, &column, &error);
+    const int32_t answer = row_builder_add_typed(rows, &column, &type, &error);
     if (answer == HV_TYPE_MISMATCH)
         fail(context, sqlite3_mprintf("hv_concat: a column of %s after columns of %s",
                                       kind_in_words(hv_kind_of(&column).number), kind_in_words(rows->kind)));
@@ -225,7 +236,7 @@ void finish_rows(sqlite3_context *context) {
     if (!rows) rows = &nothing;
     const int32_t answer = rows->rows > INT64_MAX ? HV_WINDOW_OVERFLOW : row_builder_finish(rows, &runs, &error);
     if (answer) refuse(context, sqlite3_user_data(context), answer, &error);
-    else answer_encoding(context, sqlite3_user_data(context), &runs);
+    else answer_encoding(context, sqlite3_user_data(context), &runs, &rows->type);
     row_builder_free(rows);
     hv_free(&runs);
 }
@@ -247,6 +258,7 @@ void answer_value(sqlite3_context *context, const row_value *value) {
 typedef struct question {
     sqlite3_context *context;
     hv_column *column;
+    const logical_type *type;
     sqlite3_value **values;
     hv_session session;
     hv_error error;
@@ -382,7 +394,7 @@ static int32_t ask_slice(question *asked) {
         return say(asked, sqlite3_mprintf("hv_slice: rows %lld to %lld are not among %lld rows", start, stop,
                                           (sqlite3_int64)hv_length(asked->column)));
     const int32_t answer = hv_slice(&asked->session, asked->column, (size_t)start, (size_t)stop, &part, &asked->error);
-    if (!answer) answer_column(asked->context, "hv_slice", &part);
+    if (!answer) answer_column(asked->context, "hv_slice", &part, asked->type);
     hv_free(&part);
     return answer;
 }
@@ -406,7 +418,7 @@ static int32_t ask_filter(question *asked) {
         answer = column_filter_floats(asked->column, question_of_number(operator_, asked->values[2]), NAN_UNORDERED,
                                       &kept, &asked->error);
     else answer = column_filter(asked->column, operator_, &value, &kept, &asked->error);
-    if (!answer) answer_column(asked->context, "hv_filter", &kept);
+    if (!answer) answer_column(asked->context, "hv_filter", &kept, asked->type);
     if (answer == HV_TYPE_MISMATCH) answer = say_not_compared(asked, &value);
     hv_free(&kept);
     return answer;
@@ -441,14 +453,15 @@ static const function functions[] = {
 static void ask(sqlite3_context *context, int count, sqlite3_value **values) {
     const function *called = sqlite3_user_data(context);
     hv_column column = HV_EMPTY;
+    logical_type type;
     char *reason = NULL;
     (void)count;
     if (sqlite3_value_type(values[0]) == SQLITE_NULL) return;
-    if (!column_of(called->name, values[0], &column, &reason)) {
+    if (!typed_column_of(called->name, values[0], &column, &type, &reason)) {
         fail(context, reason);
         return;
     }
-    question asked = {.context = context, .column = &column, .values = values};
+    question asked = {.context = context, .column = &column, .type = &type, .values = values};
     hv_session_initial(&asked.session);
     const int32_t answer = called->ask(&asked);
     if (answer) refuse(context, called->name, answer, &asked.error);

@@ -87,6 +87,11 @@ int main(void) {
         "SELECT length(hv_concat(x'68697665766967696C2074797065203120650A080110061801200128013A02003E'))",
         "SELECT length(hv_concat(x'0802B2010165BA010E080110061801200128013A02003E'))",
         "SELECT length(hv_concat(x'0802B201077473733A555443BA0114080110081801200128013A080700000000000000'))",
+        "SELECT length(hv_cast(c, 'tss:UTC')) + length(hv_cast(hv_cast(c, 'tss:UTC'), 'tsn:UTC')) FROM p",
+        "SELECT length(hv_cast(c, 'tdD')) + length(hv_logical_type(hv_cast(c, 'tdD'))) FROM p",
+        "SELECT length(hv_slice(d, 3, 90)) + length(hv_filter(d, '>', 3)) + length(hv_filter(d, c)) FROM p",
+        "SELECT length(hv_append(d, 7, 3)) + length(hv_buckets(d, 4)) FROM p",
+        "SELECT length(hv_concat(d)) FROM (SELECT d FROM p UNION ALL SELECT c FROM p UNION ALL SELECT d FROM p)",
     };
     static const char *const refused_statements[] = {
         "SELECT hv_sum(hv_column(9223372036854775000 + v * 100)) FROM t",
@@ -103,6 +108,10 @@ int main(void) {
         "SELECT hv_sum_all(c) FROM (SELECT c FROM p UNION ALL SELECT f FROM p)",
         "SELECT hv_sum(x'68697665766967696C2074797065203120670A080110071801200128013A040000C03F')",
         "SELECT hv_sum(x'0802B2010167BA0110080110071801200128013A040000C03F')",
+        "SELECT hv_cast(hv_cast(c, 'tsm:'), 'tss:') FROM p",
+        "SELECT hv_cast(w, 'tdD') FROM p",
+        "SELECT hv_append(d, 2147483648, 1) FROM p",
+        "SELECT hv_concat(c) FROM (SELECT d AS c FROM p UNION ALL SELECT hv_cast(c, 'tss:') FROM p)",
     };
     long all = 0;
     CHECK(sqlite3_open(":memory:", &db) == SQLITE_OK);
@@ -116,6 +125,9 @@ int main(void) {
     ask("CREATE TABLE p AS SELECT hv_column(v) AS c, hv_column('a text of number ' || v || ' and more, so that it is "
         "longer "
         "than any room that there is at first') AS w, hv_column(v / 4.0) AS f FROM t");
+    ask("CREATE TABLE q AS SELECT p.*, hv_cast(c, 'tdD') AS d FROM p");
+    ask("DROP TABLE p");
+    ask("ALTER TABLE q RENAME TO p");
     for (size_t i = 0; i < COUNT(statements); i++) all += refuse_each(statements[i], false);
     for (size_t i = 0; i < COUNT(refused_statements); i++) all += refuse_each(refused_statements[i], true);
     CHECK(sqlite3_close(db) == SQLITE_OK);

@@ -79,7 +79,7 @@ static void answer_pairs(sqlite3_context *context, const pairing *called, sqlite
         if (answer) reason = why(called, answer, &error, &columns[0], &columns[1]);
         done = !answer;
     }
-    if (done) answer_column(context, called->name, &out);
+    if (done) answer_column(context, called->name, &out, NULL);
     else fail(context, reason);
     hv_free(&columns[0]), hv_free(&columns[1]), hv_free(&out);
 }
@@ -110,7 +110,7 @@ static void ask_not(sqlite3_context *context, int count, sqlite3_value **values)
         if (answer) reason = why(&called, answer, &error, &column, &column);
         done = !answer;
     }
-    if (done) answer_column(context, "hv_not", &out);
+    if (done) answer_column(context, "hv_not", &out, NULL);
     else fail(context, reason);
     hv_free(&column), hv_free(&out);
 }
@@ -119,18 +119,19 @@ static void ask_not(sqlite3_context *context, int count, sqlite3_value **values)
 static void ask_where(sqlite3_context *context, int count, sqlite3_value **values) {
     static const pairing called = {"hv_filter", HV_NE, "a mask"};
     hv_column column = HV_EMPTY, mask = HV_EMPTY, out = HV_EMPTY;
+    logical_type type;
     hv_error error = {0, 0, 0};
     char *reason = NULL;
     (void)count;
     if (sqlite3_value_type(values[0]) == SQLITE_NULL || sqlite3_value_type(values[1]) == SQLITE_NULL) return;
-    bool done = column_of("hv_filter", values[0], &column, &reason) &&
+    bool done = typed_column_of("hv_filter", values[0], &column, &type, &reason) &&
                 column_of("hv_filter", values[1], &mask, &reason);
     if (done) {
         const int32_t answer = column_where(&column, &mask, &out, &error);
         if (answer) reason = why(&called, answer, &error, &mask, &mask);
         done = !answer;
     }
-    if (done) answer_column(context, "hv_filter", &out);
+    if (done) answer_column(context, "hv_filter", &out, &type);
     else fail(context, reason);
     hv_free(&column), hv_free(&mask), hv_free(&out);
 }

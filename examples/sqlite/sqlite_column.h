@@ -23,6 +23,9 @@ char *refusal(const char *function, int32_t answer, const hv_error *error);
 /* The column that a blob is; if it is none, false and the reason as with `refusal`, or null. */
 bool column_of(const char *function, sqlite3_value *value, hv_column *out, char **reason);
 
+/* The same with its logical type, whose name is borrowed of the blob. */
+bool typed_column_of(const char *function, sqlite3_value *value, hv_column *out, logical_type *type, char **reason);
+
 /* The SQL value as a row of a column. */
 row_value row_value_of(sqlite3_value *from);
 
@@ -34,11 +37,11 @@ float_question question_of_number(uint8_t operator_, sqlite3_value *number);
 
 void answer_value(sqlite3_context *context, const row_value *value);
 
-/* Answers the bytes of a column, encoded. */
-void answer_column(sqlite3_context *context, const char *function, const hv_column *column);
+/* Answers the bytes of a column, encoded; a logical type may be null. */
+void answer_column(sqlite3_context *context, const char *function, const hv_column *column, const logical_type *type);
 
 /* Answers the bytes of an encoding, which may be changed. */
-void answer_encoding(sqlite3_context *context, const char *function, hv_column *runs);
+void answer_encoding(sqlite3_context *context, const char *function, hv_column *runs, const logical_type *type);
 
 /* Answers the rows of an aggregate, which are in SQLite's memory for it as a row_builder, and frees them. It is called
  * where a statement ends early too. The function's data is its name. */
@@ -56,7 +59,7 @@ int register_pairs(sqlite3 *db);
 /* hv_append, and the aggregates hv_repeat and hv_sum_all. */
 int register_appends(sqlite3 *db);
 
-/* hv_steps, hv_totals, hv_buckets, hv_step_buckets. */
+/* hv_steps, hv_totals, hv_buckets, hv_step_buckets, hv_cast, hv_logical_type. */
 int register_steps(sqlite3 *db);
 
 /* The table-valued functions hv_runs and hv_groups. */

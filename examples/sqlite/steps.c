@@ -1,4 +1,5 @@
-/* Times, or any integers, as steps from row to row, and the buckets in which they lie. */
+/* Times, or any integers, as steps from row to row, the buckets in which they lie, and the logical type that says in
+ * which unit they count. */
 #include "../engines/run_steps.h"
 #include "sqlite_column.h"
 
@@ -22,16 +23,17 @@ typedef struct conversion {
 
 static void answer_made(sqlite3_context *context, const conversion *called, sqlite3_value *from, bucket_grid grid) {
     hv_column column = HV_EMPTY, made = HV_EMPTY;
+    logical_type type;
     hv_error error = {0, 0, 0};
     char *reason = NULL;
-    if (!column_of(called->name, from, &column, &reason)) {
+    if (!typed_column_of(called->name, from, &column, &type, &reason)) {
         fail(context, reason);
         return;
     }
     const int32_t answer = called->find ? called->find(&column, grid, &made, &error)
                                         : called->convert(&column, &made, &error);
     if (answer) fail(context, why(called->name, answer, &error, &column));
-    else answer_encoding(context, called->name, &made);
+    else answer_encoding(context, called->name, &made, called->find ? &type : NULL); /* a bucket begins at a time */
     hv_free(&column), hv_free(&made);
 }
 
@@ -64,6 +66,49 @@ static void ask_buckets(sqlite3_context *context, int count, sqlite3_value **val
                                       (sqlite3_int64)grid.width));
 }
 
+/* ---- Logical types ---- */
+
+/* The format of Arrow; NULL for a column without a logical type. */
+static void ask_logical_type(sqlite3_context *context, int count, sqlite3_value **values) {
+    hv_column column = HV_EMPTY;
+    logical_type type;
+    char *reason = NULL;
+    (void)count;
+    if (sqlite3_value_type(values[0]) == SQLITE_NULL) return;
+    if (!typed_column_of("hv_logical_type", values[0], &column, &type, &reason)) fail(context, reason);
+    else if (is_float_type(hv_kind_of(&column).number)) sqlite3_result_text(context, "g", 1, SQLITE_STATIC);
+    else if (type.len)
+        sqlite3_result_text64(context, (const char *)type.format, type.len, SQLITE_TRANSIENT, SQLITE_UTF8);
+    hv_free(&column);
+}
+
+/* A column without a logical type has integers that mean what the type says; an empty name takes a type away. */
+static void ask_cast(sqlite3_context *context, int count, sqlite3_value **values) {
+    hv_column column = HV_EMPTY, counted = HV_EMPTY;
+    logical_type from, to;
+    hv_error error = {0, 0, 0};
+    char *reason = NULL;
+    (void)count;
+    if (sqlite3_value_type(values[0]) == SQLITE_NULL || sqlite3_value_type(values[1]) == SQLITE_NULL) return;
+    const unsigned char *name = sqlite3_value_text(values[1]);
+    if (!name || logical_type_named(name, (size_t)sqlite3_value_bytes(values[1]), &to)) {
+        fail(context, name ? sqlite3_mprintf("hv_cast: a logical type is '' or a format of dates and times, as 'tdD' "
+                                             "and 'tsu:UTC'")
+                           : NULL);
+        return;
+    }
+    if (!typed_column_of("hv_cast", values[0], &column, &from, &reason)) {
+        fail(context, reason);
+        return;
+    }
+    const int32_t answer = column_recount(&column, &from, &to, &counted, &error);
+    if (answer == HV_TYPE_MISMATCH)
+        fail(context, sqlite3_mprintf("hv_cast: the column does not count what the logical type does"));
+    else if (answer) refuse(context, "hv_cast", answer, &error);
+    else answer_column(context, "hv_cast", &counted, &to);
+    hv_free(&column), hv_free(&counted);
+}
+
 int register_steps(sqlite3 *db) {
     static const conversion conversions[] = {{"hv_steps", column_steps, NULL}, {"hv_totals", column_totals, NULL}};
     static const conversion buckets[] = {{"hv_buckets", NULL, column_buckets},
@@ -76,5 +121,8 @@ int register_steps(sqlite3 *db) {
     for (int i = 0; !answer && i < 4; i++)
         answer = sqlite3_create_function(db, buckets[i / 2].name, 2 + i % 2, flags, (void *)&buckets[i / 2],
                                          ask_buckets, NULL, NULL);
+    if (!answer) answer = sqlite3_create_function(db, "hv_cast", 2, flags, NULL, ask_cast, NULL, NULL);
+    if (!answer)
+        answer = sqlite3_create_function(db, "hv_logical_type", 1, flags, NULL, ask_logical_type, NULL, NULL);
     return answer;
 }

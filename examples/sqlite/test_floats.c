@@ -226,10 +226,11 @@ static void check_typed(void) {
     CHECK_SQL("SELECT count(DISTINCT c), count(DISTINCT hv_concat) FROM (SELECT c, hv_concat(c) AS hv_concat FROM (SELECT "
               "x'" TYPED("66", "10") FLAT_OF("07", "01") "3A04" "0100807F" "' AS c UNION ALL SELECT x'" LINE("66")
               FLAT_OF("07", "01") "3A04" "0100807F" "') GROUP BY c)", "2|1");
-    /* times, as Python writes them, are their numbers here; so are rows of a type that nobody knows */
+    /* times, as Python writes them, are their numbers, and keep what these mean; so are rows of a type that nobody knows */
     CHECK_SQL("SELECT hv_type(c), hv_sum(c), hex(hv_concat(c)) FROM (SELECT x'0802B201077473733A555443BA0114"
               "080110081801200128013A080700000000000000' AS c)",
-              "integer|7|0801100818022001400048015201015A14080110081801200128013A080700000000000000");
+              "integer|7|0802B201077473733A555443BA0125"
+              "0801100818022001400048015201015A14080110081801200128013A080700000000000000");
     CHECK_SQL("SELECT hv_type(c), hv_sum(c) FROM (SELECT x'0802B201026767BA0110080110071801200128013A0407000000' AS c)",
               "integer|7");
     /* keys of other floats, texts, no name, a type within a type, a line before one, and what is cut short */

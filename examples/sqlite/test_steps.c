@@ -259,6 +259,67 @@ static size_t check_broken(size_t count) {
     return refused;
 }
 
+/* ---- Logical types, as Python writes them ---- */
+
+/* The days 20454 null -719162, of i32; the seconds 1767225600 null of UTC. */
+#define DAYS "x'0802B20103746444BA011B080110071801200328043201053A0CE64F000000000000C606F5FF'"
+#define SECONDS "x'0802B201077473733A555443BA011F080110081801200228043201013A1000B95569000000000000000000000000'"
+
+static void check_types(void) {
+    CHECK_SQL("SELECT hv_logical_type(" DAYS "), hv_logical_type(" SECONDS "), hv_logical_type(c), hv_logical_type(s), "
+              "hv_logical_type(hv_column(0.5)), hv_logical_type(NULL), hv_logical_type(hv_slice(" DAYS ", 1, 2)) FROM p",
+              "tdD|tss:UTC|NULL|NULL|g|NULL|NULL");
+    CHECK_SQL("SELECT start, stop, date(value * 86400, 'unixepoch') FROM hv_runs(" DAYS ")",
+              "0|1|2026-01-01 1|2|NULL 2|3|0001-01-01");
+    CHECK_SQL("SELECT datetime(value, 'unixepoch') FROM hv_runs(hv_cast(hv_cast(" SECONDS ", 'tsn:UTC'), 'tss:UTC'))",
+              "2026-01-01 00:00:00 NULL");
+    CHECK_SQL("SELECT value FROM (SELECT hv_cast(hv_column(v), 'tsu:UTC') AS c FROM (SELECT -1 AS v UNION ALL SELECT "
+              "NULL UNION ALL SELECT 1999999)), hv_runs(hv_cast(hv_buckets(c, 1000000), 'tss:UTC'))", "-1 NULL 1");
+    CHECK_SQL("SELECT hex(hv_slice(" DAYS ", 2, 3)), hex(hv_cast(hv_slice(" DAYS ", 2, 3), ''))",
+              "0802B20103746444BA01210801100718022001400048015201015A10080110071801200128013A04C606F5FF|"
+              "0801100818022001400048015201015A14080110081801200128013A08C606F5FFFFFFFFFF");
+    /* other rows of a type than numbers, which Python does not write: a text, and a truth */
+    CHECK_SQL("SELECT hv_logical_type(t), hv_at(t, 0), hv_logical_type(hv_append(t, 'b', 1)), hv_cast(t, '') = "
+              "hv_column('a') FROM (SELECT x'0802B20103746444BA01100801100B1801200128016201016A0161' AS t) GROUP BY t",
+              "tdD|a|tdD|1");
+    CHECK_SQL("SELECT hv_logical_type(b), hv_at(b, 0) FROM (SELECT x'0802B20103746444BA010D080110091801200128013A0101' "
+              "AS b)", "NULL|1");
+    /* rows of a type and rows without one, in either order; rows that are only null have no say */
+    CHECK_SQL("SELECT hv_logical_type(hv_concat(c)), hv_rows(hv_concat(c)) FROM (SELECT c FROM p UNION ALL SELECT " DAYS
+              " UNION ALL SELECT hv_slice(" SECONDS ", 1, 2))", "tdD|8");
+    CHECK_SQL("SELECT hv_logical_type(hv_append(hv_slice(" DAYS ", 1, 2), 'a', 1)), "
+              "hv_logical_type(hv_append(hv_cast(nulls, 'tdD'), 7, 1)), hv_sum(hv_cast(ones, 'tsn:')) FROM p",
+              "NULL|NULL|1152921504606846976");
+    /* what is made of two columns, and steps, are numbers; the bucket of a day is one */
+    CHECK_SQL("SELECT hv_logical_type(hv_add(d, 1)), hv_logical_type(hv_steps(d)), hv_logical_type(hv_buckets(d, 7)), "
+              "hv_logical_type(hv_step_buckets(hv_steps(d), 7)) FROM (SELECT hv_append(" DAYS ", 3, 1) AS d)",
+              "NULL|NULL|tdD|NULL");
+}
+
+static void check_types_refused(void) {
+    const char *const other = "error: hv_cast: the column does not count what the logical type does";
+    CHECK_SQL("SELECT hv_concat(c) FROM (SELECT " DAYS " AS c UNION ALL SELECT " SECONDS ")",
+              "error: hv_concat: columns of two logical types");
+    CHECK_SQL("SELECT hv_cast(" DAYS ", 'tss:UTC')", other);
+    CHECK_SQL("SELECT hv_cast(" SECONDS ", 'tsn:')", other);
+    CHECK_SQL("SELECT hv_cast(" SECONDS ", 'tts')", other);
+    CHECK_SQL("SELECT hv_cast(s, 'tdD') FROM p", other);
+    CHECK_SQL("SELECT hv_cast(hv_column(0.5), '')", other);
+    CHECK_SQL("SELECT hv_cast(hv_column(v), 'tdD') FROM (SELECT 1 AS v UNION ALL SELECT NULL UNION ALL SELECT "
+              "-2147483649)", "error: hv_cast: row 2 has no number of the logical type");
+    CHECK_SQL("SELECT hv_cast(hv_append(" SECONDS ", 10000000000, 4), 'tsn:UTC') FROM p",
+              "error: hv_cast: row 2 has no number of the logical type");
+    CHECK_SQL("SELECT hv_append(" DAYS ", " LARGEST ", 1)",
+              "error: hv_append: row 3 has no number of the logical type");
+    CHECK_SQL("SELECT hv_buckets(" DAYS ", " LARGEST ")", "error: hv_buckets: row 2 has no number of the logical type");
+    CHECK_SQL("SELECT hv_cast(c, 'tsu') FROM p",
+              "error: hv_cast: a logical type is '' or a format of dates and times, as 'tdD' and 'tsu:UTC'");
+    CHECK_SQL("SELECT hv_cast(c, CAST(x'7473753AC328' AS TEXT)) FROM p", "error: hv_cast: a text is not UTF-8");
+    CHECK_SQL("SELECT hv_cast(7, 'tdD')", "error: hv_cast: a column is a blob, and this is an integer");
+    CHECK_SQL("SELECT hv_logical_type(x'0802B20103746444BA01')", "error: hv_logical_type: the blob is not a column");
+    CHECK_SQL("SELECT hv_cast(NULL, 'tdD'), hv_cast(c, NULL) FROM p", "NULL|NULL");
+}
+
 int main(int count, char **words) {
     const size_t tables = 300, broken = 2000;
     open_database(count > 1 ? words[1] : NULL);
@@ -271,6 +332,8 @@ int main(int count, char **words) {
     check_buckets();
     check_days();
     check_booleans();
+    check_types();
+    check_types_refused();
     ask("CREATE TABLE r(v)");
     ask("CREATE TABLE k AS SELECT 1 AS w, 0 AS o, 0 AS n, 0 AS a");
     for (size_t table = 0; table < tables; table++) make_table(), check_table();
