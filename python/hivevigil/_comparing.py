@@ -109,8 +109,10 @@ def are_compared(left: Optional[LogicalType], right: Optional[LogicalType]) -> b
 
 
 def is_number(value: Any) -> bool:
-    """Whether a value has a place among numbers: an integer, a Decimal, a Fraction, a float."""
-    return (is_whole(value) or isinstance(value, (Decimal, Real))) and not is_truth(value)
+    """Whether a value has a place among numbers: an integer, a Decimal, a Fraction, a float. A duration of NumPy, which
+    is among its integers, has none."""
+    is_duration = type(value).__name__ == "timedelta64"
+    return (is_whole(value) or isinstance(value, (Decimal, Real))) and not is_truth(value) and not is_duration
 
 
 def _place(value: Any, scale: int) -> tuple[int, bool]:

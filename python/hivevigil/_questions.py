@@ -127,7 +127,7 @@ def has(column: Column, value: Any) -> bool:
     if is_array(value) and getattr(value, "ndim", 1) > 0:
         raise TypeError(f"a row is one value, not {in_words(value)}")
     if column.form == "constant":
-        return column._length > 0 and bool(column[0] == value)
+        return has(column.values(), value)
     if column.form == "runs":
         shown = _runs.span(column)
         return has(column.values().slice(shown.start, shown.stop), value)

@@ -7,7 +7,7 @@ from __future__ import annotations
 import ctypes
 from typing import TYPE_CHECKING, Any
 
-from . import _decimals, _lists, _runs
+from . import _decimals, _floats, _lists, _runs, _times
 from ._indexing import mask_of
 from ._library import Handle, Kind, ask, calls
 from ._making import listed
@@ -82,6 +82,10 @@ def is_among(column: Column, values: Any) -> Column:
     given, nothing = listed(values, "values"), column[:0]
     for value in given:
         nothing.eq(value)  # refused of a value of another sort
+    logical = column._logical
+    if logical is not None and not _floats.is_float(logical):  # equal times have several values, with other hashes
+        given = [None if is_missing(value) else _times.exact(logical, value) for value in given]
+        column = column.storage()
     wanted = {bytes(value) if isinstance(value, (bytearray, memoryview)) else value for value in given}
     has_null = None in wanted
     runs = list(column.runs())
