@@ -17,6 +17,7 @@ import math
 import operator
 from collections.abc import Iterable
 from dataclasses import dataclass, replace
+from datetime import datetime, timezone
 from fractions import Fraction
 from typing import Any, NamedTuple, Optional
 
@@ -230,7 +231,7 @@ def _chosen(choose: Any, left: Any, right: Any) -> Any:
     """The lesser or the greater of two values, of which None is neither."""
     if left is None or right is None:
         return right if left is None else left
-    return choose(left, right)
+    return choose(left, right, key=_place)
 
 
 def _joined_sums(left: Any, right: Any) -> Any:
@@ -239,8 +240,11 @@ def _joined_sums(left: Any, right: Any) -> Any:
 
 
 def _place(row: Any) -> Any:
-    """A row as it is compared with others: a float by its place in the total order."""
-    return _floats.key_of_bits("64", _floats.bits_of(_WIDE, row)) if isinstance(row, float) else row
+    """A row as it is compared with others: a float by its place in the total order, a time of a zone in UTC, since
+    Python compares those of one zone by their clocks, and these are put back."""
+    if isinstance(row, float):
+        return _floats.key_of_bits("64", _floats.bits_of(_WIDE, row))
+    return row.astimezone(timezone.utc) if isinstance(row, datetime) and row.tzinfo is not None else row
 
 
 def _is_same(left: Any, right: Any) -> bool:

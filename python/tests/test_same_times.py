@@ -11,6 +11,7 @@ from hypothesis import given
 from hypothesis import strategies as st
 
 from hivevigil import Column
+from hivevigil.chunks import Partial, joined
 
 BERLIN, UTC = ZoneInfo("Europe/Berlin"), timezone.utc
 ZONES = [BERLIN, UTC, ZoneInfo("America/New_York"), timezone(timedelta(hours=2))]
@@ -87,3 +88,27 @@ def test_a_duration_of_numpy_is_not_a_number(row):
     if not isinstance(row, timedelta):
         with pytest.raises(TypeError, match="not numpy.timedelta64"):
             column < numpy.timedelta64(5, "D")
+
+
+@given(st.lists(st.lists(halves | st.none(), min_size=1, max_size=3), min_size=1, max_size=4))
+def test_parts_are_joined_by_their_instants(parts):
+    name = "timestamp[s, Europe/Berlin]?"
+    whole = joined(Partial.of(Column.of([row and row.astimezone(BERLIN) for row in part], name)) for part in parts)
+    rows = [place(row) for part in parts for row in part]
+    present = [row for row in rows if row is not None]
+    assert (place(whole.least), place(whole.greatest)) == (min(present, default=None), max(present, default=None))
+    assert whole.runs == sum(not at or rows[at - 1] != row for at, row in enumerate(rows))
+    ordered = [-(10**15) if row is None else row for row in rows]  # null is below all else
+    pairs = list(zip(ordered, ordered[1:]))
+    assert whole.is_sorted == all(one <= other for one, other in pairs)
+    assert whole.is_strictly_sorted == all(one < other for one, other in pairs)
+    first, last = whole.first, whole.last
+    assert (place(first.value), place(last.value)) == (rows[0], rows[-1])
+    assert {*rows[: first.rows]} == {rows[0]} and {*rows[len(rows) - last.rows :]} == {rows[-1]}
+    assert rows[first.rows : first.rows + 1] != rows[:1] and rows[: len(rows) - last.rows][-1:] != rows[-1:]
+
+
+def test_zeros_of_parts():
+    for rows in ([0.0, -0.0], [-0.0, 0.0]):
+        whole = joined(Partial.of(Column.of([row])) for row in rows)
+        assert str((whole.least, whole.greatest)) == "(-0.0, 0.0)"
