@@ -6,10 +6,11 @@ from __future__ import annotations
 
 from typing import TYPE_CHECKING, Any
 
-from . import _decimals, _float_pairs, _floats
+from . import _comparing, _decimals, _float_pairs, _floats
 from ._library import calls
 from ._making import is_array
 from ._rows import constant_of
+from ._values import is_whole
 from .errors import CastOutOfRange, TypeMismatch, Unsupported, in_words
 
 if TYPE_CHECKING:
@@ -20,6 +21,7 @@ SIGNS = {
     "+": (6, "added"), "-": (7, "subtracted"), "*": (8, "multiplied"), "&": (9, "connected"), "|": (10, "connected"),
     "coalesce": (11, "picked from"), "lesser": (12, "picked from"), "greater": (13, "picked from"), "/": (14, "divided"),
 }
+_PICKS = ("coalesce", "lesser", "greater")  # whose answers are rows of the two
 
 
 class Pairs:
@@ -95,20 +97,37 @@ def worked(column: Any, sign: str, other: Any, is_left: bool = True) -> Column:
     is_of_floats = sign == "/" or any(_floats.is_float(each._logical) for each in (left, right))
     if is_of_floats and sign in _float_pairs.NUMBERS and _float_pairs.are_numbers(left, right):
         return _float_pairs.worked(left, sign, right)
-    if is_of_floats:  # keys of floats are not integers to be worked with
+    if is_of_floats and (sign != "coalesce" or left._logical != right._logical):  # keys of floats are not integers
         raise TypeMismatch().saying(f"{_type_of(left)} and {_type_of(right)} are not {done}")
+    _refuse_other_times(left, right, sign)
     if sign not in ("*", "&", "|"):
         left, right = _decimals.together(left, right, sign)
     if sign in "+-*" and all(_decimals.is_decimal(each) for each in (left, right)):
         return _decimals.worked(left, sign, number, done, right)
     try:
-        return column._made(calls.hv_combine, left, number, left._beside(right))  # type: ignore[no-any-return]
+        made: Column = column._made(calls.hv_combine, left, number, left._beside(right))
+        return made._meaning(left._logical if sign in _PICKS and right._logical is not None else None)
     except CastOutOfRange as past:
         row = past.fields[0]
         said = f"row {row} is {left.at(row)} {sign} {right.at(row)}, which does not fit {_type_of(left)}"
         raise past.saying(said) from None
     except (TypeMismatch, Unsupported) as refused:
         raise refused.saying(f"{_type_of(left)} and {_type_of(right)} are not {done}") from None
+
+
+def _refuse_other_times(left: Any, right: Any, sign: str) -> None:
+    """Refuses times whose integers count two units, or of which only one has a zone; rows are picked of one kind."""
+    one, other = left._logical, right._logical
+    if one is None or other is None:
+        return
+    if sign in _PICKS:
+        is_alike = _comparing.are_compared(one, other)
+    else:
+        are_timestamps = one.sort == other.sort == "timestamp"
+        is_alike = one.unit == other.unit and not (are_timestamps and bool(one.zone) != bool(other.zone))
+    if not is_alike:
+        hint = "column.cast counts times in another unit, and column.storage() has the integers"
+        raise TypeMismatch().saying(f"{one} and {other} are not {SIGNS[sign][1]}: {hint}")
 
 
 def _type_of(column: Any) -> str:
@@ -120,7 +139,8 @@ def _constant(column: Any, sign: str, value: Any) -> Column:
     if isinstance(value, (list, tuple, range)) or is_array(value) and getattr(value, "ndim", 1) > 0:
         made = f"Column.of(..) makes one of {in_words(value)}"
         raise TypeError(f"a column is worked with a column or one value: {made}")
-    if column._logical is not None and not _floats.is_float(column._logical):  # work is on the integers
+    is_time = column._logical is not None and not _floats.is_float(column._logical)
+    if is_time and (sign not in _PICKS or is_whole(value)):  # work is on the integers
         column = column.storage()
     if sign in "+-*" and _decimals.is_decimal(column):
         return _decimals.beside(column, sign, value)
