@@ -6,7 +6,7 @@ import ctypes
 from typing import TYPE_CHECKING, Any, Callable, Optional
 
 from . import _floats, _reading, _runs
-from ._library import Kind, ask, calls, session
+from ._library import Kind, ask, calls
 from ._making import numbers_of, validity_of
 from ._types import TYPES, WHOLE_NUMBERS, range_of
 from ._values import NOT_FLOAT, is_missing, operator_of
@@ -26,14 +26,18 @@ _WIDE = LogicalType("float", "64")
 
 def bits(column: Column) -> Column:
     """The bits of the floats, as integers without sign in the form of the column."""
+    return _of_values(column, lambda values: values._made(calls.hv_float_decode, values))
+
+
+def _of_values(column: Column, make: Callable[[Column], Column]) -> Column:
+    """What is made of the floats, of each run once, in the form of the column."""
     rows = column._length
     if column.form == "constant" and rows:
-        one = column._made(calls.hv_float_decode, column.slice(0, 1))
+        one = make(column.slice(0, 1))
         return column.constant(one[0], rows, one.type)
     if column.form == "runs":
-        values = column._made(calls.hv_float_decode, column.values())
-        return column.from_runs(column.ends(), values, column.offset, rows)
-    return column._made(calls.hv_float_decode, column)
+        return column.from_runs(column.ends(), make(column.values()), column.offset, rows)
+    return make(column)
 
 
 def of_bits(words: Column, logical: LogicalType) -> Column:
@@ -43,8 +47,9 @@ def of_bits(words: Column, logical: LogicalType) -> Column:
 
 
 def _one_pattern_each(column: Column) -> Column:
-    """The keys of the same numbers, with one zero and one NaN, which is above all else."""
-    return column._made(calls.hv_float_encode, bits(column), _CANONICAL)
+    """The keys of the same numbers, with one zero and one NaN, which is above all else; flat of a flat column."""
+    made = column._made(calls.hv_float_encode, bits(column), _CANONICAL)
+    return made.decode() if column.form == "flat" else made
 
 
 # ---- Arrays ----
@@ -199,21 +204,21 @@ def with_value(column: Column, sign: str, value: Any) -> Column:
 
 
 def with_column(column: Column, sign: str, right: Column) -> Column:
-    """Row by row whether `row sign other`, as numbers by IEEE 754. Keys of one pattern for each value compare as numbers
-    do, but those of a NaN, which is above all else."""
+    """Row by row whether `row sign other`, as numbers by IEEE 754, by the runs of both, unless both are flat. Keys of one
+    pattern for each value compare as numbers do, but those of a NaN, which is above all else."""
     if column._logical != right._logical:
         column, right = (converted(each, storage_of(_WIDE, True), _WIDE, "compare") for each in (column, right))
     if sign == "!=":
         return _flipped(with_column(column, "==", right))
-    left_keys, right_keys = _one_pattern_each(column), _one_pattern_each(right)
-    holds = column._made(calls.hv_compare, session, left_keys, operator_of(sign), left_keys._beside(right_keys))
+    holds = _one_pattern_each(column).compare(sign, _one_pattern_each(right))
     bounded = right if sign in ("<", "<=") else column
-    return holds.gt(_flipped(with_value(bounded, "<=", float("inf"))))  # both: where a NaN is bounded, it holds of none
+    is_number = _of_values(bounded, lambda values: with_value(values, "<=", float("inf")))
+    return holds.gt(_flipped(is_number))  # both: where a NaN is bounded, it holds of none
 
 
 def _flipped(mask: Column) -> Column:
-    """The mask of the other rows."""
-    return mask.eq(False)
+    """The mask of the other rows, flat of a flat one."""
+    return mask.eq(False) if mask.form == "flat" else ~mask
 
 
 # ---- Conversions ----
