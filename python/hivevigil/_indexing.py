@@ -2,9 +2,11 @@
 from __future__ import annotations
 
 import array
+import functools
 from collections.abc import Callable
 from typing import TYPE_CHECKING, Any, Optional
 
+from . import _lists, _runs
 from ._making import is_array, listed
 from ._types import SIGNED, WHOLE_NUMBERS
 from ._values import is_truth, row_of, whole
@@ -57,7 +59,33 @@ def _cut(column: Column, key: slice) -> Callable[[Column], Column]:
         return lambda each: each.slice(start, max(start, stop))
     if step == -1:
         return lambda each: _turned(each.slice(stop + 1, max(start, stop) + 1))
-    return _take(column.of(array.array("Q", range(start, stop, step))))
+    rows = range(start, stop, step)
+    if not rows:
+        return lambda each: each.slice(0, 0)
+    indices = functools.lru_cache(maxsize=1)(lambda: column.of(array.array("Q", rows)))  # where a column asks
+
+    def choose(each: Column) -> Column:
+        found = _at_steps(each, rows if step > 0 else rows[::-1])
+        if found is None:
+            return each.take(indices())
+        return found if step > 0 else found.reverse()
+
+    return choose
+
+
+def _at_steps(column: Column, rows: range) -> Optional[Column]:
+    """Rows at equal steps, in ascending order, by the runs of a column; None of one that is not in runs, or shows more
+    runs there than rows are chosen."""
+    part, count = column.slice(rows[0], rows[-1] + 1), (rows[-1] - rows[0]) // rows.step + 1
+    if part.form == "constant":
+        return part.slice(0, count)
+    if part.form != "runs" or _lists.is_list(part) or len(_runs.span(part)) > count:
+        return None
+    shown = _runs.visible(part)
+    ends = [-(-stop // rows.step) for stop in shown.stops]
+    kept = [run for run, (before, end) in enumerate(zip([0, *ends], ends)) if before < end]
+    values = shown.values.take(column.of(array.array("Q", kept)))
+    return column.from_runs(array.array("Q", map(ends.__getitem__, kept)), values).to_runs()
 
 
 def _turned(column: Column) -> Column:

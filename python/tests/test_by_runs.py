@@ -3,10 +3,11 @@ lists."""
 import itertools
 import math
 import operator
+import random
 
 import pytest
 
-from hivevigil import Column
+from hivevigil import Column, Table
 
 FAR = 2**40  # rows of each run
 COMPARE = {
@@ -44,3 +45,36 @@ def test_two_columns_of_floats_are_compared(sign, other):
             assert made.to_list() == due and (made.form == "flat") == (left.form == right.form == "flat")
     one = Column.constant(1.5, FAR)
     assert COMPARE[sign](one, Column.constant(2.5, FAR)).is_constant()
+
+
+@pytest.mark.parametrize("seed", range(8))
+def test_rows_at_equal_steps(seed):
+    choice = random.Random(seed)
+    rows = [choice.choice([None, 7, 8]) for _ in range(choice.randrange(0, 9)) for _ in range(choice.randrange(1, 4))]
+    steps = [None, *range(-4, 0), *range(1, 5), 30, -30]
+    for column in forms(rows, "i64?")[:3] if rows else [Column.of([], "i64?"), Column.constant(7, 0)]:
+        for start, stop, step in itertools.product((None, 0, 1, -2, 40), (None, 0, 5, -1, -40), steps):
+            cut = slice(start, stop, step)
+            assert column[cut].to_list() == rows[cut], cut
+            assert Table({"x": column, "y": column.decode()})[cut].to_dict() == {"x": rows[cut], "y": rows[cut]}
+
+
+def test_every_other_row_of_long_runs():
+    column = long_runs(["a", None, "b"])
+    for step in (2, 3, -2, -7):
+        chosen = range(0, 3 * FAR)[::step]
+        found = column[::step]
+        assert len(found) == len(chosen) and found.form == "runs"
+        for place in (0, 1, len(chosen) // 3, len(chosen) // 2, len(chosen) - 1):
+            assert found[place] == ["a", None, "b"][chosen[place] // FAR]
+        runs = [[place for place in (0, len(chosen) - 1) if chosen[place] // FAR == run] for run in range(3)]
+        assert found.run_count() == 3 and sorted(map(len, runs)) == [0, 1, 1]
+    assert len(Column.constant(7, 2**64 - 1)[5 : 2**63 : 2**40]) == len(range(5, 2**63, 2**40))
+
+
+def test_few_rows_of_many_runs():
+    numbers = [row * row for row in range(5000)]
+    runs = Column.of(numbers).to_runs()
+    assert runs[::1000].to_list() == numbers[::1000] and runs[4000:10:-999].to_list() == numbers[4000:10:-999]
+    lists = Column.from_lists([1, 2, 3], [0, 1], [1, 2])
+    assert lists[::2].to_list() == [[1]] and lists[::-2].to_list() == [[2, 3]]
