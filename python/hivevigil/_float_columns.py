@@ -63,6 +63,7 @@ def of_array(kind: type[Column], items: Any) -> Optional[Column]:
     native: Any = getattr(getattr(items, "dtype", None), "numpy_dtype", getattr(items, "dtype", None))
     if getattr(native, "kind", "") != "f":
         return None
+    native = getattr(native, "subtype", native)  # of a sparse array
     if getattr(items, "ndim", 1) != 1:
         raise ValueError(f"a column has one dimension, and the array has {items.ndim}")
     if native.itemsize > 8:

@@ -333,6 +333,17 @@ def _unmasked(items: Any) -> Any:
     return numpy.where(masks.getmaskarray(items), items.dtype.type("NaT"), items.data)
 
 
+def coded(items: Any) -> tuple[Made, Any]:
+    """The codes of categories of pandas, null where a row is missing, and the categories that rows have."""
+    import numpy
+
+    used = getattr(items, "array", items).remove_unused_categories()
+    codes = numpy.asarray(used.codes)
+    valid: Any = codes >= 0
+    numbers = numpy.where(valid, codes, 0).astype("u8")
+    return numbers_of(numbers, validity_of(None if valid.all() else valid, len(numbers))), used.categories
+
+
 def of_pandas(items: Any) -> Made:
     """A Series, an Index or an array of pandas; what pandas calls missing is null."""
     import numpy

@@ -142,6 +142,9 @@ class Column(_comparing.Comparisons, _pairs.Pairs):
     def _of_array(cls, rows: Any) -> Column:
         if isinstance(rows, Column):
             return rows.copy()
+        if hasattr(getattr(rows, "dtype", None), "categories"):
+            codes, values = _making.coded(rows)
+            return cls._made(*codes).take_from(cls._of_array(values))
         floats = _float_columns.of_array(cls, rows)
         if floats is not None:
             return floats

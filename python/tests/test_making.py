@@ -1,5 +1,6 @@
 """What Column.of makes of lists, buffers, NumPy and pandas: types by hand, and what it refuses."""
 import array
+import math
 from datetime import date
 from decimal import Decimal
 
@@ -241,3 +242,30 @@ def test_a_constant_takes_no_room():
     assert (column._length, column.type, column[2**59], column.run_count()) == (2**60, "utf8", "Oslo", 1)
     assert column[2**59 : 2**59 + 2].to_list() == ["Oslo", "Oslo"]
     assert Column.constant(2**63, 1).type == "u64" and Column.constant(None, 2, "i8?").to_list() == [None, None]
+
+
+CATEGORIES = [
+    ["a", None, "b", "a"], [3, 3, None, 2**40], [1.5, -0.5, 1.5], [pandas.Timestamp(2024, 1, 2), None], ["a"] * 3,
+]
+
+
+@pytest.mark.parametrize("rows", CATEGORIES)
+def test_categories_of_pandas(rows):
+    series = pandas.Series(rows, dtype="category")
+    unused = series.cat.add_categories([type(rows[0])(7)])
+    for given_rows in (series, series.array, pandas.Index(series), unused, series[::-1][::-1], unused.cat.as_ordered()):
+        made = Column.of(given_rows)
+        assert made.to_list() == rows and made.nullable == (None in rows)
+        assert made.type.rstrip("?") == Column.of(rows).type.rstrip("?")
+    if isinstance(rows[0], str):  # objects of any class
+        with pytest.raises(ValueError, match="^no row tells a type"):
+            Column.of(series[:0])
+    else:
+        assert Column.of(series[:0]).type == Column.of(rows).type.rstrip("?")
+
+
+def test_sparse_arrays_of_pandas():
+    for rows in ([0.0, math.nan, 1.5], [0, 0, 7], [True, False]):
+        sparse = pandas.arrays.SparseArray(rows)
+        expected = [None if row != row else row for row in rows]
+        assert Column.of(sparse).to_list() == Column.of(pandas.Series(sparse)).to_list() == expected
