@@ -459,16 +459,18 @@ class Column(_comparing.Comparisons, _pairs.Pairs):
         """How many rows are null, counted by runs."""
         return int(calls.hv_null_count(self._there()))
 
-    def sum(self) -> Any:
+    def sum(self, axis: None = None, dtype: None = None, out: None = None) -> Any:
         """The sum of the rows that are not null, 0 where there is none; a duration of durations, and of no other times.
         OverflowError where it leaves 64 bits, or of decimals 38 digits, on the way from row to row, which names the row. A
         sum of floats is exact and rounded once, an infinity past the finite floats, and NaN where a row is or both
-        infinities are."""
+        infinities are. What numpy.sum passes is served only as None, as of `mean`, `min`, `max`, `any` and `all`."""
+        _statistics.refuse_of_numpy("sum", axis, dtype, out)
         return _questions.total(self)
 
-    def mean(self) -> Optional[float]:
+    def mean(self, axis: None = None, dtype: None = None, out: None = None) -> Optional[float]:
         """The sum by the number of rows that are not null, of integers, decimals and floats. None where there is none. That
         of integers and decimals is exact and rounded once, also where the sum is past 64 bits, or 38 digits."""
+        _statistics.refuse_of_numpy("mean", axis, dtype, out)
         return _statistics.mean(self)
 
     def var(self, ddof: int = 1, axis: None = None, dtype: None = None, out: None = None) -> Optional[float]:
@@ -508,12 +510,14 @@ class Column(_comparing.Comparisons, _pairs.Pairs):
         """Whether both have the same type and the same rows, whatever their forms, null equal to null."""
         return _rows.is_same(self, _column(other))
 
-    def any(self) -> bool:
+    def any(self, axis: None = None, out: None = None) -> bool:
         """Whether a row of booleans is true."""
+        _statistics.refuse_of_numpy("any", axis, out)
         return _rows.truths_of(self, "any").max() is True
 
-    def all(self) -> bool:
+    def all(self, axis: None = None, out: None = None) -> bool:
         """Whether no row of booleans is false: null is not."""
+        _statistics.refuse_of_numpy("all", axis, out)
         return _rows.truths_of(self, "all").min() is not False
 
     def value_counts(self) -> tuple[Column, Column]:
@@ -536,16 +540,18 @@ class Column(_comparing.Comparisons, _pairs.Pairs):
         """Whether no row is above the next (strict: whether each is below it), null below all else."""
         return _questions.truth(self, calls.hv_is_sorted, bool(strict))
 
-    def min(self, skip_nan: bool = True) -> Scalar:
+    def min(self, skip_nan: bool = True, axis: None = None, out: None = None) -> Scalar:
         """The least row that is not null. None where there is none. NaNs are left out, or, without `skip_nan`, the answer
         is NaN where a row is."""
+        _statistics.refuse_of_numpy("min", axis, out)
         if _floats.is_float(self._logical):
             return self.min_max(skip_nan)[0]
         return _questions.value_of(self, calls.hv_extreme, session, self, 0)
 
-    def max(self, skip_nan: bool = True) -> Scalar:
+    def max(self, skip_nan: bool = True, axis: None = None, out: None = None) -> Scalar:
         """The greatest row that is not null. None where there is none. NaNs are left out, or, without `skip_nan`, the
         answer is NaN where a row is."""
+        _statistics.refuse_of_numpy("max", axis, out)
         if _floats.is_float(self._logical):
             return self.min_max(skip_nan)[1]
         return _questions.value_of(self, calls.hv_extreme, session, self, 1)

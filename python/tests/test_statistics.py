@@ -119,6 +119,13 @@ def test_functions_of_numpy():
             assert numpy.std(form, ddof=1) == pytest.approx(numpy.std(rows, ddof=1))
             assert numpy.median(form) == numpy.median(rows) and numpy.sort(form).tolist() == sorted(rows)
             assert numpy.quantile(form, 0.25) == numpy.quantile(rows, 0.25)
+            for call in (numpy.mean, numpy.sum, numpy.min, numpy.max):
+                assert call(form) == pytest.approx(call(rows)) and type(call(form)) in (int, float)
+                with pytest.raises(TypeError, match=": a column has no other axis, dtype or out: numpy"):
+                    call(form, axis=0)
+    for rows in ([True, False], [True], [False], []):
+        flags = Column.of(rows, bool)
+        assert numpy.any(flags) == numpy.any(rows) and numpy.all(flags) == numpy.all(rows)
     with pytest.raises(TypeError, match="^var: a column has no other axis, dtype or out: numpy.var"):
         numpy.var(column, axis=1)
 
