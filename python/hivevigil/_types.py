@@ -22,7 +22,9 @@ LETTERS = {"u8": "B", "u16": "H", "u32": "I", "u64": "Q", "i8": "b", "i16": "h",
 _OF_CLASSES = {
     "int": "i64", "bool": "bool", "bool_": "bool", "str": "utf8", "str_": "utf8", "bytes": "binary", "bytes_": "binary",
 }
-_TEXT = re.compile(r"\s*(?:(u?)int(8|16|32|64)|(\w+))\s*(?:\(\s*(\d+)\s*(?:,\s*(-?\d+)\s*)?\))?\s*(\??)\s*")
+_OF_DTYPES = {**_OF_CLASSES, "boolean": "bool", "string": "utf8"}  # pandas' names, and NumPy's of classes of Python
+_OF_KINDS = {"U": "utf8", "S": "binary"}  # of NumPy, whose names of these have a length
+_TEXT = re.compile(r"\s*(?:([uU]?)[iI]nt(8|16|32|64)|(\w+))\s*(?:\(\s*(\d+)\s*(?:,\s*(-?\d+)\s*)?\))?\s*(\??)\s*")
 
 
 def text_of(kind: Kind) -> str:
@@ -33,16 +35,18 @@ def text_of(kind: Kind) -> str:
 
 
 def kind_of(asked: Any) -> Kind:
-    """The type that is asked for: 'i64?', 'int64', 'decimal(10, 2)', int, str, or a dtype of NumPy."""
+    """The type that is asked for: 'i64?', 'int64', 'decimal(10, 2)', int, str, or a dtype of NumPy or pandas."""
     name = asked.__name__ if isinstance(asked, type) else getattr(asked, "name", asked)
-    text = _OF_CLASSES.get(name, name) if isinstance(asked, type) else name
+    text = _OF_KINDS.get(getattr(asked, "kind", ""), _OF_DTYPES.get(name, name)) if isinstance(name, str) else name
     found = _TEXT.fullmatch(text) if isinstance(text, str) else None
     if not found:
         raise TypeError(f"{in_words(asked)} is not a type of columns, as 'i64?' is")
     unsigned, bits, word, precision, scale, nullable = found.groups()
     name = ("u" if unsigned else "i") + bits if bits else word
     if name not in TYPES[:-1] or (precision is not None) != (name == "decimal"):
-        expected = "decimal(precision, scale)" if name == "decimal" else ", ".join((*WHOLE_NUMBERS, *TYPES[8:-1]))
+        others = "bool, utf8, binary, float64, decimal(10, 2), date, timestamp[us, UTC] .."
+        is_decimal = str(name).lower().startswith("decimal")
+        expected = "decimal(precision, scale)" if is_decimal else ", ".join((*WHOLE_NUMBERS, others))
         raise TypeError(f"{in_words(asked)} is not a type of columns: expected {expected}")
     kind = Kind(TYPES.index(name), bool(nullable), 0, 0)
     if precision is not None:

@@ -30,7 +30,7 @@ _OF_LETTERS = {letters: sort for sort, letters in _SORTS.items()}
 _NARROW = {("date", "D"), ("time", "s"), ("time", "ms")}  # stored in 32 bits
 _FLOATS = {"16": "e", "32": "f", "64": "g"}  # Arrow's formats, by the number of bits
 _FLOAT_BITS = {letter: bits for bits, letter in _FLOATS.items()}
-_FLOAT_TEXT = re.compile(r"\s*[Ff]loat(16|32|64)\s*")
+_FLOAT_TEXT = re.compile(r"\s*[Ff]loat(16|32|64|)\s*")
 _TEXT = re.compile(
     r"\s*(date|time|timestamp|duration|datetime64|timedelta64)\s*(?:\[\s*(\w+)\s*(?:,\s*([^\]]+?)\s*)?\])?"
 )
@@ -120,7 +120,7 @@ def asked_type(asked: Any) -> tuple[Kind, Optional[LogicalType]]:
     text = name.rstrip() if isinstance(name, str) else ""
     is_float = _FLOAT_TEXT.fullmatch(text.rstrip("?"))
     if is_float:
-        logical = LogicalType("float", is_float[1])
+        logical = LogicalType("float", is_float[1] or "64")
         return storage_of(logical, text.endswith("?")), logical
     found = None if isinstance(asked, type) else _TEXT.fullmatch(text.rstrip("?"))
     if not found:

@@ -244,6 +244,24 @@ def test_a_constant_takes_no_room():
     assert Column.constant(2**63, 1).type == "u64" and Column.constant(None, 2, "i8?").to_list() == [None, None]
 
 
+DTYPES = {
+    "i64": ["int", "Int64", pandas.Int64Dtype(), numpy.dtype("i8"), numpy.int64],
+    "u16": ["UInt16", pandas.UInt16Dtype()],
+    "float64": ["float", "Float64", pandas.Float64Dtype(), numpy.dtype(float)], "float32": [pandas.Float32Dtype()],
+    "bool": ["boolean", "bool", pandas.BooleanDtype()], "binary": [numpy.dtype("S3"), "bytes", bytes],
+    "utf8": ["str", "string", pandas.StringDtype(), numpy.dtype("U3"), numpy.str_],
+}  # fmt: skip
+OF_DTYPES = {"bool": [True, None], "utf8": ["a", None], "binary": [b"a", None]}
+
+
+@pytest.mark.parametrize("name, dtype", [(name, dtype) for name, dtypes in DTYPES.items() for dtype in dtypes])
+def test_names_of_dtypes(name, dtype):
+    rows = OF_DTYPES.get(name, [1, None])
+    made = Column.of(rows, dtype)
+    assert str(made.logical_type or made.type.rstrip("?")) == name and made.to_list() == rows
+    assert Column.of(rows[:1], dtype).nullable is False
+
+
 CATEGORIES = [
     ["a", None, "b", "a"], [3, 3, None, 2**40], [1.5, -0.5, 1.5], [pandas.Timestamp(2024, 1, 2), None], ["a"] * 3,
 ]

@@ -145,7 +145,8 @@ IS_NOT_ROWS = "are a list, another iterable, an array or a column, not"
         (lambda: Column.from_arrow_structs("a", 5),
          "an ArrowSchema, an ArrowArray or an address is expected here, not 'a'"),
         (lambda: Column.of([1], "f64"),
-         "'f64' is not a type of columns: expected u8, u16, u32, u64, i8, i16, i32, i64, bool, decimal, utf8, binary"),
+         "'f64' is not a type of columns: expected u8, u16, u32, u64, i8, i16, i32, i64, bool, utf8, binary, float64, "
+         "decimal(10, 2), date, timestamp[us, UTC] .."),
         (lambda: Column.of([1], "decimal"), "'decimal' is not a type of columns: expected decimal(precision, scale)"),
         (lambda: TWO.take([1.5]), "an index is an integer, not 1.5"),
         (lambda: TWO.at("a"), "a row is an integer, not 'a'"),
