@@ -4,7 +4,7 @@ from __future__ import annotations
 import contextlib
 import os
 from collections.abc import Iterable, Iterator, Mapping
-from typing import TYPE_CHECKING, Any, Optional
+from typing import TYPE_CHECKING, Any, Optional, Union
 
 from . import _files
 from ._values import checked_text, size_of
@@ -15,6 +15,8 @@ from .errors import HivevigilError, TypeMismatch, in_words
 
 if TYPE_CHECKING:
     from .table import Table
+
+Names = Union[str, list[str], tuple[str, ...]]  # a name, or several
 
 
 @contextlib.contextmanager
@@ -37,6 +39,11 @@ def checked_name(name: Any) -> str:
         raise TypeError(f"a column of a table is named by a text, not by {in_words(name)}")
     checked_text(name, "the name of a column: ")
     return name
+
+
+def each_of(names: tuple[Any, ...]) -> tuple[Any, ...]:
+    """The names that a call is given, one by one or as one list."""
+    return tuple(names[0]) if len(names) == 1 and isinstance(names[0], (list, tuple)) else names
 
 
 def refuse_twice(names: Iterable[Any]) -> None:

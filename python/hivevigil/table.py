@@ -8,7 +8,7 @@ from typing import TYPE_CHECKING, Any, Optional
 
 from . import _arrow, _files, _indexing, _joins, _sorting, _table_files, _table_making, _table_showing, csv_files
 from ._table_files import TableFooter
-from ._table_making import about, checked_name, refuse_twice
+from ._table_making import Names, about, checked_name, each_of, refuse_twice
 from ._values import Scalar, is_whole, row_of, size_of
 from .column import Column
 from .errors import ColumnLength, NoName, in_words
@@ -223,9 +223,9 @@ class Table(Mapping[str, Column]):
                 _sorting.refuse_lists(column)
         return self._each(_sorting.ordered(keys, flags, nulls_first).of)
 
-    def drop_null(self, *names: str) -> Table:
+    def drop_null(self, *names: Names) -> Table:
         """The rows that are null in none of the columns of these names, or in no column where none is named."""
-        chosen = [self._column(name) for name in names] if names else list(self._columns.values())
+        chosen = [self._column(name) for name in each_of(names)] if names else list(self._columns.values())
         masks = [column.is_valid() for column in chosen if column.nullable]
         return self.filter(functools.reduce(operator.and_, masks)) if masks else self.select(*self._columns)
 
@@ -254,18 +254,19 @@ class Table(Mapping[str, Column]):
         """Each column in as few runs as possible; lists as they are."""
         return self._each(lambda column: column.copy() if column.type.startswith("list") else column.to_runs())
 
-    def group_by(self, *names: str) -> TableGroups:
+    def group_by(self, *names: Names) -> TableGroups:
         """The rows by runs of neighbours that are equal in the column of a name, or in several, as Column.group_by:
         rows that are sorted by these come in one group for each of their values. `.agg(..)` says what is asked of each
-        group."""
+        group. Several names may be a list, here and where columns are chosen."""
         from .table_groups import TableGroups
 
-        if not names:
+        keys = each_of(names)
+        if not keys:
             raise ValueError("group_by: at least one column has the keys")
-        refuse_twice(names)
-        for name in names:
+        for name in keys:
             self._column(name)
-        return TableGroups(self, *names)
+        refuse_twice(keys)
+        return TableGroups(self, *keys)
 
     # ---- Columns ----
 
@@ -277,16 +278,18 @@ class Table(Mapping[str, Column]):
         columns = {**self._columns, checked_name(name): column}
         return type(self)(columns, {**kept, **added}, self._rows if self._columns or self._rows else None)
 
-    def select(self, *names: str) -> Table:
+    def select(self, *names: Names) -> Table:
         """The columns of these names, in this order, each once."""
-        refuse_twice(names)
-        return self._of({name: self._column(name).copy() for name in names}, self._rows, self._logical)
+        chosen = [(name, self._column(name)) for name in each_of(names)]
+        refuse_twice(name for name, _ in chosen)
+        return self._of({name: column.copy() for name, column in chosen}, self._rows, self._logical)
 
-    def drop(self, *names: str) -> Table:
+    def drop(self, *names: Names) -> Table:
         """All columns but those of these names."""
-        for name in names:
+        left_out = each_of(names)
+        for name in left_out:
             self._column(name)
-        return self.select(*(name for name in self._columns if name not in names))
+        return self.select(*(name for name in self._columns if name not in left_out))
 
     def rename(self, names: Mapping[str, str]) -> Table:
         """The same columns, of which those that the mapping has as keys have its values as names."""

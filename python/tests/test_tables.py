@@ -2,7 +2,7 @@
 import copy
 import operator
 import pickle
-from itertools import groupby
+from itertools import compress, groupby
 
 import numpy
 import pytest
@@ -291,6 +291,10 @@ T = Table({"a": [1, 2, None], "b": ["x", "y", "z"]}, {"a": "tiM"})
         (lambda: T.rename({"c": "d"}), KeyError, "no column has the name 'c': the names are 'a', 'b'"),
         (lambda: T.group_by("c"), KeyError, "no column has the name 'c': the names are 'a', 'b'"),
         (lambda: T.group_by(), ValueError, "group_by: at least one column has the keys"),
+        (lambda: T.group_by([]), ValueError, "group_by: at least one column has the keys"),
+        (lambda: T.group_by(["a"], "b"), TypeError, "a column of a table is named by a text, not by ['a']"),
+        (lambda: T.select("a", ["b"]), TypeError, "a column of a table is named by a text, not by ['b']"),
+        (lambda: T.select(["a", "a"]), ValueError, "two columns have the name 'a'"),
         (lambda: T.group_by("a", "a"), ValueError, "two columns have the name 'a'"),
         (lambda: T.group_by("a", "b").agg(b="size"), ValueError, "two columns have the name 'b': it is that of the keys"),
         (lambda: T.drop_null("a", "c"), KeyError, "no column has the name 'c': the names are 'a', 'b'"),
@@ -338,3 +342,15 @@ def test_refusals(call, kind, said):
 def test_a_name_that_is_not_there_is_pickled():
     refused = pickle.loads(pickle.dumps(errors.NoName("x", [str(at) for at in range(10)])))
     assert str(refused).endswith("'6', '7' and 2 more") and refused.names[9] == "9"
+
+
+def test_names_may_be_a_list():
+    rows = {"a": [1, 1, None], "b": ["x", "x", "x"], "c": [None, 2, 3]}
+    table = Table(rows)
+    for names in (["a"], ["b", "a"], ("c", "b"), []):
+        assert table.select(names).to_dict() == {name: rows[name] for name in names}
+        assert table.drop(names).names == [name for name in rows if name not in names]
+        kept = [all(rows[name][row] is not None for name in names) for row in range(3)]
+        assert table.drop_null(names).to_dict() == {name: [*compress(rows[name], kept)] for name in rows}
+    groups = [(key, len([*some])) for key, some in groupby(zip(rows["a"], rows["b"]))]
+    assert [*zip(*table.group_by(["a", "b"]).agg(n="size").to_dict().values())] == [(*key, n) for key, n in groups]
