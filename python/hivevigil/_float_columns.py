@@ -3,6 +3,7 @@ from __future__ import annotations
 
 import array
 import ctypes
+from fractions import Fraction
 from typing import TYPE_CHECKING, Any, Callable, Optional
 
 from . import _floats, _reading, _runs
@@ -233,11 +234,16 @@ def converted(
     if column._logical == logical:
         return _recast(column.storage(), kind, logical, call)
     name = str(logical) if logical is not None else TYPES[kind.number]
+    if logical is not None and _floats.is_float(logical) and TYPES[column._kind.number] == "decimal":
+        floats = logical
+        made = _runs.in_form(column, lambda rows: _of_decimals(rows, floats, call, rounded))
+        return _recast(made, kind, logical, call)
     convert = _conversion(column, kind, logical)
     if convert is None:
         before = column._logical or column.type.rstrip("?")
         raise TypeMismatch().saying(
-            f"{call}: {before} is not cast to {name}; floats are cast to floats and integers, and integers to floats"
+            f"{call}: {before} is not cast to {name}; floats are cast to floats and integers, and integers and decimals "
+            "to floats"
         )
     if rounded and logical is None:
         raise TypeError(f"{call}: only floats are rounded, and {name} has none; a float that is an integer is cast as it is")
@@ -247,6 +253,17 @@ def converted(
         _refuse_misfit(column, convert, f"{call}: row", name)
         made = _runs.in_form(column, lambda rows: _cast(rows, kind, logical, True))  # only NaNs, without what they carry
     return _recast(made, kind, logical, call)
+
+
+def _of_decimals(column: Column, logical: LogicalType, call: str, rounded: bool) -> Column:
+    """The floats of decimals, in runs: those that are the same numbers, or the nearest ones."""
+    shown = _runs.visible(column if column.form == "runs" else column.to_runs())
+    given: list[Any] = shown.values.to_list()
+    floats = [None if row is None else _floats.rounded(logical, Fraction(row)) for row in given]
+    for start, row, near in zip([0, *shown.stops], given, floats):
+        if not rounded and row is not None and row != near:
+            raise CastOutOfRange().saying(f"{call}: row {start} is {row}, which is not a value of {logical}")
+    return column.from_runs(shown.stops, column.of(floats, f"{logical}?"))
 
 
 def _cast(column: Column, kind: Kind, logical: Optional[LogicalType], rounded: bool) -> Column:

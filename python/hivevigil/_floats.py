@@ -5,6 +5,7 @@ total order of IEEE 754, counted from 0.0. The library makes keys of bits and bi
 """
 from __future__ import annotations
 
+import math
 import struct
 from collections.abc import Iterable, Sequence
 from decimal import Decimal
@@ -160,6 +161,16 @@ def _nearest(logical: LogicalType, number: Union[Fraction, float]) -> float:
     except OverflowError:
         return float("inf") if number > 0 else float("-inf")
     return float(near)
+
+
+def rounded(logical: LogicalType, number: Fraction) -> float:
+    """The float of the type nearest to a number, at a tie the even one, an infinity past the finite ones."""
+    near = float(number)
+    if near != number and struct.unpack("=Q", struct.pack("=d", near))[0] % 2 == 0:
+        # the odd float on the other side of the number, so that a type of fewer bits rounds it once
+        odd = math.nextafter(near, math.inf if number > near else -math.inf)
+        near = near if logical.unit == "64" else odd
+    return _nearest(logical, near)
 
 
 def whole_of(value: float) -> Optional[int]:

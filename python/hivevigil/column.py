@@ -283,9 +283,9 @@ class Column(_comparing.Comparisons, _pairs.Pairs):
         """Each row as the same value of a type: refused at the first row that does not fit, or that is null where the
         type has no null. 'i8' has none, 'i8?' has, and so has each type with `nullable`. A cast of integers to
         'timestamp[us]' says what they count; one of timestamps counts the same times, exactly, in another unit. Floats
-        are cast to floats and integers, and integers to floats, exactly; `rounded` takes the nearest float. Integers and
-        decimals are cast to decimals of any scale, and decimals to integers; texts to the integers that they are the
-        digits of, integers to texts, and booleans to 1 and 0."""
+        are cast to floats and integers, and integers and decimals to floats, exactly; `rounded` takes the nearest float.
+        Integers and decimals are cast to decimals of any scale, and decimals to integers; texts to the integers that
+        they are the digits of, integers to texts, and booleans to 1 and 0."""
         kind, logical = asked_type(type)
         kind.nullable = kind.nullable if nullable is None else nullable
         if logical is not None or self._logical is not None or rounded:

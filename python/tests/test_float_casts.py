@@ -1,6 +1,7 @@
 """Casts of floats, and from and to integers, in every form, are those of NumPy, or of Python's fractions."""
 import math
 import struct
+from decimal import Decimal
 from fractions import Fraction
 
 import pytest
@@ -128,3 +129,35 @@ def test_types_of_numpy():
         with numpy.errstate(over="ignore"):
             due = items.astype(dtype)
         assert Column.of(items).cast(numpy.dtype(dtype), rounded=True).to_numpy().tolist() == due.tolist()
+
+
+SOME = [Decimal(0), Decimal("0.1"), Decimal("65520"), Decimal(2**24 + 1), Decimal(2**53 + 1), Decimal("0.000000059")]
+DECIMALS = st.decimals(-(10**9), 10**9, allow_nan=False, places=9) | st.sampled_from(SOME)
+NEAR_TIES = [
+    Fraction(2**24 + 1, 2**24) + side * Fraction(1, 2**70) for side in (-1, 0, 1)  # between two float32, and next to it
+] + [Fraction(2049, 2048) + side * Fraction(1, 2**80) for side in (-1, 0, 1)]  # fmt: skip
+
+
+@given(st.lists(st.tuples(st.none() | DECIMALS, st.integers(1, 3)), max_size=8), TYPES, FORMS)
+def test_decimals_are_cast_to_floats(runs, name, form):
+    rows = rows_of(runs)
+    column = Column.of(rows, "decimal(38, 9)?")
+    column = column.to_runs() if form == "runs" else column
+    due = [None if row is None else float(nearest(Fraction(row), name)) for row in rows]
+    found = column.cast(f"{name}?", rounded=True)
+    assert found.to_list() == due and found.form == column.form and str(found.logical_type) == name
+    inexact = [at for at, row in enumerate(rows) if row is not None and row != due[at]]
+    if not inexact:
+        assert column.cast(f"{name}?").to_list() == due
+        return
+    said = f"^cast to {name}: row {inexact[0]} is .*, which is not a value of {name}$"
+    with pytest.raises(errors.CastOutOfRange, match=said):
+        column.cast(f"{name}?")
+
+
+@pytest.mark.parametrize("name", LETTERS)
+def test_decimals_are_rounded_once(name):
+    for number in NEAR_TIES:
+        row = Decimal(number.numerator * 10**37 // number.denominator).scaleb(-37)  # as near as 38 digits have it
+        found = Column.constant(row, 2**40, "decimal(38, 37)").cast(name, rounded=True)
+        assert found.form == "constant" and found[0] == nearest(Fraction(row), name)

@@ -300,7 +300,7 @@ def test_casts_that_are_refused(rows, type, words):
 
 def test_types_without_a_cast():
     for column, type in ((Column.of([1.5]), "utf8"), (Column.of(["x"]), "float64"), (Column.of([1.5]), "timestamp[us]")):
-        with pytest.raises(TypeMismatch, match="floats are cast to floats and integers, and integers to floats"):
+        with pytest.raises(TypeMismatch, match="floats are cast to floats and integers, and integers and decimals to"):
             column.cast(type)
 
 
