@@ -13,6 +13,7 @@ from ._types import GREATEST_PRECISION, range_of, text_of
 from .logical import NANOSECONDS, LogicalType, asked_type
 
 _TRUTHS = {"true": True, "false": False}
+_OF_PYTHON = {"True": True, "False": False}  # read where booleans are asked for; else they are texts
 _WHOLE = re.compile(r"-?(?:0|[1-9]\d{0,37})", re.ASCII)
 _DECIMAL = re.compile(_WHOLE.pattern + r"(?:\.\d+)?", re.ASCII)
 _NEGATIVE_ZERO = re.compile(r"-0\.0+", re.ASCII)
@@ -167,7 +168,7 @@ def _duration(text: str, logical: LogicalType) -> int:
 
 
 _READERS: dict[str, Callable[[str], Any]] = {
-    "bool": _TRUTHS.__getitem__, "utf8": str, "binary": bytes.fromhex,
+    "bool": {**_TRUTHS, **_OF_PYTHON}.__getitem__, "utf8": str, "binary": bytes.fromhex,
     "decimal": lambda text: Decimal(_where(_DECIMAL.fullmatch(text) is not None, text)),
 }
 _COUNTERS: dict[str, Callable[[str, LogicalType], int]] = {

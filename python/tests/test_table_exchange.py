@@ -349,3 +349,13 @@ def test_the_command(tmp_path):
     said = "readings.csv: line 2 has 1 fields, the first 2"
     assert run("readings.csv", "--to", "readings.hv") == (1, "", [said])
     assert Table.load(tmp_path / "readings.hv").equals(table)
+
+
+def test_booleans_as_python_and_pandas_write_them(tmp_path):
+    rows, file = [True, None, False, True], tmp_path / "flags.csv"
+    pandas.DataFrame({"flag": pandas.array(rows, "boolean"), "row": range(4)}).to_csv(file, index=False)
+    assert Table.from_csv(file, types={"flag": bool})["flag"].to_list() == rows
+    assert Table.from_csv(file)["flag"].to_list() == [row if row is None else str(row) for row in rows]  # as before
+    file.write_text("flag,row\nTRUE,1\n")
+    with pytest.raises(BadFile, match="row 0 is 'TRUE', which is not of bool"):
+        Table.from_csv(file, types={"flag": bool})
