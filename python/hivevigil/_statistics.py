@@ -103,6 +103,7 @@ def quantile(column: Column, q: Any, interpolation: Any) -> Any:
         raise TypeError(f"quantile: nothing lies between rows of {name}; interpolation='lower' answers a row")
     if is_list(column):
         raise Unsupported().saying("quantile: lists have no order")
+    q = q.tolist() if hasattr(q, "tolist") else q  # of NumPy and pandas
     asked = list(q) if isinstance(q, (list, tuple)) else [q]
     for part in asked:
         _refuse_part(part)

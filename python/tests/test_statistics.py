@@ -119,6 +119,9 @@ def test_functions_of_numpy():
             assert numpy.std(form, ddof=1) == pytest.approx(numpy.std(rows, ddof=1))
             assert numpy.median(form) == numpy.median(rows) and numpy.sort(form).tolist() == sorted(rows)
             assert numpy.quantile(form, 0.25) == numpy.quantile(rows, 0.25)
+            parts = numpy.array([0, 0.25, 0.5, 1], "f4")
+            assert form.quantile(parts) == numpy.quantile(rows, parts).tolist()
+            assert form.quantile(parts[1]) == numpy.quantile(rows, 0.25)
             for call in (numpy.mean, numpy.sum, numpy.min, numpy.max):
                 assert call(form) == pytest.approx(call(rows)) and type(call(form)) in (int, float)
                 with pytest.raises(TypeError, match=": a column has no other axis, dtype or out: numpy"):
