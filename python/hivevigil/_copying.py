@@ -6,7 +6,7 @@ import pickle
 import sys
 from typing import TYPE_CHECKING, Any
 
-from . import _float_columns, _floats, _time_arrays
+from . import _float_columns, _floats, _lists, _runs, _time_arrays
 from ._types import LETTERS, TYPES
 from ._values import is_whole
 from .errors import Unsupported
@@ -37,8 +37,12 @@ def _unpacked(bits: bytes, rows: int) -> Any:
 
 
 def _objects(column: Column) -> Any:
+    """The rows as an array of objects, of a run one; each row of lists is a list of its own."""
     import numpy
 
+    if column.form == "runs" and not _lists.is_list(column):
+        shown = _runs.visible(column)
+        return numpy.repeat(_objects(shown.values), _runs.lengths(shown.stops))
     items = numpy.empty(len(column), dtype=object)
     items[:] = column.to_list()
     return items

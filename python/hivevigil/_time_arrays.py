@@ -108,7 +108,9 @@ def to_pandas(column: Column, logical: LogicalType) -> Any:
     OverflowError where pandas has no such time."""
     import pandas
 
+    from ._copying import _objects
+
     if logical.sort in ("date", "time"):
-        return pandas.Series(column.to_list(), dtype=object)
+        return pandas.Series(_objects(column), dtype=object)
     series = pandas.Series(to_numpy(column, logical))
     return series.dt.tz_localize("UTC").dt.tz_convert(_times.pandas_zone(logical.zone)) if logical.zone else series

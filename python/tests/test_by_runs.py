@@ -4,6 +4,8 @@ import itertools
 import math
 import operator
 import random
+from datetime import date, time
+from decimal import Decimal
 
 import pytest
 
@@ -78,3 +80,28 @@ def test_few_rows_of_many_runs():
     assert runs[::1000].to_list() == numbers[::1000] and runs[4000:10:-999].to_list() == numbers[4000:10:-999]
     lists = Column.from_lists([1, 2, 3], [0, 1], [1, 2])
     assert lists[::2].to_list() == [[1]] and lists[::-2].to_list() == [[2, 3]]
+
+
+OBJECTS = [Decimal("1.50"), date(2024, 1, 2), time(3, 4), "a", b"a", 7, True]
+
+
+@pytest.mark.parametrize("value", OBJECTS)
+def test_a_run_is_one_object(value):
+    numpy, pandas = pytest.importorskip("numpy"), pytest.importorskip("pandas")
+    rows = [value] * 3 + [None] * 2 + [value]
+    window = Column.of([value, *rows, value]).to_runs()[1:-1]
+    assert window.form == "runs"
+    for found in (window.to_pandas().tolist(), numpy.asarray(window, dtype=object).tolist()):
+        missing = [row is None or row is pandas.NA or row is pandas.NaT for row in found]
+        assert missing == [row is None for row in rows]
+        assert [None if none else row for none, row in zip(missing, found)] == rows
+    if isinstance(value, (Decimal, time)):
+        found = window.to_numpy()
+        assert found[0] is found[2] and found.tolist() == rows
+
+
+def test_rows_of_lists_are_lists_of_their_own():
+    numpy = pytest.importorskip("numpy")
+    lists = Column.from_runs([2, 3], Column.from_lists([1, 2], [0, 1], [1, 1]))
+    found = numpy.asarray(lists, dtype=object)
+    assert found.tolist() == [[1], [1], [2]] and found[0] is not found[1]
