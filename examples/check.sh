@@ -180,6 +180,15 @@ python_with() {
     done
     return 1
 }
+# the first Python whose sqlite3 loads extensions
+python_of_extensions() {
+    for each in "$python" /usr/bin/python3; do
+        "$each" -c 'import sqlite3; sqlite3.connect(":memory:").enable_load_extension(True)' 2>/dev/null || continue
+        echo "$each"
+        return 0
+    done
+    return 1
+}
 if has "$cxx" && { model=$(has protoc && python_with google.protobuf) || model=$(python_with csv); }; then
     run "program/test.py, test_tables.py" program_as shipped "" "--files 25 --messages 300"
     [ "$arrow_how" ] && run "program/test.py, test_tables.py$arrow_how" \
@@ -334,24 +343,17 @@ if echo '#include <sqlite3ext.h>' | $cc -E - >/dev/null 2>&1; then
     run "sqlite, the extension as it is loaded" sqlite_loaded test
     run "sqlite, the same of test_steps.c" sqlite_loaded test_steps
     run "sqlite, the same of test_floats.c" sqlite_loaded test_floats
-    if "$python" -c 'import sqlite3; sqlite3.connect(":memory:").enable_load_extension(True)' 2>/dev/null; then
-        run "sqlite/figures.py" timeout 200 "$python" examples/sqlite/figures.py --rows 20000
-    elif /usr/bin/python3 -c 'import sqlite3; sqlite3.connect(":memory:").enable_load_extension(True)' 2>/dev/null; then
-        run "sqlite/figures.py" timeout 200 /usr/bin/python3 examples/sqlite/figures.py --rows 20000
+    if loads=$(python_of_extensions); then
+        run "sqlite/figures.py" timeout 200 "$loads" examples/sqlite/figures.py --rows 20000
+        run "engines/typed_test.py" timeout 200 "$loads" -B examples/engines/typed_test.py sqlite lib/hivevigil_sqlite.so
     else
-        skip "sqlite/figures.py" "Python whose sqlite3 loads extensions"
+        skip "sqlite/figures.py, engines/typed_test.py" "Python whose sqlite3 loads extensions"
     fi
     if has protoc && found=$(python_with google.protobuf) &&
         "$found" -c 'import sqlite3; sqlite3.connect(":memory:").enable_load_extension(True)' 2>/dev/null; then
         run "engines/proto_test.py" timeout 100 "$found" examples/engines/proto_test.py lib/hivevigil_sqlite.so 300
     else
         skip "engines/proto_test.py" "protoc and protobuf for Python"
-    fi
-    if found=$(python_with sqlite3,zoneinfo) &&
-        "$found" -c 'import sqlite3; sqlite3.connect(":memory:").enable_load_extension(True)' 2>/dev/null; then
-        run "engines/typed_test.py" timeout 200 "$found" -B examples/engines/typed_test.py sqlite lib/hivevigil_sqlite.so
-    else
-        skip "engines/typed_test.py" "Python whose sqlite3 loads extensions"
     fi
 else
     skip "sqlite" "sqlite3ext.h (libsqlite3-dev)"
