@@ -25,12 +25,12 @@ typedef struct hv_table_answer {
  *
  * Answers are flat, of a type that has null, and null where the group has no value that is not null (a count: 0): the
  * sum of integers in i64 or u64, of floats the exact sum as a double, rounded once, of decimals in 38 digits; rows and
- * counts in u64; the least, greatest, first or last value of all but lists: texts by their bytes, and false below true.
+ * counts in u64; the least, greatest, first or last value of all but lists: texts by their bytes, false below true, and
+ * floats in their total order, where the least and the greatest leave NaN out as they do null.
  *
  * 13 for no key, then for names of `out` 12 where one is not UTF-8 and 202 (place, place) for one twice, 201, 13 for a
  * key of lists; then of the first answer that is refused 201, 13 where the column is not asked this, as a text is not
- * for its sum, also for the least and greatest of floats of which one is NaN, 14 (group, from 0) for the first sum that
- * does not fit, 23 for no fold. */
+ * for its sum, 14 (group, from 0) for the first sum that does not fit, 23 for no fold. */
 HV_ANSWER hv_table_group_by(const hv_session *session, const hv_table *table, const char *const *keys,
                             size_t key_count, const hv_table_answer *answers, size_t answer_count, hv_table *out,
                             hv_error *error);
@@ -215,6 +215,41 @@ static inline int32_t hv_table_choose(const hv_session *session, const hv_table_
     return answer;
 }
 
+/* Floats with null in place of NaN, by their runs. */
+static inline int32_t hv_table_numbers(const hv_column *floats, hv_column *out, hv_error *error) {
+    const hv_kind kind = {hv_kind_of(floats).number, 1, 0, 0};
+    const hv_value null = {0, 0, HV_NULL, 0};
+    hv_column encoding = HV_EMPTY, values = HV_EMPTY, are_numbers = HV_EMPTY, nulls = HV_EMPTY, numbers = HV_EMPTY;
+    uint64_t *stops = NULL;
+    size_t count = 0;
+    int32_t answer = hv_encode_rows(floats, &encoding, error);
+    if (!answer) answer = hv_values(&encoding, &values, error);
+    if (!answer) answer = hv_table_stops(&encoding, &stops, &count, error);
+    if (!answer) answer = hv_float_compare(&values, HV_LE, hv_table_infinity(floats), 1, &are_numbers, error);
+    if (!answer) answer = hv_constant(&kind, &null, NULL, 0, count, &nulls, error);
+    if (!answer) answer = hv_if_else(&are_numbers, &values, &nulls, &numbers, error);
+    if (!answer) answer = hv_table_in_runs(stops, &numbers, count, out, error);
+    free(stops);
+    hv_free(&encoding);
+    hv_free(&values);
+    hv_free(&are_numbers);
+    hv_free(&nulls);
+    hv_free(&numbers);
+    return answer;
+}
+
+/* The least or the greatest float of each group that is neither null nor NaN. */
+static inline int32_t hv_table_choose_number(const hv_table_groups *groups, const hv_column *floats, uint8_t fold,
+                                             hv_column *out, hv_error *error) {
+    hv_column numbers = HV_EMPTY;
+    bool has_nan = false;
+    int32_t answer = hv_table_has_nan(floats, &has_nan, error);
+    if (!answer && has_nan) answer = hv_table_numbers(floats, &numbers, error);
+    if (!answer) answer = hv_table_fold(groups, has_nan ? &numbers : floats, fold, out, error);
+    hv_free(&numbers);
+    return answer;
+}
+
 /* ---- Sums of floats and of decimals, group by group ---- */
 
 /* The sums of groups, of which those are null that have no value. */
@@ -308,13 +343,9 @@ static inline int32_t hv_table_add_up_floats(const hv_session *session, const hv
 static inline int32_t hv_table_ask(const hv_session *session, const hv_table_groups *groups, const hv_column *column,
                                    const char *format, uint8_t fold, hv_column *out, hv_error *error) {
     const bool is_float = hv_table_is_float(column, format);
-    bool has_nan = false;
     if (fold == HV_FOLD_COUNT) return hv_table_count_values(session, groups, column, out, error);
-    if (is_float && (fold == HV_FOLD_LEAST || fold == HV_FOLD_GREATEST)) {
-        const int32_t answer = hv_table_has_nan(column, &has_nan, error);
-        if (answer) return answer;
-    }
-    if (has_nan) return hv_arrow_refuse(HV_UNSUPPORTED, 0, 0, error);
+    if (is_float && (fold == HV_FOLD_LEAST || fold == HV_FOLD_GREATEST))
+        return hv_table_choose_number(groups, column, fold, out, error);
     if (fold != HV_FOLD_SUM) return hv_table_choose(session, groups, column, fold, out, error);
     if (is_float) return hv_table_add_up_floats(session, groups, column, out, error);
     if (hv_kind_of(column).number == HV_DECIMAL) return hv_table_add_up(session, groups, column, out, error);

@@ -59,9 +59,9 @@ public:
     // What is asked of a column in each group, flat, of a type that has null, and null where the group has no value
     // that is not null (a count: 0): the sum of integers in i64 or u64, of floats the exact sum as a double, rounded
     // once, of decimals in 38 digits; rows and counts in u64; the least, greatest, first or last value of all but lists:
-    // texts by their bytes, and false below true. Refused as HV_CAST_OUT_OF_RANGE for the first group (first field, from
-    // 0) whose sum does not fit, and as HV_UNSUPPORTED where a column is not asked this, also for the least and greatest
-    // of floats of which one is NaN.
+    // texts by their bytes, false below true, and floats in their total order, where the least and the greatest leave
+    // NaN out as they do null. Refused as HV_CAST_OUT_OF_RANGE for the first group (first field, from 0) whose sum does
+    // not fit, and as HV_UNSUPPORTED where a column is not asked this.
     NamedColumn fold(const GroupAnswer &asked) const;
     // The keys, then the answers, a row for each group.
     Table agg(const std::vector<GroupAnswer> &answers) const;
@@ -115,8 +115,6 @@ inline std::string words_of_fold(const NamedColumn &values, Fold by, int32_t ans
         return "decimal overflow: the sum of group " + std::to_string(fields.first) + " leaves 38 digits";
     if (answer == HV_CAST_OUT_OF_RANGE) return words_of_group(kind, fields);
     if (answer != HV_UNSUPPORTED) return "";
-    if (by != Fold::sum && is_float(values.column, values.logical_type))
-        return "a row is NaN, which has no place among the numbers of its group";
     const bool is_logical = by == Fold::sum && is_integer(kind) && is_logical_type(values.logical_type);
     return is_logical ? "rows of the logical type " + values.logical_type + " have no sum" : "";
 }

@@ -117,10 +117,16 @@ static inline int hv_table_compare_runs(const hv_table_runs *runs, size_t left, 
     return (one > other) - (one < other);
 }
 
+/* The bits of infinity among floats of a width. */
+static inline uint64_t hv_table_infinity(const hv_column *floats) {
+    const uint8_t number = hv_kind_of(floats).number;
+    return number == HV_I16 ? 0x7C00 : number == HV_I32 ? 0x7F800000 : 0x7FF0000000000000;
+}
+
 /* Is a float NaN? In the total order these lie outside of all numbers. */
 static inline int32_t hv_table_has_nan(const hv_column *floats, bool *truth, hv_error *error) {
     const uint8_t number = hv_kind_of(floats).number;
-    const uint64_t infinity = number == HV_I16 ? 0x7C00 : number == HV_I32 ? 0x7F800000 : 0x7FF0000000000000;
+    const uint64_t infinity = hv_table_infinity(floats);
     const uint64_t sizes = (UINT64_C(1) << (number == HV_I16 ? 15 : number == HV_I32 ? 31 : 63)) - 1;
     uint64_t least = 0, greatest = 0;
     uint8_t is_found = 0;

@@ -3,6 +3,7 @@
 #include "hivevigil_table_groups.h"
 #include "refusing_malloc.h"
 #include "table_rows.h"
+#include <math.h>
 
 enum { TABLES = 3000 };
 
@@ -25,40 +26,40 @@ static size_t groups_of(const size_t *places, size_t count, size_t *stops) {
 }
 
 static double double_of(plain_number key, const char *format) {
-    for (size_t i = 0; i < COUNT(floats); i++) {
-        const float narrow = (float)floats[i];
-        uint64_t bits = 0;
-        if (*format == 'e') bits = half_floats[i];
-        else if (*format == 'f') memcpy(&bits, &narrow, sizeof narrow);
-        else memcpy(&bits, &floats[i], sizeof bits);
-        if (key_of(bits, *format == 'e' ? 16 : *format == 'f' ? 32 : 64) == key) return floats[i];
-    }
-    CHECK(false);
-    return 0;
+    const int place = *format - 'e';
+    size_t which = 0;
+    double number = 0;
+    while (which < FLOATS && key_of(floats[place][which], 16 << place) != key) which++;
+    CHECK(which < FLOATS);
+    memcpy(&number, &floats[2][which], sizeof number);
+    return number;
 }
+
+static bool is_float(const plain_column *column) { return *column->format && strchr("efg", *column->format); }
 
 /* The sum of valid rows, of floats the key of the double: these are few, and quarters, so that nothing is rounded. */
 static plain_row sum_of(const plain_column *column, size_t start, size_t stop) {
     plain_row total = {false, 0, 0, {0}};
-    const bool is_float = *column->format && strchr("efg", *column->format);
     double sum = -0.0;
     for (size_t row = start; row < stop; row++) {
         if (!column->rows[row].is_valid) continue;
         total.is_valid = true;
-        if (is_float) sum += double_of(column->rows[row].number, column->format);
+        if (is_float(column)) sum += double_of(column->rows[row].number, column->format);
         else total.number += column->rows[row].number;
     }
     uint64_t bits = 0;
     memcpy(&bits, &sum, sizeof bits);
-    if (is_float && total.is_valid) total.number = key_of(bits, 64);
+    if (isnan(sum)) bits = 0x7FF8000000000000;
+    if (is_float(column) && total.is_valid) total.number = key_of(bits, 64);
     return total;
 }
 
 static plain_row chosen(const plain_column *column, uint8_t fold, size_t start, size_t stop) {
+    const bool is_by_number = is_float(column) && (fold == HV_FOLD_LEAST || fold == HV_FOLD_GREATEST);
     plain_row found = {false, 0, 0, {0}};
     for (size_t row = start; row < stop; row++) {
         const plain_row *const next = &column->rows[row];
-        if (!next->is_valid) continue;
+        if (!next->is_valid || (is_by_number && isnan(double_of(next->number, column->format)))) continue;
         const int order = found.is_valid ? compare_values(next, &found, column->kind) : 0;
         const bool is_better = fold == HV_FOLD_LAST || (fold == HV_FOLD_LEAST && order < 0) ||
                                (fold == HV_FOLD_GREATEST && order > 0);
@@ -95,7 +96,7 @@ static hv_kind type_of_answer(const plain_column *column, uint8_t fold) {
 
 static const char *format_of_answer(const plain_column *column, uint8_t fold) {
     if (fold == HV_FOLD_ROWS || fold == HV_FOLD_COUNT) return "";
-    return fold == HV_FOLD_SUM && *column->format && strchr("efg", *column->format) ? "g" : column->format;
+    return fold == HV_FOLD_SUM && is_float(column) ? "g" : column->format;
 }
 
 static bool same_kind(hv_kind left, hv_kind right) { return memcmp(&left, &right, sizeof left) == 0; }
@@ -189,11 +190,15 @@ static const char *const station[] = {"station"}, *const both[] = {"station", "t
 static const hv_table_answer all[] = {{"rows", HV_FOLD_ROWS, NULL},        {"levels", HV_FOLD_COUNT, "level"},
                                       {"texts", HV_FOLD_COUNT, "text"},    {"least", HV_FOLD_LEAST, "text"},
                                       {"greatest", HV_FOLD_GREATEST, "level"}, {"last", HV_FOLD_LAST, "text"},
-                                      {"first", HV_FOLD_FIRST, "price"},   {"paid", HV_FOLD_SUM, "price"}};
+                                      {"first", HV_FOLD_FIRST, "price"},   {"paid", HV_FOLD_SUM, "price"},
+                                      {"cheap", HV_FOLD_LEAST, "price"},   {"high", HV_FOLD_GREATEST, "price"},
+                                      {"low", HV_FOLD_LEAST, "low"}};
+static const hv_table_answer nans[] = {{"high", HV_FOLD_GREATEST, "price"}, {"low", HV_FOLD_LEAST, "low"},
+                                       {"count", HV_FOLD_COUNT, "low"},     {"last", HV_FOLD_LAST, "price"}};
 
 static void check_by_hand(const hv_table *table) {
     hv_table out = HV_TABLE_EMPTY;
-    CHECK(!hv_table_group_by(&session, table, station, 1, all, COUNT(all), &out, &error) && out.count == 9);
+    CHECK(!hv_table_group_by(&session, table, station, 1, all, COUNT(all), &out, &error) && out.count == 12);
     CHECK_ROWS(&out.columns[0], "1 2 1");
     CHECK_ROWS(&out.columns[1], "2 3 1");
     CHECK_ROWS(&out.columns[2], "1 2 1");
@@ -203,7 +208,16 @@ static void check_by_hand(const hv_table *table) {
     CHECK_ROWS(&out.columns[6], "\"a\" null \"\"");
     CHECK_ROWS(&out.columns[7], "4609434218613702656 4602678819172646912 null"); /* 1.5 and 0.5 by their bits */
     CHECK_ROWS(&out.columns[8], "9221120237041090560 4602678819172646912 null"); /* NaN, and 0.5 */
+    CHECK_ROWS(&out.columns[9], "4609434218613702656 -4602678819172646913 null"); /* 1.5 and -0.5 */
+    CHECK_ROWS(&out.columns[10], "4609434218613702656 4602678819172646912 null");
+    CHECK_ROWS(&out.columns[11], "4609434218613702656 -4602678819172646913 null");
     CHECK(!strcmp(out.logical_types[7], "g") && !strcmp(out.logical_types[8], "g") && !*out.logical_types[4]);
+    for (int i = 9; i < 12; i++) CHECK(!strcmp(out.logical_types[i], "g") && hv_form(&out.columns[i]) == HV_FORM_FLAT);
+    CHECK(!hv_table_group_by(&session, table, both, 2, nans, COUNT(nans), &out, &error)); /* "a" has only NaN */
+    CHECK_ROWS(&out.columns[2], "4609434218613702656 null 4602678819172646912 null");
+    CHECK_ROWS(&out.columns[3], "4609434218613702656 null -4602678819172646913 null");
+    CHECK_ROWS(&out.columns[4], "1 1 3 0");
+    CHECK_ROWS(&out.columns[5], "4609434218613702656 9221120237041090560 4602678819172646912 null");
     CHECK(!hv_table_group_by(&session, table, both, 2, all, 1, &out, &error) && out.count == 3);
     CHECK_ROWS(&out.columns[0], "1 1 2 1");
     CHECK_ROWS(&out.columns[1], "\"b\" \"a\" null \"\"");
@@ -216,8 +230,7 @@ static void check_refusals(const hv_table *table) {
     static const hv_table_answer sum[] = {{"rows", HV_FOLD_ROWS, NULL}, {"sum", HV_FOLD_SUM, "level"}};
     static const hv_table_answer names[] = {{"a", HV_FOLD_ROWS, NULL}, {"station", HV_FOLD_ROWS, NULL}};
     static const hv_table_answer none[] = {{"a", HV_FOLD_LAST, "to"}}, bad[] = {{"a", HV_FOLD_LAST + 1, "level"}};
-    static const hv_table_answer text[] = {{"a", HV_FOLD_SUM, "text"}}, nan[] = {{"a", HV_FOLD_LEAST, "price"}};
-    static const hv_table_answer bytes[] = {{"\xff", HV_FOLD_ROWS, NULL}}, low[] = {{"a", HV_FOLD_GREATEST, "low"}};
+    static const hv_table_answer text[] = {{"a", HV_FOLD_SUM, "text"}}, bytes[] = {{"\xff", HV_FOLD_ROWS, NULL}};
     const char *const twice[] = {"text", "station", "text"}, *const gone[] = {"to"};
     hv_table out = HV_TABLE_EMPTY;
     CHECK(!hv_table_slice(&session, table, 0, 1, &out, &error));
@@ -228,8 +241,6 @@ static void check_refusals(const hv_table *table) {
     CHECK_REFUSED(hv_table_group_by(&session, table, station, 1, none, 1, &out, &error), HV_TABLE_NO_COLUMN, 0, 0, 0);
     CHECK_REFUSED(hv_table_group_by(&session, table, station, 1, sum, 2, &out, &error), HV_CAST_OUT_OF_RANGE, 1, 0, 0);
     CHECK_REFUSED(hv_table_group_by(&session, table, station, 1, text, 1, &out, &error), HV_UNSUPPORTED, 0, 0, 0);
-    CHECK_REFUSED(hv_table_group_by(&session, table, station, 1, nan, 1, &out, &error), HV_UNSUPPORTED, 0, 0, 0);
-    CHECK_REFUSED(hv_table_group_by(&session, table, station, 1, low, 1, &out, &error), HV_UNSUPPORTED, 0, 0, 0);
     CHECK(hv_table_group_by(&session, table, station, 1, bad, 1, &out, &error) == HV_BAD_NUMBER);
     CHECK(hv_table_group_by(&session, table, station, 1, bytes, 1, &out, &error) == HV_TYPE_MISMATCH);
     CHECK(out.rows == 1 && out.count == 5);

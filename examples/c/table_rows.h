@@ -63,18 +63,18 @@ static plain_number key_of(uint64_t bits, int width) {
     return bits < sign ? (plain_number)bits : -1 - (plain_number)(bits - sign);
 }
 
-/* 0.25, -1.5, 0.0, -0.0, 4.0 and infinity */
-static const double floats[] = {0.25, -1.5, 0.0, -0.0, 4.0, (double)(1e300 * 1e300)};
-static const uint64_t half_floats[] = {0x3400, 0xBE00, 0, 0x8000, 0x4400, 0x7C00};
+/* 0.25, -1.5, 0.0, -0.0, 4.0, both infinities, and two NaNs of each sign, one with a payload, of 16, 32 and 64 bits */
+enum { FLOATS = 11 };
+static const uint64_t floats[3][FLOATS] = {
+    {0x3400, 0xBE00, 0, 0x8000, 0x4400, 0x7C00, 0xFC00, 0x7E00, 0x7C01, 0xFE00, 0xFFFF},
+    {0x3E800000, 0xBFC00000, 0, 0x80000000, 0x40800000, 0x7F800000, 0xFF800000, 0x7FC00000, 0x7F800001, 0xFFC00000,
+     0xFFFFFFFF},
+    {0x3FD0000000000000, 0xBFF8000000000000, 0, 0x8000000000000000, 0x4010000000000000, 0x7FF0000000000000,
+     0xFFF0000000000000, 0x7FF8000000000000, 0x7FF0000000000001, 0xFFF8000000000000, 0xFFFFFFFFFFFFFFFF}};
 
 static plain_number random_float(const char *format) {
-    const size_t which = chance(COUNT(floats));
-    const float narrow = (float)floats[which];
-    uint64_t bits = 0;
-    if (*format == 'e') return key_of(half_floats[which], 16);
-    if (*format == 'f') memcpy(&bits, &narrow, sizeof narrow);
-    else memcpy(&bits, &floats[which], sizeof bits);
-    return key_of(bits, *format == 'f' ? 32 : 64);
+    const int place = *format - 'e';
+    return key_of(floats[place][chance(FLOATS)], 16 << place);
 }
 
 static plain_row random_value(const plain_column *column) {

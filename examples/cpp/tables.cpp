@@ -183,8 +183,13 @@ static void check_groups() {
     CHECK(pairs.at("sum").logical_type == "g" && sums.at(0) == 0.5 && sums.at(1) == 1.25);
     const Table none = table.slice(0, 0).group_by({"station", "at"}).agg({{"sum", Fold::sum, "share"}});
     CHECK(none.rows() == 0 && none.size() == 3 && none.at("at").logical_type == "tts");
-    check_refused(HV_UNSUPPORTED, "column 'share': a row is NaN, which has no place among the numbers of its group",
-                  [&] { groups.fold({"most", Fold::greatest, "share"}); });
+    const Table ends = groups.agg({{"least", Fold::least, "share"}, {"most", Fold::greatest, "share"}}); // no NaN
+    const hv::Floats<double> least(ends["least"].clone()), most(ends["most"].clone());
+    CHECK(least.at(0) == 0.0 && std::signbit(*least.at(0)) && least.at(1) == 0.25);
+    CHECK(most.at(0) == 0.5 && most.at(1) == 1.0 && ends.at("most").logical_type == "g");
+    const Table odd = table.group_by({"at"}).agg({{"least", Fold::least, "share"}, {"first", Fold::first, "share"}});
+    CHECK(hv::Floats<double>(odd["least"].clone()).at(2) == std::nullopt);
+    CHECK(std::isnan(*hv::Floats<double>(odd["first"].clone()).at(2)));
     check_refused(HV_UNSUPPORTED, "column 'at': rows of the logical type tts have no sum",
                   [&] { groups.fold({"sum", Fold::sum, "at"}); });
     check_refused(HV_TABLE_NO_COLUMN, "no column has the name 'to'", [&] { groups.fold({"sum", Fold::sum, "to"}); });
