@@ -164,7 +164,7 @@ class Groups:
         except OverflowError:
             limit = "64 bits" if isinstance(answer, int) else "38 digits"
             raise OverflowError(f"{in_words(name)} of the group {in_words(key[0])} is {answer}, past {limit}") from None
-        return row if logical is None else row.cast(f"{logical}{'?' * row.nullable}")
+        return row._meaning(logical)
 
 
 def joined(parts: Iterable[Groups]) -> Groups:

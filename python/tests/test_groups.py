@@ -202,3 +202,13 @@ def test_refusals():
     texts.free()
     with pytest.raises(errors.NoColumn):
         groups.min()
+
+
+@pytest.mark.parametrize("cut", [0, 1, 2, 4])
+def test_answers_of_groups_in_parts_are_floats(cut):
+    table = Table({"key": Column.of([1, 1, 2, 2], "u8"), "row": Column.of([1.5, -0.0, None, -2.5], "float32?")})
+    asked = {fold: ("row", fold) for fold in ("min", "max", "first", "last")}
+    parts = [_chunk_groups.Groups.of(part, "key", asked) for part in (table.slice(0, cut), table.slice(cut, 4))]
+    found = _chunk_groups.joined(parts).table()
+    assert found.equals(table.group_by("key").agg(asked))
+    assert [found[fold].to_list() for fold in asked] == [[-0.0, -2.5], [1.5, -2.5], [1.5, -2.5], [-0.0, -2.5]]
