@@ -7,7 +7,7 @@ from dataclasses import dataclass, replace
 from fractions import Fraction
 from typing import TYPE_CHECKING, Any, NamedTuple, Optional
 
-from . import _runs
+from . import _float_columns, _floats, _runs
 from ._types import TYPES
 from ._values import decimal_of
 from .chunks import FloatSums, Partial
@@ -37,15 +37,15 @@ class Values(NamedTuple):
         if not part.count:
             return cls()
         there = column.storage().to_runs().drop_null()
-        return cls(part.count, _total_of(column), part.least, part.greatest, there[0], there[-1])
+        return cls(part.count, _total_of(column), *_ends_of(column), there[0], there[-1])
 
     def then(self, after: Values) -> Values:
         """Those of this part of the group and of the part after it."""
         if not self.valid or not after.valid:
             return after if after.valid else self
         return Values(
-            self.valid + after.valid, self._total_with(after), min(self.least, after.least),
-            max(self.greatest, after.greatest), self.first, after.last,
+            self.valid + after.valid, self._total_with(after), _best(min, self.least, after.least),
+            _best(max, self.greatest, after.greatest), self.first, after.last,
         )
 
     def _total_with(self, after: Values) -> Any:
@@ -61,6 +61,17 @@ class Values(NamedTuple):
         if fold == "count":
             return self.valid
         return named[fold] if self.valid else None
+
+
+def _ends_of(column: Column) -> tuple[Any, Any]:
+    """The least and the greatest value as they are stored, None twice where there is none; of floats NaN is left out."""
+    is_float = _floats.is_float(column._logical)
+    return (_float_columns.without_nan(column) if is_float else column).storage().min_max()
+
+
+def _best(choose: Any, left: Any, right: Any) -> Any:
+    """The lesser or the greater of two values, of which None is neither."""
+    return choose((each for each in (left, right) if each is not None), default=None)
 
 
 def _total_of(column: Column) -> Any:

@@ -195,6 +195,19 @@ def has_nan(column: Column) -> bool:
     return _floats.any_nan(end for end in least_and_greatest(column, False) if end is not None)
 
 
+def without_nan(column: Column) -> Column:
+    """The rows with null in place of each NaN, by runs; the same column where no row is a NaN."""
+    if not has_nan(column):
+        return column
+    return _of_values(column, _numbers)._meaning(column._logical)
+
+
+def _numbers(values: Column) -> Column:
+    """The keys of the rows, flat, with null in place of each NaN."""
+    nulls = values.constant(None, values._length, f"{TYPES[values._kind.number]}?")
+    return values._made(calls.hv_if_else, with_value(values, "<=", float("inf")), values, nulls).decode()
+
+
 # ---- Comparisons ----
 
 

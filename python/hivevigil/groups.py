@@ -77,14 +77,12 @@ class Groups:
         return self._beside(self._values.is_valid().cast("u8"))._folded("sum")
 
     def min(self) -> tuple[Column, Column]:
-        """The least value of each group; of texts by their bytes, and False is below True."""
-        self._without_nan("min")
-        return self._chosen("least")
+        """The least value of each group; of texts by their bytes, False is below True, and NaN is left out as null is."""
+        return self._numbers()._chosen("least")
 
     def max(self) -> tuple[Column, Column]:
         """The greatest value of each group, in the order of `min`."""
-        self._without_nan("max")
-        return self._chosen("greatest")
+        return self._numbers()._chosen("greatest")
 
     def first(self) -> tuple[Column, Column]:
         """The first value of each group that is not null."""
@@ -106,10 +104,10 @@ class Groups:
         keys, chosen = self._beside(places)._folded(fold)
         return keys, values.take(chosen)
 
-    def _without_nan(self, call: str) -> None:
-        """Refuses NaNs, which the order of keys has next to all numbers."""
-        if _floats.is_float(self._values._logical) and _float_columns.has_nan(self._values):
-            raise TypeError(f"{call}: a row is NaN, which has no place among the numbers of its group")
+    def _numbers(self) -> Groups:
+        """These groups without NaNs, which the order of keys has next to all numbers."""
+        is_float = _floats.is_float(self._values._logical)
+        return self._beside(_float_columns.without_nan(self._values)) if is_float else self
 
     def _holds(self, *names: str) -> bool:
         """Whether the values are stored as one of these types."""

@@ -265,8 +265,8 @@ def test_groups():
     assert values.group_by(keys).count()[1].to_list() == [2, 2, 1, 1]
     assert values.group_by(keys).sum()[1].to_list() == [6.0, 4.0, 5.0, 6.0]
     assert Column.of([1e16, 1.0, -1e16, None]).group_by([0, 0, 0, 1]).sum()[1].to_list() == [1.0, None]
-    with pytest.raises(TypeError, match="a row is NaN"):
-        keys.group_by(values).max()
+    one, other = keys.group_by(values).max(), keys.group_by([1, 1, 1, 2, 3, 3]).max()
+    assert one[1].to_list() == [1.5, 1.5, None, None, 0.0, -0.0] and other[1].to_list() == [1.5, None, 0.0]
 
 
 # ---- Conversions ----

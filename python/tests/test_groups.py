@@ -1,5 +1,6 @@
 """Values grouped by runs of equal keys answer as itertools.groupby has the rows."""
 import math
+import struct
 from decimal import Decimal, localcontext
 from fractions import Fraction
 from itertools import groupby
@@ -149,6 +150,84 @@ def test_sums_and_means_of_groups_in_parts(drawn, cuts):
     due = groups_of(keys, rows)
     for fold in asked:
         assert alike(found[fold].to_list(), [due_of(name, fold, part) for _, part in due]), fold
+
+
+PAYLOADS = (0x7FF8000000000000, 0xFFF8000000000000, 0x7FF8000040000000, 0xFFFC000000000000)  # those of float32 too
+NANS = [struct.unpack("<d", struct.pack("<Q", bits))[0] for bits in PAYLOADS]
+FEW = st.none() | st.sampled_from([0.5, -1.5, 0.0, -0.0, math.inf, -math.inf, *NANS])
+FLOAT_FOLDS = ("min", "max", "first", "last", "count", "size")
+
+
+def float_answer(fold, rows):
+    """What is answered of the rows of a group of floats: the least and the greatest leave NaN out, and -0.0 is below 0.0."""
+    if fold not in ("min", "max"):
+        return answer(fold, rows)
+    numbers = [row for row in rows if row is not None and not math.isnan(row)]
+    return {"min": min, "max": max}[fold](numbers, key=lambda row: (row, math.copysign(1, row)), default=None)
+
+
+def bits_of(rows):
+    return [struct.pack("<d", row) if isinstance(row, float) else row for row in rows]
+
+
+@st.composite
+def floats_by_keys(draw):
+    """Two columns of keys, a type of floats, a column of it in some form, and its rows."""
+    parts = draw(st.lists(st.tuples(st.integers(0, 1), st.integers(0, 2), st.integers(1, 4)), max_size=8))
+    keys = [(one, other) for one, other, rows in parts for _ in range(rows)]
+    stays = draw(st.booleans())
+    rows = [draw(FEW) for _ in (parts if stays else keys)]
+    rows = [row for row, (_, _, count) in zip(rows, parts) for _ in range(count)] if stays else rows
+    name = draw(st.sampled_from(["float32", "float64"]))
+    form = draw(st.sampled_from(["flat", "runs", "window", "constant"]))
+    if form == "constant":
+        rows = [draw(FEW)] * len(keys)
+        return keys, rows, Column.of(rows[:1], f"{name}?").take([0] * len(keys))
+    before = draw(st.lists(FEW, min_size=1, max_size=2)) if form == "window" else []
+    column = Column.of([*before, *rows], f"{name}?")
+    column = column if form == "flat" else column.to_runs()
+    return keys, rows, column.slice(len(before), len(before) + len(rows))
+
+
+@given(floats_by_keys())
+def test_floats_of_which_some_are_nan(drawn):
+    keys, rows, column = drawn
+    named = {"one": Column.of([one for one, _ in keys], "u8"), "other": Column.of([other for _, other in keys], "u8")}
+    table = Table({**named, "row": column})
+    for names in (["one"], ["one", "other"]):
+        due = groups_of([key[: len(names)] for key in keys], rows)
+        found = table.group_by(*names).agg({fold: ("row", fold) for fold in FLOAT_FOLDS})
+        for fold in FLOAT_FOLDS:
+            assert bits_of(found[fold].to_list()) == bits_of(float_answer(fold, part) for _, part in due), fold
+            assert found[fold].form == "flat" and found[fold].nullable
+        assert {str(found[fold].logical_type) for fold in FLOAT_FOLDS[:4]} == {str(column.logical_type)}
+        assert alike(found["one"].to_list(), [key[0] for key, _ in due])
+    _, least = column.group_by(named["one"]).min()
+    assert bits_of(least.to_list()) == bits_of(float_answer("min", part) for _, part in groups_of([one for one, _ in keys], rows))
+
+
+@given(floats_by_keys(), st.lists(st.integers(0, 32), max_size=3))
+def test_floats_of_groups_in_parts(drawn, cuts):
+    keys, rows, column = drawn
+    keys = [one for one, _ in keys]
+    table = Table({"key": Column.of(keys, "u8"), "row": column})
+    ends = sorted(min(cut, len(rows)) for cut in cuts)
+    parts = [table.slice(start, stop) for start, stop in zip([0, *ends], [*ends, len(rows)])]
+    asked = {fold: ("row", fold) for fold in FLOAT_FOLDS}
+    found = _chunk_groups.joined(_chunk_groups.Groups.of(part, "key", asked) for part in parts).table()
+    assert found.types == table.group_by("key").agg(asked).types
+    for fold in FLOAT_FOLDS:
+        due = [float_answer(fold, part) for _, part in groups_of(keys, rows)]
+        assert bits_of(found[fold].to_list()) == bits_of(due), fold
+
+
+def test_halves_of_which_some_are_nan():
+    rows = [math.nan, -math.inf, -0.0, -math.nan, math.nan, 1.0, 0.0, -0.0]
+    halves = Column.of(rows, "float16").to_runs()
+    groups = halves.group_by([1, 1, 1, 2, 2, 3, 3, 3])
+    assert bits_of(groups.min()[1].to_list()) == bits_of([-math.inf, None, -0.0])
+    assert bits_of(groups.max()[1].to_list()) == bits_of([-0.0, None, 1.0])
+    assert alike(groups.sum()[1].to_list(), [math.nan, math.nan, 1.0]) and groups.count()[1].to_list() == [3, 2, 3]
 
 
 OTHERS = {
