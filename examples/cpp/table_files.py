@@ -35,7 +35,7 @@ def some_value(chance: random.Random, name: str):
     if name.startswith("u"):
         return "" if name == "utf8" and number < 0 else "ab" * abs(number) if name == "utf8" else abs(number) * 20
     if name.startswith("float"):
-        return chance.choice([number / 4, 0.0, -0.0, 1e3, float("inf")])
+        return chance.choice([number / 4, 0.0, -0.0, 1e3, float("inf"), -float("inf"), float("nan"), -float("nan")])
     made = {
         "bool": number > 0, "binary": bytes([abs(number)] * abs(number)), "date": date(2024, 2, 28) + timedelta(number),
         "decimal(7, 2)": Decimal(number) / 4, "duration[s]": timedelta(seconds=number * 60),

@@ -4,7 +4,8 @@
 //!
 //! For each file NAME.hv that there is, NAME.again and NAME.short are the same table: the first byte for byte, where
 //! the file has version 1, and in the second columns of integers are kept as differences where these are shorter.
-use hivevigil::{SaveOptions, Table, TableError};
+//! NAME.groups has what is answered of the others in each group of the first column that is not of lists.
+use hivevigil::{Fold, SaveOptions, Table, TableError};
 use std::error::Error;
 use std::path::Path;
 
@@ -18,6 +19,36 @@ fn write_again(path: &Path) -> Result<Table, TableError> {
     Ok(table)
 }
 
+const FOLDS: [(&str, Fold); 6] = [
+    ("least", Fold::Least),
+    ("greatest", Fold::Greatest),
+    ("first", Fold::First),
+    ("last", Fold::Last),
+    ("count", Fold::Count),
+    ("sum", Fold::Sum),
+];
+
+fn write_groups(table: &Table, path: &Path) -> Result<(), TableError> {
+    let rows = table.iter().filter(|(_, column)| !column.kind().is_list());
+    let mut names = rows.map(|(name, _)| name);
+    let Some(key) = names.next() else {
+        return Ok(());
+    };
+    let mut asked = Vec::new();
+    for name in names {
+        let is_float = matches!(table.logical_type(name)?, Some("e" | "f" | "g"));
+        for (word, fold) in FOLDS {
+            if fold != Fold::Sum || is_float {
+                asked.push((format!("{name} {word}"), name, fold));
+            }
+        }
+    }
+    let answers = asked
+        .iter()
+        .map(|(answer, name, fold)| (&answer[..], *name, *fold));
+    table.group_by([key])?.agg(answers)?.save(path)
+}
+
 fn main() -> Result<(), Box<dyn Error>> {
     let folder = std::env::args().nth(1).ok_or("a folder is named")?;
     let mut tables = 0;
@@ -27,7 +58,9 @@ fn main() -> Result<(), Box<dyn Error>> {
             .extension()
             .map_or(false, |extension| extension == "hv")
         {
-            println!("{}: {}", path.display(), write_again(&path)?);
+            let table = write_again(&path)?;
+            write_groups(&table, &path.with_extension("groups"))?;
+            println!("{}: {table}", path.display());
             tables += 1;
         }
     }
