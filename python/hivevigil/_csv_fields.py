@@ -5,10 +5,12 @@ import re
 from collections.abc import Callable
 from dataclasses import dataclass, field
 from decimal import Decimal
+from fractions import Fraction
 from math import isfinite
 from typing import Any, Optional
 
 from . import _iso
+from ._floats import rounded
 from ._types import GREATEST_PRECISION, range_of, text_of
 from .logical import NANOSECONDS, LogicalType, asked_type
 
@@ -131,9 +133,11 @@ def _where(is_so: bool, value: Any) -> Any:
     return value
 
 
-def _float(text: str) -> float:
-    """The nearest float, which may be another number where there are more than 15 digits; none is past the finite ones."""
+def _float(text: str, logical: LogicalType) -> float:
+    """The nearest float of the type, which may be another number; none is past the finite ones."""
     value = float(_where(text in _NO_NUMBERS or _FLOAT.fullmatch(text) is not None, text))
+    if logical.unit != "64" and value and isfinite(value):  # -0.0 keeps its sign
+        value = rounded(logical, Fraction(text))
     return float(_where(text in _NO_NUMBERS or isfinite(value), value))
 
 
@@ -171,8 +175,8 @@ _READERS: dict[str, Callable[[str], Any]] = {
     "bool": {**_TRUTHS, **_OF_PYTHON}.__getitem__, "utf8": str, "binary": bytes.fromhex,
     "decimal": lambda text: Decimal(_where(_DECIMAL.fullmatch(text) is not None, text)),
 }
-_COUNTERS: dict[str, Callable[[str, LogicalType], int]] = {
-    "timestamp": _timestamp, "date": _date, "time": _time, "duration": _duration,
+_READERS_OF_TYPES: dict[str, Callable[[str, LogicalType], Any]] = {
+    "timestamp": _timestamp, "date": _date, "time": _time, "duration": _duration, "float": _float,
 }
 
 
@@ -191,11 +195,9 @@ class FieldType:
         """Of what Column.of takes for a type; TypeError for lists, which a CSV file does not have."""
         kind, logical = asked_type(asked)
         storage = text_of(kind).rstrip("?")
-        if logical is not None and logical.sort == "float":
-            return cls(f"{logical}?", storage, False, _float)
         if logical is not None:
-            count, meant = _COUNTERS[logical.sort], logical
-            return cls(f"{logical}?", storage, True, lambda text: count(text, meant))
+            read, meant = _READERS_OF_TYPES[logical.sort], logical
+            return cls(f"{logical}?", storage, logical.sort != "float", lambda text: read(text, meant))
         name = storage.partition("(")[0]
         whole = lambda text: int(_where(_WHOLE.fullmatch(text) is not None, text))  # noqa: E731
         if name not in _READERS and name[:1] not in "iu":
