@@ -86,6 +86,19 @@ std::optional<double> float_of_text(const std::string &text) {
     return digits_of(text) ? std::optional(std::strtod(text.c_str(), nullptr)) : std::nullopt;
 }
 
+std::optional<uint64_t> nearest_bits(const std::string &text, int width) {
+    const std::optional<double> near = float_of_text(text);
+    if (!near) return std::nullopt;
+    const uint64_t lower = bits_toward_zero(*near, width);
+    if (width == 64 || !std::isfinite(*near)) return lower;
+    // the middle of two floats, which a double has; next to the last one as if another came
+    const double low = float_of_bits(lower, width), next = float_of_bits(lower + 1, width);
+    const double step = std::isfinite(next) ? next - low : low - float_of_bits(lower - 1, width);
+    const int order = compared(*digits_of(text), exact_digits(low + step / 2));
+    const bool is_past = std::signbit(low) ? order < 0 : order > 0;
+    return lower + (is_past || (order == 0 && lower % 2 == 1));
+}
+
 bool is_shortest_float(const std::string &text) {
     const std::optional<Digits> found = digits_of(text);
     if (!found) return named_float(text).has_value();

@@ -10,6 +10,9 @@
 // The double nearest to the number of a text, an infinity past the finite ones; none where the text is not a number as
 // -12.5e-3, NaN or an infinity.
 std::optional<double> float_of_text(const std::string &text);
+// The bits of the float of this width nearest to the number of a text, at a tie the even one, rounded once; an infinity
+// past the finite ones, and none where the text is not a number.
+std::optional<uint64_t> nearest_bits(const std::string &text, int width);
 // Is the text the number of a double in its shortest digits, so that none is lost, NaN or an infinity?
 bool is_shortest_float(const std::string &text);
 // The shortest digits that only this double has: "0.1", "1e+300", "-0.0", "nan", "inf".

@@ -159,15 +159,14 @@ static hv::Decimal count_of_text(const std::string &text, const LogicalType &typ
                        static_cast<int8_t>(type.unit == "D" ? 0 : 9 - places));
 }
 
-// The key of the float that a number is. What a double does not have is rounded, but not to fewer bits than it has.
+// The key of the float that is nearest to a number, and not past the finite ones.
 static int64_t key_of_text(const std::string &text, const LogicalType &type) {
-    const std::optional<double> near = float_of_text(text);
-    if (!near) throw not_as(text, "a number");
-    const uint64_t bits = bits_toward_zero(*near, type.width());
+    const std::optional<uint64_t> bits = nearest_bits(text, type.width());
+    if (!bits) throw not_as(text, "a number");
     const bool is_named = text.find_first_of("nN") != text.npos; // NaN and infinities
-    if (!is_named && (std::isinf(*near) || float_of_bits(bits, type.width()) != *near))
+    if (!is_named && std::isinf(float_of_bits(*bits, type.width())))
         throw Failure("no " + type.name() + " is " + text);
-    return key_of_bits(bits, type.width());
+    return key_of_bits(*bits, type.width());
 }
 
 Value value_of_text(const std::string &text, const RowType &type) {

@@ -5,6 +5,7 @@ A row is what its column stores: of a date its days, of a time, a timestamp or a
 key, the place of its bits in the total order.
 """
 
+import bisect
 import math
 import random
 import re
@@ -213,6 +214,15 @@ def row_of(text: str, kind: str) -> int:
     count = exact(text, kind)
     assert count.denominator == 1, (text, kind)
     return int(count)
+
+
+def nearest(text: str, bits: int) -> float:
+    """The finite float nearest to a number, at a tie the even one, found among all of them."""
+    size, keys = abs(Fraction(text)), range(key_of(math.inf, bits))
+    at = lambda key: Fraction(number_of(key, bits))
+    above = bisect.bisect_left(keys, size, key=at)
+    two = keys[max(above - 1, 0) : above + 1]
+    return math.copysign(at(min(two, key=lambda key: (abs(at(key) - size), key % 2))), -text.startswith("-") or 1)
 
 
 def number_shown(row: int, kind: str):

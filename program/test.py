@@ -264,6 +264,23 @@ def check_shown_floats(program: Program) -> None:
     assert program.answers("show", "column.hv", "--rows", "99") == "".join(f"{float(text)!r}\n" for text in FLOATS)
 
 
+def check_nearest_floats(chance: random.Random, program: Program, bits: int) -> None:
+    """Numbers next to the middle of two floats, where a second rounding goes wrong, are the nearest ones."""
+    infinity = logical_model.key_of(float("inf"), bits)
+    texts = ["0.1", "-0.0", "1e-400", {16: "65519.99", 32: "-3.4028235e38"}[bits]]
+    with localcontext() as context:
+        context.prec = 400
+        for key in 0, *(chance.randrange(infinity - 1) for _ in range(40)):
+            two = [Decimal(logical_model.number_of(key + more, bits)) for more in (0, 1)]
+            step = chance.choice([0, 1, -1]) * Decimal(10) ** -chance.choice([30, 170])
+            texts.append(f"{chance.choice([1, -1]) * (sum(two) / 2 + step):f}")
+    (program.folder / "typed.csv").write_text("row,a\n" + "".join(f"0,{text}\n" for text in texts))
+    program.answers("convert", "typed.csv", "--column=a", "--to=column.hv", "--type", f"float{bits}")
+    found = program.answers("show", "column.hv", "--rows", "99").split()
+    due = [f"{logical_model.nearest(text, bits)!r}" for text in texts]
+    assert found == due, [(text, *both) for text, *both in zip(texts, found, due) if both[0] != both[1]]
+
+
 def check_between_floats(program: Program, bits: int) -> None:
     """Adjacent floats, compared with the number between two of them, which has no float of this width."""
     kind = f"float{bits}"
@@ -349,7 +366,7 @@ BAD_TYPES = {
     ("timestamp[ns]", "1500-01-01T00:00"): "'1500-01-01T00:00' does not fit timestamp[ns]",
     ("duration[s]", "1.5"): "'1.5' is finer than duration[s]", ("duration[s]", "x"): "'x' is not a number of seconds",
     ("duration[ns]", "10000000000"): "'10000000000' does not fit duration[ns]",
-    ("float32", "0.1"): "no float32 is 0.1", ("float16", "65505"): "no float16 is 65505",
+    ("float32", "3.4028236e38"): "no float32 is 3.4028236e38", ("float16", "-65520"): "no float16 is -65520",
     ("float64", "1e400"): "no float64 is 1e400", ("float64", "-nan"): "'-nan' is not a number",
     ("float64", ".5"): "'.5' is not a number", ("binary", "0g"): "'0g' is not bytes in hexadecimal digits",
     ("binary", "abc"): "'abc' is not bytes in hexadecimal digits",
@@ -631,6 +648,8 @@ def main() -> None:
             check_random_file(random.Random(f"{chosen.seed} {number}"), program)
         check_guessed_types(program)
         check_shown_floats(program)
+        for bits in 16, 32:
+            check_nearest_floats(random.Random(f"{chosen.seed} {bits}"), program, bits)
         for bits in 16, 32, 64:
             check_between_floats(program, bits)
         for number, kind in enumerate(TYPES):
