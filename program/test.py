@@ -350,6 +350,7 @@ BAD_CSV = {
 BAD_TYPES = {
     ("i8", "300"): "300 does not fit i8", ("u8", "-1"): "-1 does not fit u8", ("i32", "x"): "'x' is not a number",
     ("i32", "1.5"): "1.5 does not fit i32", ("bool", "1"): "'1' is neither true nor false",
+    ("bool", "TRUE"): "'TRUE' is neither true nor false",
     ("i64", ""): "null does not fit i64", ("u64?", str(2**64)): f"{2**64} does not fit u64",
     ("decimal(3,1)", "1.25"): "1.25 does not fit decimal(3, 1)",
     ("decimal(38,0)", "9" * 39): f"{'9' * 39} has more than 38 digits",
@@ -412,6 +413,13 @@ def check_files(program: Program) -> None:
         program.answers(*convert, "a", "--type", kind)
         one = "1." + "0" * 37 if kind[0] == "d" else "1"
         assert program.answers("show", "typed.hv", "--rows", "9") == f"{one}\n\n{one}\n"
+    rows = [True, None, False, True, False]  # as Python writes them, and as the program does
+    fields = [*("" if row is None else str(row) for row in rows), "true", "false"]
+    (program.folder / "flags.csv").write_text("row,flag\n" + "".join(f"0,{field}\n" for field in fields))
+    program.answers("convert", "flags.csv", "--to=flags.hv", "--column=flag", "--type=bool?")
+    assert program.answers("show", "flags.hv", "--rows=9") == lines_of([*rows, True, False], "bool?")
+    assert program.answers("query", "flags.hv", "count", "--where", "= True") == "3\n"
+    assert program.answers("report", "flags.csv").split("\n")[2].split()[:2] == ["flag", "utf8?"]  # nobody asked
     program.answers(*convert, "b", "--type", "binary?")
     assert program.answers("show", "typed.hv", "--runs") == "start,stop,value\n0,1,00ff\n1,3,\n"
     assert program.answers("query", "typed.hv", "count", "--where", "= 00FF") == "1\n"

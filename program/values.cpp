@@ -55,7 +55,9 @@ hv::Value value_of_text(const std::string &text, hv_kind kind) {
     case HV_UTF8: return text;
     case HV_BINARY: return bytes_of_text(text);
     case HV_BOOL:
-        if (text == "true" || text == "false") return text == "true";
+        // Python writes True and False, which are booleans only where these are asked for
+        if (text == "true" || text == "True") return true;
+        if (text == "false" || text == "False") return false;
         throw Failure("'" + text + "' is neither true nor false");
     case HV_LIST: throw Failure("'" + text + "' is not a list, and lists have no order");
     default: return number_of_text(text);
