@@ -152,8 +152,10 @@ def random_csv(chance: random.Random) -> tuple[dict[str, list[str]], bytes, list
 
 
 def found_mark(data: bytes) -> str:
+    """The first mark in the line of names, but for what is in quotes."""
     names = re.split(r"[\r\n]", data.decode("utf-8-sig"), maxsplit=1)[0]
-    return next((mark for mark in ",;\t|" if mark in names), ",")
+    plain = "".join(re.split('"', names)[::2])  # quotes are only around fields, and doubled in them
+    return next((mark for mark in ",;\t|" if mark in plain), ",")
 
 
 def read_by_csv(data: bytes, mark: str) -> dict[str, list[str]]:

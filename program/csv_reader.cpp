@@ -31,11 +31,20 @@ int InputFile::filled_peek() {
     return filled ? static_cast<unsigned char>(block[0]) : EOF;
 }
 
+// The first of the marks that the first line has, except in fields in quotes.
 static char separator_of(std::string_view begun) {
-    const std::string_view line = begun.substr(0, begun.find_first_of("\r\n"));
-    for (char mark : {',', ';', '\t', '|'})
-        if (line.find(mark) != line.npos) return mark;
-    return ',';
+    static constexpr std::string_view marks = ",;\t|";
+    std::string_view line = begun.substr(0, begun.find_first_of("\r\n"));
+    if (line.substr(0, 3) == "\xef\xbb\xbf") line.remove_prefix(3);
+    size_t best = marks.npos;
+    bool may_open = true, is_quoted = false; // a quote opens and closes a field that begins with one
+    for (char letter : line) {
+        if (letter == '"' && may_open) is_quoted = !is_quoted;
+        if (letter == '"' || is_quoted) continue;
+        best = std::min(best, marks.find(letter));
+        may_open = marks.find(letter) != marks.npos;
+    }
+    return best == marks.npos ? ',' : marks[best];
 }
 
 CsvReader::CsvReader(const std::string &path, std::optional<char> separator)

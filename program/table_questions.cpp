@@ -74,7 +74,7 @@ static void print_line(const std::vector<std::string> &fields) {
 
 void print_table_rows(const hv::Table &table, size_t start, size_t stop) {
     std::vector<std::string> names;
-    for (const hv::NamedColumn &named : table) names.push_back(csv_field(named.name));
+    for (const hv::NamedColumn &named : table) names.push_back(csv_name(named.name));
     print_line(names);
     for (const size_t step = 4096; start < stop; start += step) {
         const size_t end = std::min(stop, start + step);

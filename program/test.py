@@ -10,6 +10,8 @@ are shown or refused as the model of examples/bytes has it, where Protocol Buffe
 """
 
 import argparse
+import csv
+import io
 import itertools
 import json
 import os
@@ -404,6 +406,23 @@ def check_bad_files(program: Program) -> None:
     assert (ended.returncode, ended.stderr) == (1, "hivevigil: standard output: No space left on device\n")
 
 
+MARKS = {
+    '"a;b"\nx;y\n': ["a;b"], '"a,b";c\n1;2\n': ["a,b", "c"], 'c;"a,b"\n1;2\n': ["c", "a,b"],
+    '"a ""b;"""\tc\n1\t2\n': ['a "b;"', "c"], '5" pipe;6" pipe\n1;2\n': ['5" pipe', '6" pipe'],
+    '\ufeff"a|b";c\n1;2\n': ["a|b", "c"], '"a;\n"\n1\n': ["a;\n"],
+}
+
+
+def check_marks(program: Program) -> None:
+    """A mark in a name in quotes does not divide, and what is printed is read again."""
+    for data, names in MARKS.items():
+        for _ in range(2):
+            (program.folder / "marks.csv").write_text(data)
+            program.answers("convert", "marks.csv", "--to=marks.hv")
+            data = program.answers("show", "marks.hv", "--rows=1")
+            assert next(csv.reader(io.StringIO(data, newline=""), strict=True)) == names, data
+
+
 def check_files(program: Program) -> None:
     """Types that are asked for, how a file is replaced, and rows that no machine could hold."""
     file = program.folder / "typed.csv"
@@ -420,6 +439,7 @@ def check_files(program: Program) -> None:
     assert program.answers("show", "flags.hv", "--rows=9") == lines_of([*rows, True, False], "bool?")
     assert program.answers("query", "flags.hv", "count", "--where", "= True") == "3\n"
     assert program.answers("report", "flags.csv").split("\n")[2].split()[:2] == ["flag", "utf8?"]  # nobody asked
+    check_marks(program)
     program.answers(*convert, "b", "--type", "binary?")
     assert program.answers("show", "typed.hv", "--runs") == "start,stop,value\n0,1,00ff\n1,3,\n"
     assert program.answers("query", "typed.hv", "count", "--where", "= 00FF") == "1\n"

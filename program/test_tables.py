@@ -30,13 +30,13 @@ from test import TOP, Program, check_questions, field_of, flat_of, lines_of, mea
 # ---- The model: what is printed of a table
 
 
-def field(text: str) -> str:
+def field(text: str, marks: str = ",") -> str:
     """A text as a field of a CSV file: in quotes where it is empty or needs them."""
-    return text if text and not set(text) & set(',"\r\n') else '"' + text.replace('"', '""') + '"'
+    return text if text and not set(text) & set(marks + '"\r\n') else '"' + text.replace('"', '""') + '"'
 
 
 def expected_rows(rows: dict[str, list], kinds: dict[str, str], lines: list[int]) -> str:
-    found = [",".join(map(field, rows))]
+    found = [",".join(field(name, ",;|\t") for name in rows)]  # names with each mark that may divide a file
     found += [",".join(shown(rows[name][line], kinds[name]) for name in rows) for line in lines]
     return "".join(f"{line}\n" for line in found)
 

@@ -93,6 +93,11 @@ std::string csv_field(const std::string &text) {
     return field + "\"";
 }
 
+std::string csv_name(const std::string &name) {
+    const std::string field = csv_field(name);
+    return field == name && name.find_first_of(";\t|") != name.npos ? "\"" + name + "\"" : field;
+}
+
 std::string csv_field(const hv::Value &value) {
     if (auto *text = std::get_if<std::string>(&value)) return csv_field(*text);
     if (std::holds_alternative<hv::Bytes>(value)) return csv_field(hv::to_string(value));

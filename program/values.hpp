@@ -26,6 +26,8 @@ hv::Value value_of_text(const std::string &text, hv_kind kind);
 std::string csv_field(const std::string &text);
 // The value in the same way; null is an empty field.
 std::string csv_field(const hv::Value &value);
+// The name in the first line of a CSV file: in quotes also where it has a mark that may divide fields.
+std::string csv_name(const std::string &name);
 // The value within a list, as JSON has it; bytes are a text of hexadecimal digits.
 std::string json_of(const hv::Value &value);
 

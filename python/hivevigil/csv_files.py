@@ -61,8 +61,12 @@ def _not_utf8(path: str) -> str:
 
 
 def _separator(names: str) -> str:
-    """The mark between the names: a comma where there is one."""
-    return next((mark for mark in ",;\t|" if mark in names), ",")
+    """The mark between the names: a comma where there is one. A mark in a name in quotes is text."""
+    plain = _QUOTED.sub(r"\1", names)
+    return next((mark for mark in ",;\t|" if mark in plain), ",")
+
+
+_QUOTED = re.compile(r'(^|[,;\t|])"(?:[^"]|"")*(?:"|$)')  # a field that begins with a quote, as far as it is in quotes
 
 
 class CsvFile:
@@ -154,7 +158,7 @@ def refuse_lists(column: Column) -> None:
 
 def lines_of_columns(columns: Mapping[str, Column], rows: int) -> Iterator[bytes]:
     """The lines of a CSV file, many at a time; without columns there is none."""
-    yield _line([_text_field(name) for name in columns]).encode() if columns else b""
+    yield _line(map(_name_field, columns)).encode() if columns else b""
     for start in range(0, rows if columns else 0, _ROWS_AT_ONCE):
         stop = min(start + _ROWS_AT_ONCE, rows)
         fields = (_fields(column.slice(start, stop)) for column in columns.values())
@@ -207,4 +211,10 @@ def _text_field(text: str) -> str:
     return text if text and not _NEEDS_QUOTES.search(text) else '"' + text.replace('"', '""') + '"'
 
 
+def _name_field(name: str) -> str:
+    """A name as a field: in quotes also where it has a mark that may be taken for the one between the names."""
+    return _text_field(name) if not _MARKS.search(name) else '"' + name.replace('"', '""') + '"'
+
+
+_MARKS = re.compile("[;\t|]")
 _NEEDS_QUOTES = re.compile('[,"\r\n]')

@@ -1,11 +1,13 @@
 """Fields of a CSV file next to what fractions and Python's csv module say of them."""
 import bisect
+import csv
 import math
 import re
 import struct
 from decimal import Decimal, localcontext
 from fractions import Fraction
 
+import pandas
 import pytest
 from hivevigil import Table
 from hivevigil.csv_files import BadFile
@@ -70,3 +72,23 @@ def test_numbers_past_the_floats_of_few_bits(tmp_path, width, last, past):
     (tmp_path / "far.csv").write_text(f"a\n{past}\n")
     with pytest.raises(BadFile, match=f"row 0 is {re.escape(repr(past))}, which is not of {width}"):
         Table.from_csv(tmp_path / "far.csv", types={"a": width})
+
+
+@given(st.lists(st.text(';|\t,"a \n', min_size=1), min_size=1, max_size=3, unique=True), st.sampled_from([";", "x;y|", ","]))
+def test_names_with_marks_come_back(folder, names, text):
+    table = Table({name: [text, f"{text}2"] for name in names})
+    table.to_csv(folder / "marks.csv")
+    assert Table.from_csv(folder / "marks.csv").to_dict() == table.to_dict()
+    with open(folder / "marks.csv", newline="", encoding="utf-8") as file:
+        assert next(csv.reader(file, strict=True)) == names
+    assert pandas.read_csv(folder / "marks.csv", nrows=0).columns.tolist() == names
+
+
+@pytest.mark.parametrize("lines, names", [
+    ('"a;b"\nx;y\n', ["a;b"]), ('"a,b";c\n1;2\n', ["a,b", "c"]), ('c;"a,b"\n1;2\n', ["c", "a,b"]),
+    ('"a ""b;"""\tc\n1\t2\n', ['a "b;"', "c"]), ('5" pipe;6" pipe\n1;2\n', ['5" pipe', '6" pipe']),
+    ('\ufeff"a|b";c\n1;2\n', ["a|b", "c"]),
+])  # fmt: skip
+def test_a_mark_in_quotes_does_not_divide(tmp_path, lines, names):
+    (tmp_path / "quoted.csv").write_text(lines)
+    assert Table.from_csv(tmp_path / "quoted.csv").names == names
