@@ -74,6 +74,13 @@ def listed(rows: Any, what: str = "rows") -> list[Any]:
     return [None if type(row) in missing else row for row in given] if missing else given
 
 
+def shows_no_type(rows: Any) -> bool:
+    """Whether these are objects in one dimension, none or each of them missing."""
+    if getattr(getattr(rows, "dtype", None), "kind", "") != "O" or getattr(rows, "ndim", 1) != 1:
+        return False
+    return bool(rows.isna().all()) if hasattr(rows, "isna") else all(map(is_missing, rows))
+
+
 _SORTS = {"whole": "integers", "decimal": "decimals", "bool": "booleans", "utf8": "texts", "binary": "bytes"}
 
 

@@ -7,6 +7,7 @@ from collections.abc import Iterable, Iterator, Mapping
 from typing import TYPE_CHECKING, Any, Optional, Union
 
 from . import _files
+from ._making import shows_no_type
 from ._values import checked_text, size_of
 from .builder import Builder
 from .column import Column
@@ -39,6 +40,13 @@ def checked_name(name: Any) -> str:
         raise TypeError(f"a column of a table is named by a text, not by {in_words(name)}")
     checked_text(name, "the name of a column: ")
     return name
+
+
+def checked_types(types: Any) -> Mapping[str, Any]:
+    """Types by the names of columns, where they are given."""
+    if types is not None and not isinstance(types, Mapping):
+        raise TypeError(f"types are a mapping from names of columns, not {in_words(types)}")
+    return types or {}
 
 
 def each_of(names: tuple[Any, ...]) -> tuple[Any, ...]:
@@ -125,18 +133,28 @@ def check_alike(table: Table, other: Any) -> None:
 # ---- Frames of pandas ----
 
 
-def series_of(frame: Any) -> list[tuple[Any, Any]]:
+def series_of(frame: Any, types: Optional[Mapping[str, Any]]) -> list[tuple[Any, Any]]:
     """The columns of a DataFrame, with their labels; arrays of hivevigil.pandas as the columns that they have."""
+    asked = checked_types(types)
     if not hasattr(frame, "iloc") or getattr(frame, "ndim", 0) != 2:
         raise TypeError(f"Table.from_pandas takes a DataFrame, not {in_words(frame)}")
     series = (frame.iloc[:, place] for place in range(frame.shape[1]))
-    return [(label, _column_of(one)) for label, one in zip(frame.columns, series)]
+    for name in asked:
+        if name not in frame.columns:
+            raise ValueError(f"a type for column {in_words(name)}, and the frame has no column of this name")
+    return [(label, _column_of(label, one, asked.get(label))) for label, one in zip(frame.columns, series)]
 
 
-def _column_of(series: Any) -> Any:
-    column = getattr(series.array, "column", None)
+def _column_of(label: Any, series: Any, type: Any) -> Any:
+    column = getattr(series.array, "column", series)
+    if type is not None:
+        with about(label):
+            return Column.of(column, type)
     if isinstance(column, Column):
         return column
+    if series.dtype == object and shows_no_type(series):
+        hint = f"name one, as Table.from_pandas(frame, types={{{in_words(label)}: 'i64'}})"
+        raise ValueError(f"column {in_words(label)}: no row shows a type: {hint}")
     # the rows say no type where all are null, and this dtype does
     return Column.of(series.tolist(), "utf8") if series.dtype.name == "string" else series
 
@@ -162,9 +180,7 @@ def read_csv(path: Any, batch_rows: int, types: Optional[Mapping[str, Any]]) -> 
         raise TypeError(f"a file is named by a text or a path, not by {in_words(path)}")
     if size_of(batch_rows, "the number of rows of a batch") == 0:
         raise ValueError("a batch has at least one row")
-    if types is not None and not isinstance(types, Mapping):
-        raise TypeError(f"types are a mapping from names of columns, not {in_words(types)}")
-    file = CsvFile(os.fspath(path), batch_rows, asked=types)
+    file = CsvFile(os.fspath(path), batch_rows, asked=checked_types(types))
     builders: dict[str, Builder] = {}
     for batch in file.batches(lambda _: None):
         for name, column in batch.items():

@@ -128,7 +128,8 @@ class Column(_comparing.Comparisons, _pairs.Pairs):
         asked, logical = (None, None) if type is None else asked_type(type)
         if isinstance(rows, str):
             raise TypeError("rows come first, then their type: Column.of([1, 2], 'i64')")
-        if isinstance(rows, (array.array, memoryview, bytes, bytearray)) or _making.is_array(rows):
+        is_array = isinstance(rows, (array.array, memoryview, bytes, bytearray)) or _making.is_array(rows)
+        if is_array and (asked is None or not _making.shows_no_type(rows)):
             column = cls._of_array(rows)
             return column if asked is None else column._as(asked, logical)
         rows = _making.listed(rows)

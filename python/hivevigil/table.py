@@ -60,10 +60,11 @@ class Table(Mapping[str, Column]):
     # ---- Making ----
 
     @classmethod
-    def from_pandas(cls, frame: Any) -> Table:
-        """The columns of a DataFrame, as Column.of reads each; those of hivevigil.pandas stay in runs. The index is
-        left out."""
-        return cls(_table_making.series_of(frame), rows=len(frame))
+    def from_pandas(cls, frame: Any, types: Optional[Mapping[str, Any]] = None) -> Table:
+        """The columns of a DataFrame, as Column.of reads each, of the type that `types` has for its name; those of
+        hivevigil.pandas stay in runs. The index is left out. A column of objects that is empty or all null needs a
+        type."""
+        return cls(_table_making.series_of(frame, types), rows=len(frame))
 
     @classmethod
     def from_csv(cls, path: Any, batch_rows: int = 65536, types: Optional[Mapping[str, Any]] = None) -> Table:

@@ -139,6 +139,40 @@ def test_frames(sample):
     assert {name: kind.rstrip("?") for name, kind in again.types.items()} == sample.types
 
 
+@pytest.mark.parametrize("type, shown", [
+    ("i8", "i8?"), (str, "utf8?"), (bytes, "binary?"), (bool, "bool?"), ("decimal(9, 2)", "decimal(9, 2)?"),
+    (float, "i64?"), ("timestamp[us, UTC]", "i64?"), ("date", "i32?"),
+])  # fmt: skip
+@pytest.mark.parametrize("rows", [[], [None], [None, pandas.NA, pandas.NaT]])
+def test_objects_that_show_no_type(type, shown, rows):
+    series = pandas.Series(rows, dtype=object)
+    for given in (series, pandas.Index(series), series.to_numpy(), series.astype("category")):
+        column = Column.of(given, type)
+        assert column.to_list() == [None] * len(rows)
+        assert column.type.rstrip("?") == shown.rstrip("?") and column.nullable >= bool(rows)
+    frame = pandas.DataFrame({"a": series, "b": range(len(rows))})
+    table = Table.from_pandas(frame, types={"a": type, "b": "u8"})
+    assert table["a"].to_pandas().isna().tolist() == frame["a"].isna().tolist() and table["b"].type == "u8"
+    with pytest.raises(ValueError) as refused:
+        Table.from_pandas(frame)
+    said = "column 'a': no row shows a type: name one, as Table.from_pandas(frame, types={'a': 'i64'})"
+    assert str(refused.value) == said
+
+
+def test_a_filtered_frame():
+    frame = pandas.DataFrame({"place": ["Oslo", None], "level": [1.5, 2.5], "in runs": RunEndArray([1, 2])})
+    table = Table.from_pandas(frame[frame["level"] > 2], types={"place": str, "level": "float32", "in runs": "i8"})
+    assert table.to_dict() == {"place": [None], "level": [2.5], "in runs": [2]}
+    assert [str(column.logical_type or column.type).rstrip("?") for column in table.values()] == ["utf8", "float32", "i8"]
+    for given, kind, said in (
+        ({"none": int}, ValueError, "a type for column 'none', and the frame has no column of this name"),
+        ([("place", str)], TypeError, "types are a mapping from names of columns, not [('place', <class 'str'>)]"),
+        ({"place": int}, TypeError, "column 'place': "), ({"place": "so"}, TypeError, "column 'place': 'so' is not a type"),
+    ):  # fmt: skip
+        with pytest.raises(kind, match=f"^{re.escape(said)}"):
+            Table.from_pandas(frame, types=given)
+
+
 def test_a_frame():
     frame = pandas.DataFrame({
         "a": [1, 2], "b": pandas.array([True, None], dtype="boolean"), "c": pandas.array(["x", None], dtype="string"),
