@@ -117,7 +117,7 @@ def _taken(column: Column, pieces: Sequence[Piece], rows: int, has_null: bool) -
         return column.take(_row_numbers(column, pieces))
     if column.form == "constant" and not any(piece.start is None for piece in pieces):
         value = column.at(0) if column._length else None
-        return column.constant(value, rows, named(column, kind)) if rows else column.slice(0, 0)
+        return column.constant(value, rows, named(column, kind)) if rows else column.slice(0, 0).cast(named(column, kind))
     if column.form == "flat" and rows < _OFTEN * column._length:
         found = column.take(_row_numbers(column, pieces))
     else:

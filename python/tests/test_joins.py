@@ -112,6 +112,14 @@ def test_lists_are_carried_along():
     assert left.join(right, "key", how="left").to_dict()["b"] == [None, [1], [2, 3], None]
 
 
+@pytest.mark.parametrize("same", [Column.constant(0, 1, "u8"), Column.constant("x", 1), Column.of([1]).to_runs()])
+def test_types_of_no_rows(same):
+    """The other table's columns may be null in a left join, also where it has no rows."""
+    left, right = Table({"key": Column.of([], "i64")}), Table({"key": [1], "same": same})
+    assert left.join(right, "key", how="left").types["same"] == same.type + "?"
+    assert left.join(right, "key").types["same"] == same.type
+
+
 LEFT, RIGHT = Table({"key": [1, 2], "a": ["x", "y"]}), Table({"key": [2, 3], "b": [5, 6]})
 
 
