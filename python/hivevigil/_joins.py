@@ -15,6 +15,7 @@ from . import _runs
 from ._lists import is_list
 from ._rows import named
 from ._table_making import about, checked_name
+from ._types import WHOLE_NUMBERS
 from .column import Column
 from .errors import TypeMismatch, Unsupported, in_words
 
@@ -23,6 +24,7 @@ if TYPE_CHECKING:
 
 HOW = ("inner", "left")
 _MOST_ROWS = 2**64 - 1
+_NUMBERS = {*WHOLE_NUMBERS, "decimal"}
 _OFTEN = 4  # times that a row comes on average: a flat column of which rows come more often comes in runs
 
 
@@ -45,7 +47,7 @@ def joined(left: Table, right: Table, on: str, how: Any) -> tuple[dict[str, Colu
     if how not in HOW:
         raise ValueError(f"join: rows are kept as {' or '.join(map(repr, HOW))} says it, not {in_words(how)}")
     keys = _key(left, on, "first"), _key(right, on, "other")
-    _refuse_other_types(*keys)
+    _refuse_other_types(on, *keys)
     others = [name for name in right if checked_name(name) != on]
     for name in others:
         if name in left:
@@ -74,10 +76,20 @@ def _key(table: Table, name: str, which: str) -> Column:
     return column
 
 
-def _refuse_other_types(left: Column, right: Column) -> None:
+def _refuse_other_types(name: str, left: Column, right: Column) -> None:
     one, other = (str(each._logical or each.type.rstrip("?")) for each in (left, right))
     if one != other:
-        raise TypeMismatch().saying(f"join: the keys are {one} and {other}; rows of one type are joined")
+        key, to = in_words(name), one + "?" * right.nullable
+        hint = f": other.with_column({key}, other[{key}].cast({to!r}))" if _is_cast(left, right) else ""
+        raise TypeMismatch().saying(f"join: the keys are {one} and {other}; rows of one type are joined{hint}")
+
+
+def _is_cast(left: Column, right: Column) -> bool:
+    """Whether both are numbers, or times of one sort with or without a zone, so that a cast may have all rows."""
+    one, other = left._logical, right._logical
+    if one is None or other is None:
+        return one is other and {each.type.rstrip("?").partition("(")[0] for each in (left, right)} <= _NUMBERS
+    return one.sort == other.sort and bool(one.zone) == bool(other.zone)
 
 
 # ---- Which rows meet ----

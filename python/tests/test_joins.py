@@ -1,4 +1,7 @@
 """Tables that are joined by a column have the rows of two nested loops over lists, and of pandas."""
+from datetime import datetime, timezone
+from decimal import Decimal
+
 import pytest
 from hivevigil import Column, Table, errors
 from hypothesis import given
@@ -148,3 +151,33 @@ def test_refusals(call, kind, said):
     with pytest.raises(kind, match=f"^{said}$"):
         call()
     assert LEFT.to_dict() == {"key": [1, 2], "a": ["x", "y"]}
+
+
+NOON = datetime(2024, 7, 1, 12, tzinfo=timezone.utc)
+
+
+@pytest.mark.parametrize("left, right", [
+    (Column.of([NOON]), Column.of([NOON, None]).cast("timestamp[us, Europe/Berlin]?")),
+    (Column.of([NOON]).cast("timestamp[s, Asia/Tokyo]"), Column.of([NOON])),
+    (Column.of([Decimal("1.50")], "decimal(9, 2)"), Column.of([Decimal("1.5")], "decimal(5, 1)")),
+    (Column.of([Decimal("7.00")], "decimal(9, 2)"), Column.of([7], "i8")),
+    (Column.of([7], "i64?"), Column.of([7], "u8")), (Column.of([0.5]), Column.of([0.5], "float32")),
+])  # fmt: skip
+def test_the_hint_of_a_refusal_joins(left, right):
+    right = right.sort()
+    first, other = Table({"key": left, "a": ["x"]}), Table({"key": right, "b": range(len(right))})
+    with pytest.raises(errors.TypeMismatch) as refused:
+        first.join(other, "key")
+    hint = str(refused.value).partition("rows of one type are joined: ")[2]
+    joined = first.join(eval(hint, {"other": other}), "key")
+    pandas = pytest.importorskip("pandas")
+    frames = [pandas.DataFrame({"key": column.to_list(), name: table[name].to_list()}, dtype=object)
+              for column, name, table in ((left, "a", first), (right, "b", other))]
+    due = frames[0].merge(frames[1], on="key")
+    assert len(due) == 1 and joined.drop("key").to_dict() == due.drop(columns="key").to_dict("list")
+
+
+def test_other_types_have_no_hint():
+    for left, right in (([1], ["1"]), ([1.5], [1]), ([NOON], [NOON.replace(tzinfo=None)]), ([True], [1])):
+        with pytest.raises(errors.TypeMismatch, match="; rows of one type are joined$"):
+            Table({"key": left}).join(Table({"key": right}), "key")
