@@ -99,9 +99,12 @@ def save(column: Column, path: Any) -> None:
     write(path, [column.to_bytes()])
 
 
-def write(path: Any, parts: Iterable[bytes]) -> None:
+_BYTES = "to_bytes and from_bytes have the bytes of an open file"
+
+
+def write(path: Any, parts: Iterable[bytes], hint: str = _BYTES) -> None:
     """Writes the parts to a file next to the one that is meant, of which it then takes the place."""
-    name = name_of(path)
+    name = name_of(path, hint)
     target = os.path.realpath(name)
     part = os.path.join(os.path.dirname(target), f".{os.path.basename(target)[:200]}.{uuid.uuid4().hex}")
     try:
@@ -124,8 +127,9 @@ def _written(part: str, parts: Iterable[bytes], target: str) -> None:
     os.replace(part, target)
 
 
-def name_of(path: Any) -> str:
-    """The name of a file, of a text or a path."""
+def name_of(path: Any, hint: str = _BYTES) -> str:
+    """The name of a file, of a text or a path; an open file is refused with the hint."""
     if not isinstance(path, (str, bytes, os.PathLike)):
-        raise TypeError(f"a file is named by a text or a path, not by {in_words(path)}")
+        way_out = f": {hint}" if hasattr(path, "read") else ""
+        raise TypeError(f"a file is named by a text or a path, not by {in_words(path)}{way_out}")
     return os.fsdecode(path)

@@ -177,7 +177,8 @@ def frame_of(columns: Mapping[str, Column], rows: int, in_runs: bool) -> Any:
 def read_csv(path: Any, batch_rows: int, types: Optional[Mapping[str, Any]]) -> dict[str, Column]:
     """The columns of a CSV file in runs."""
     if not isinstance(path, (str, os.PathLike)):
-        raise TypeError(f"a file is named by a text or a path, not by {in_words(path)}")
+        hint = ": Table.from_pandas(pandas.read_csv(file)) reads an open file" if hasattr(path, "read") else ""
+        raise TypeError(f"a file is named by a text or a path, not by {in_words(path)}{hint}")
     if size_of(batch_rows, "the number of rows of a batch") == 0:
         raise ValueError("a batch has at least one row")
     file = CsvFile(os.fspath(path), batch_rows, asked=checked_types(types))

@@ -342,7 +342,8 @@ class Table(Mapping[str, Column]):
         for name, column in self._columns.items():
             with about(name):
                 csv_files.refuse_lists(column)
-        _files.write(path, csv_files.lines_of_columns(self._columns, self._rows))
+        lines = csv_files.lines_of_columns(self._columns, self._rows)
+        _files.write(path, lines, "to_pandas().to_csv(file) writes to an open file")
 
     def to_dict(self) -> dict[str, list[Scalar]]:
         """The rows of each column as a list of Python's values, by name."""

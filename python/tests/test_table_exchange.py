@@ -1,6 +1,7 @@
 """Tables from and to CSV files, frames of pandas, and Arrow, of which arrow_model.py is the other side."""
 import csv
 import ctypes
+import io
 import os
 import re
 import struct
@@ -357,6 +358,26 @@ def test_what_is_not_written_to_csv(tmp_path):
         with pytest.raises(kind, match=f"^{said}"):
             call()
     assert (tmp_path / "kept.csv").read_text() == "as it was" and os.listdir(tmp_path) == ["kept.csv"]
+
+
+def test_open_files_have_another_way(tmp_path):
+    """Each sentence is a way that serves the open file."""
+    table = Table({"a": [1, 2], "b": ["x", "y"]})
+    for call, said in (
+        (lambda: table.save(io.BytesIO()), "BytesIO: to_bytes and from_bytes have the bytes of an open file"),
+        (lambda: Table.load(io.BytesIO()), "BytesIO: to_bytes and from_bytes have the bytes of an open file"),
+        (lambda: table.to_csv(io.StringIO()), "StringIO: to_pandas().to_csv(file) writes to an open file"),
+        (lambda: Table.from_csv(io.StringIO()), "StringIO: Table.from_pandas(pandas.read_csv(file)) reads an open file"),
+        (lambda: table["a"].save(io.BytesIO()), "BytesIO: to_bytes and from_bytes have the bytes of an open file"),
+    ):
+        with pytest.raises(TypeError, match=re.escape(said) + "$"):
+            call()
+    file, text = io.BytesIO(), io.StringIO()
+    file.write(table.to_bytes())
+    assert Table.from_bytes(file.getvalue()).equals(table)
+    table.to_pandas().to_csv(text, index=False)
+    text.seek(0)
+    assert Table.from_pandas(pandas.read_csv(text)).to_dict() == table.to_dict()
 
 
 def test_the_command(tmp_path):
