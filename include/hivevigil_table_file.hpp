@@ -23,14 +23,15 @@ struct ColumnFooter {
     Value greatest() const { return bounds.empty() ? Value() : bounds.at(1); }
     // Whether `row by value` may be true of a row, as Table::filter_by has it: where not, the column need not be read.
     template <class T> bool may_have(Operator by, const T &value) const {
-        if (!bounds || detail::has_nan(bounds, logical_type)) return true;
+        if (!bounds) return true;
         const auto compared = [&](Operator asked) {
             return detail::compare_rows(bounds, logical_type, asked, value).truths();
         };
-        if (bounds.empty()) return compared(by).size() > 0; // refused where no row is compared with the value
+        const std::vector<bool> found = compared(by); // refused where no row is compared with the value
+        if (detail::has_nan(bounds, logical_type)) return true;
+        if (bounds.empty()) return false;
         if (by == Operator::equal)
             return compared(Operator::less_or_equal)[0] && compared(Operator::greater_or_equal)[1];
-        const std::vector<bool> found = compared(by);
         return found[0] || found[1];
     }
 };

@@ -265,6 +265,8 @@ static void check_files() {
     CHECK(!footer.may_have("level", Operator::equal, 39) && footer.may_have("level", Operator::equal, 500));
     CHECK(!footer.may_have("station", Operator::less, "north") && footer.may_have("share", Operator::greater, 7));
     check_refused(HV_TABLE_NO_COLUMN, "no column has the name 'to'", [&] { footer["to"]; });
+    check_refused(HV_TYPE_MISMATCH, "column 'share': a float is not compared with a text",
+                  [&] { footer.may_have("share", Operator::equal, "north"); }); // of which a row is NaN
     { std::ofstream(path, std::ios::binary) << "no table"; }
     check_refused(HV_BAD_METADATA, path + ", of 8 bytes, is not the file of a table", [&] { Table::load(path); });
     check_refused(HV_BAD_METADATA, path + ", of 8 bytes, is not the file of a table", [&] { Table::footer(path); });
