@@ -37,7 +37,7 @@ HV_ANSWER hv_table_load_columns(const char *path, const char *const *names, size
 /* What the end of a file says, where no column is read. */
 HV_ANSWER hv_table_load_footer(const char *path, hv_table_footer *out, hv_error *error);
 /* Whether a condition may hold for a row, as hv_table_filter_by has it: where not (0), the column need not be read.
- * 201, 12 for a value that is not of the column's type. Lists may have any row. */
+ * 201; 12 for a value that is not of the column's type; 23 for no operator. Lists may have any row. */
 HV_ANSWER hv_table_may_have(const hv_session *session, const hv_table_footer *footer,
                             const hv_table_condition *condition, uint8_t *truth, hv_error *error);
 

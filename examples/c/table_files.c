@@ -646,6 +646,9 @@ static void check_footers(void) {
     CHECK(hv_table_may_have(&session, &footer, &other, &truth, &error) == HV_TYPE_MISMATCH);
     CHECK(hv_table_may_have(&session, &footer, &floats, &truth, &error) == HV_TYPE_MISMATCH);
     CHECK(hv_table_may_have(&session, &footer, &none, &truth, &error) == HV_TYPE_MISMATCH);
+    const hv_table_condition past = {"level", HV_LE + 1, &nine, NULL, 0, 0}, by = {"odd", HV_LE + 1, NULL, NULL, 0, 7};
+    CHECK(hv_table_may_have(&session, &footer, &past, &truth, &error) == HV_BAD_NUMBER);
+    CHECK(hv_table_may_have(&session, &footer, &by, &truth, &error) == HV_BAD_NUMBER);
     hv_table_footer_free(&footer);
     hv_table_footer_free(&footer);
     hv_table_footer_free(NULL);

@@ -52,7 +52,7 @@ impl TableFooter {
     }
 
     /// Returns whether `row operator value` may hold of a row of the column of a name, as [`crate::Table::filter_by`]
-    /// compares: where not, the file can be skipped. Refused as that call is.
+    /// compares: where not, the file can be skipped. Refused as that call is, except for lists, which may have any row.
     pub fn may_have(
         &self,
         name: &str,
