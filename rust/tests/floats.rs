@@ -13,9 +13,21 @@ const SIGNS: [Operator; 6] = [
 fn odd() -> Vec<Option<f64>> {
     let payload = f64::from_bits(0xfff0_0000_0000_beef);
     let numbers = [
-        0.0, -0.0, 5e-324, 1.0, -1.5, f64::MAX, f64::INFINITY, f64::NEG_INFINITY, f64::NAN, payload,
+        0.0,
+        -0.0,
+        5e-324,
+        1.0,
+        -1.5,
+        f64::MAX,
+        f64::INFINITY,
+        f64::NEG_INFINITY,
+        f64::NAN,
+        payload,
     ];
-    let mut rows: Vec<Option<f64>> = numbers.iter().flat_map(|number| [Some(*number); 2]).collect();
+    let mut rows: Vec<Option<f64>> = numbers
+        .iter()
+        .flat_map(|number| [Some(*number); 2])
+        .collect();
     rows.insert(3, None);
     rows
 }
@@ -52,9 +64,14 @@ fn rows_come_back_bit_by_bit() {
     let rows = odd();
     let floats = Floats::of_options(&rows).unwrap();
     assert_eq!(bits(&floats.options().unwrap()), bits(&rows));
-    let single: Vec<Option<f64>> = (0..floats.len()).map(|row| floats.at(row).unwrap()).collect();
+    let single: Vec<Option<f64>> = (0..floats.len())
+        .map(|row| floats.at(row).unwrap())
+        .collect();
     assert_eq!(bits(&single), bits(&rows));
-    assert_eq!(floats.at(rows.len()).unwrap_err().kind(), Some(ErrorKind::OutOfBounds));
+    assert_eq!(
+        floats.at(rows.len()).unwrap_err().kind(),
+        Some(ErrorKind::OutOfBounds)
+    );
     assert!(Floats::<f32>::of(&[]).unwrap().is_empty());
 }
 
@@ -62,9 +79,14 @@ fn rows_come_back_bit_by_bit() {
 fn rows_compare_as_numbers_and_in_the_total_order() {
     let rows = odd();
     let floats = Floats::of_options(&rows).unwrap();
-    for (operator, right) in SIGNS.iter().flat_map(|sign| rows.iter().flatten().map(|row| (*sign, *row))) {
+    for (operator, right) in SIGNS
+        .iter()
+        .flat_map(|sign| rows.iter().flatten().map(|row| (*sign, *row)))
+    {
         let numbers = floats.compare(operator, right).unwrap();
-        let all = floats.compare_in(operator, right, FloatOrder::Total).unwrap();
+        let all = floats
+            .compare_in(operator, right, FloatOrder::Total)
+            .unwrap();
         for (row, left) in rows.iter().enumerate() {
             let due = |holds: fn(Operator, f64, f64) -> bool| match left {
                 Some(left) => Value::Truth(holds(operator, *left, right)),
@@ -81,18 +103,52 @@ fn the_least_and_the_greatest() {
     let floats = Floats::of_options(&odd()).unwrap();
     let numbers = floats.least_and_greatest(FloatOrder::Ieee).unwrap();
     assert_eq!(numbers, Some((f64::NEG_INFINITY, f64::INFINITY)));
-    let (first, last) = floats.least_and_greatest(FloatOrder::Total).unwrap().unwrap();
-    assert_eq!((first.to_bits(), last.to_bits()), (0xfff0_0000_0000_beef, f64::NAN.to_bits()));
-    assert_eq!(Floats::of(&[f32::NAN]).unwrap().least_and_greatest(FloatOrder::Ieee).unwrap(), None);
+    let (first, last) = floats
+        .least_and_greatest(FloatOrder::Total)
+        .unwrap()
+        .unwrap();
+    assert_eq!(
+        (first.to_bits(), last.to_bits()),
+        (0xfff0_0000_0000_beef, f64::NAN.to_bits())
+    );
+    assert_eq!(
+        Floats::of(&[f32::NAN])
+            .unwrap()
+            .least_and_greatest(FloatOrder::Ieee)
+            .unwrap(),
+        None
+    );
 }
 
 #[test]
 fn sums_are_exact() {
-    assert_eq!(Floats::of(&[1e100, 1.0, -1e100]).unwrap().sum().unwrap(), (1.0, 3));
-    assert_eq!(Floats::of(&[f64::MAX, f64::MAX]).unwrap().sum().unwrap().0, f64::INFINITY);
-    assert_eq!(Floats::of_options(&[Some(16777216f32), None, Some(1.0)]).unwrap().sum().unwrap(), (16777217.0, 2));
-    assert!(Floats::of_options(&odd()).unwrap().sum().unwrap().0.is_nan());
-    assert!(Floats::of(&[-0.0, -0.0]).unwrap().sum().unwrap().0.is_sign_negative());
+    assert_eq!(
+        Floats::of(&[1e100, 1.0, -1e100]).unwrap().sum().unwrap(),
+        (1.0, 3)
+    );
+    assert_eq!(
+        Floats::of(&[f64::MAX, f64::MAX]).unwrap().sum().unwrap().0,
+        f64::INFINITY
+    );
+    assert_eq!(
+        Floats::of_options(&[Some(16777216f32), None, Some(1.0)])
+            .unwrap()
+            .sum()
+            .unwrap(),
+        (16777217.0, 2)
+    );
+    assert!(Floats::of_options(&odd())
+        .unwrap()
+        .sum()
+        .unwrap()
+        .0
+        .is_nan());
+    assert!(Floats::of(&[-0.0, -0.0])
+        .unwrap()
+        .sum()
+        .unwrap()
+        .0
+        .is_sign_negative());
 }
 
 #[test]
@@ -100,7 +156,13 @@ fn keys_are_a_column() {
     let floats = Floats::of(&[1.5, 1.5, -0.0]).unwrap();
     let part = floats.keys().slice(1..3).unwrap();
     assert_eq!(part.kind().not_nullable(), f64::KEYS);
-    assert_eq!(Floats::<f64>::of_keys(part).unwrap().options().unwrap()[0], Some(1.5));
+    assert_eq!(
+        Floats::<f64>::of_keys(part).unwrap().options().unwrap()[0],
+        Some(1.5)
+    );
     let wrong = Floats::<f64>::of_keys(Column::new(&[1u64]).unwrap());
-    assert_eq!(wrong.err().and_then(|error| error.kind()), Some(ErrorKind::TypeMismatch));
+    assert_eq!(
+        wrong.err().and_then(|error| error.kind()),
+        Some(ErrorKind::TypeMismatch)
+    );
 }
