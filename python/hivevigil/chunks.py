@@ -61,10 +61,10 @@ class Sums(NamedTuple):
 
 class FloatSums(NamedTuple):
     """What a part of floats adds to a sum, before it is rounded: the exact sum of those that are finite, and by IEEE 754
-    that of all others."""
+    that of all others, in which each that is finite counts as a zero: -0.0 only where all rows are."""
 
     finite: Fraction = Fraction(0)
-    others: float = 0.0
+    others: float = -0.0
 
     @classmethod
     def of(cls, column: Column) -> FloatSums:
@@ -73,7 +73,8 @@ class FloatSums(NamedTuple):
         finite = [(number, rows) for number, rows in runs if math.isfinite(number)]
         numbers, parts = _statistics.whole([number for number, _ in finite])
         total = sum(map(operator.mul, numbers, (rows for _, rows in finite)))
-        return cls(Fraction(total, parts), sum((number for number, _ in runs if not math.isfinite(number)), 0.0))
+        others = (0.0 if number and math.isfinite(number) else number for number, _ in runs)
+        return cls(Fraction(total, parts), functools.reduce(operator.add, others, -0.0))
 
     def then(self, after: FloatSums) -> FloatSums:
         """That of the rows of both."""
@@ -81,7 +82,7 @@ class FloatSums(NamedTuple):
 
     def rounded(self) -> float:
         """The nearest float of 64 bits, an infinity past the finite ones."""
-        if self.others != 0:
+        if self.others != 0 or not self.finite:
             return self.others
         try:
             return float(self.finite)
@@ -160,7 +161,7 @@ class Partial:
         where it leaves 64 bits on the way from row to row, as that of the whole column is; which row it is, no part
         knows."""
         if self.float_sums is not None:
-            return self.float_sums.rounded()
+            return self.float_sums.rounded() if self.count else 0.0
         if self.sums is None:
             raise Unsupported().saying(f"sum does not serve parts of type {self.type}")
         logical = asked_type(self.type)[1]

@@ -85,11 +85,13 @@ def test_groups_of_a_list():
 
 
 def exact_sum(rows):
-    """The sum of floats as of real numbers, rounded once."""
+    """The sum of floats as of real numbers, rounded once; a zero is -0.0 where all rows are."""
     others = [row for row in rows if not math.isfinite(row)]
     if others:
         return sum(others)
     total = sum(map(Fraction, rows))
+    if not total:
+        return -0.0 if rows and {str(row) for row in rows} == {"-0.0"} else 0.0
     try:
         return float(total)
     except OverflowError:
