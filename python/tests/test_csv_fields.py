@@ -81,7 +81,7 @@ def test_names_with_marks_come_back(folder, names, text):
     assert Table.from_csv(folder / "marks.csv").to_dict() == table.to_dict()
     with open(folder / "marks.csv", newline="", encoding="utf-8") as file:
         assert next(csv.reader(file, strict=True)) == names
-    assert pandas.read_csv(folder / "marks.csv", nrows=0).columns.tolist() == names
+    assert pandas.read_csv(folder / "marks.csv", nrows=0, skip_blank_lines=False).columns.tolist() == names
 
 
 @pytest.mark.parametrize("lines, names", [
