@@ -8,6 +8,8 @@ from writer import Column, Writer
 
 FORMS = ["flat", "flat", "constant", "runs", "runs", "runs", "window", "sliced", "nested", "encoded", "invalid"]
 WITHOUT_ROWS = ("constant", "invalid")
+# The forms of a writer whose columns may have layers.
+LAYERED_FORMS = [*FORMS, "layered", "layered", "layered"]
 
 
 def column(
@@ -17,7 +19,7 @@ def column(
     not null."""
     length = writer.length() if length is None else length
     draw = draw or (lambda: row(writer, type))
-    name, form = writer.fresh(), writer.random.choice(FORMS)
+    name, form = writer.fresh(), writer.random.choice(LAYERED_FORMS if writer.layers else FORMS)
     if rows is not None and form in WITHOUT_ROWS:
         form = "runs"
     if form == "invalid" and not type.nullable:
@@ -29,6 +31,8 @@ def column(
     rows = rows_of(writer, type, length, draw) if rows is None else rows
     if form == "nested":
         return nested(writer, name, type, rows, draw)
+    if form == "layered":
+        return layered(writer, name, type, rows, draw, writer.random.choice([1, 1, 2]))
     writer.say(f"{name if form == 'flat' else 'w'} = {flat(writer, type, rows, draw)}")
     if form == "encoded":
         writer.say(f"{name} = encode_rows w")
@@ -80,6 +84,21 @@ def nested(writer: Writer, name: str, type: Type, rows: list[Row], draw: Draw) -
     writer.say(f"w = {flat(writer, type, inner_values, draw)}")
     say_runs(writer, "w", inner_ends, 0, len(values))
     say_runs(writer, name, ends, 0, len(rows))
+    return Column(name, type, rows, "runs")
+
+
+def layered(writer: Writer, name: str, type: Type, rows: list[Row], draw: Draw, layers: int) -> Column:
+    """Writes lines that make runs over as many layers of runs. In each the window may begin where the first run ends,
+    and runs may begin after it."""
+    before, after = writer.random.randint(0, 4), writer.random.randint(0, 4)
+    more = rows_of(writer, type, before + after, draw)
+    ends, values = loose_runs(writer, more[:before] + rows + more[before:])
+    first = sum(end < before for end in ends)
+    if layers > 0:
+        layered(writer, "w", type, values[first:], draw, layers - 1)
+    else:
+        writer.say(f"w = {flat(writer, type, values[first:], draw)}")
+    say_runs(writer, name, ends[first:], before, len(rows))
     return Column(name, type, rows, "runs")
 
 

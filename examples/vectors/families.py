@@ -142,10 +142,10 @@ def in_turn(writer: Writer, families: dict[str, Family], count: int) -> None:
             family.case(writer)
 
 
-def as_stored(writer: Writer, families: dict[str, Family]) -> None:
-    """Writes the cases of each family that are stored, after its title."""
+def as_stored(writer: Writer, families: dict[str, Family], more: str = "", times: int = 1) -> None:
+    """Writes the cases of each family that are stored, or some times as many, after its title and more words."""
     for family in families.values():
-        writer.title(family.title)
-        for _ in range(family.stored):
+        writer.title(family.title + more)
+        for _ in range(family.stored * times):
             writer.names = 0
             family.case(writer)

@@ -4,7 +4,8 @@
     python3 examples/vectors/lines.py SEED COUNT            lines of COUNT cases of each group, by chance from SEED
         --group rows|floats|numbers|typed                   of this group only
         --wide                                              some columns have hundreds of rows
-    python3 examples/vectors/lines.py --stored GROUP        the lines of a group, or of `picks`, in crates/vectors/stdin
+    python3 examples/vectors/lines.py --stored GROUP        the lines of a group, or of `picks` or `layers`, in
+                                                            crates/vectors/stdin
 
 To hold the library against new lines:
 
@@ -22,13 +23,14 @@ from writer import Writer
 
 WITHOUT_PICKS = {name: family for name, family in NUMBERS.items() if name != "picks"}
 PICKS = {"picks": NUMBERS["picks"]}
-# By group the families that are stored, and the seed and choice of decimals that made them.
+# By group the families that are stored, and the seed and choices of decimals and of layers that made them.
 STORED = {
-    "rows": (ROWS, 2026, False),
-    "floats": (FLOATS, 1, False),
-    "numbers": (WITHOUT_PICKS, 2911, False),
-    "picks": (PICKS, 2912, True),
-    "typed": (TYPED, 2913, True),
+    "rows": (ROWS, 2026, False, False),
+    "floats": (FLOATS, 1, False, False),
+    "numbers": (WITHOUT_PICKS, 2911, False, False),
+    "picks": (PICKS, 2912, True, False),
+    "typed": (TYPED, 2913, True, False),
+    "layers": (ROWS, 3011, True, True),
 }
 GROUPS = {"numbers": (NUMBERS, by_chance), "rows": (ROWS, by_chance), "floats": (FLOATS, in_turn)}
 GROUPS["typed"] = (TYPED, by_chance)
@@ -36,9 +38,12 @@ GROUPS["typed"] = (TYPED, by_chance)
 
 def stored_lines(group: str) -> list[str]:
     """Returns the lines of a group as crates/vectors/stdin has them."""
-    families, seed, decimals = STORED[group]
-    writer = Writer(seed, decimals=decimals)
-    as_stored(writer, families)
+    families, seed, decimals, layers = STORED[group]
+    writer = Writer(seed, decimals=decimals, layers=layers)
+    if layers:
+        as_stored(writer, families, "; in layers of runs too, with hidden runs in each", 2)
+    else:
+        as_stored(writer, families)
     return writer.lines
 
 

@@ -85,7 +85,7 @@ def format_of(text: str) -> tuple[Format, bool]:
 def rows_of_runs(values: list[Row], ends: list[int], offset: int, length: int) -> list[Row]:
     """Returns the rows of runs through a window; a window that is refused is not known."""
     steps = list(zip([0, *ends], ends))
-    is_window = not length or (ends and ends[0] > offset and ends[-1] >= offset + length)
+    is_window = not length or (ends and ends[0] >= offset and ends[-1] >= offset + length)
     is_window = is_window and (ends or not offset)
     if len(values) != len(ends) or any(start >= end for start, end in steps[1:]) or not is_window:
         raise Unknown

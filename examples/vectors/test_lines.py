@@ -23,6 +23,7 @@ from pathlib import Path
 import decimals
 import floats
 from answers import checked, completed
+from columns import layered
 from float_columns import any_bits, bits
 from float_pairs import partner
 from floats import F16, F32, F64, FORMATS, OPERATIONS, Format, NotThere
@@ -33,8 +34,8 @@ from orders import counted
 from pairs import picked, truth
 from siphash import hash_of, siphash
 from typed_lines import SMALL, changed, damages, format_of
-from words import Type, encoded_form, flat_form, order, runs_of, stored, word
-from writer import Refusal
+from words import Type, encoded_form, flat_form, order, runs_of, shown, stored, word
+from writer import Refusal, Writer
 
 VECTORS = Path(__file__).resolve().parents[2] / "crates/vectors/stdin"
 try:
@@ -328,6 +329,14 @@ class Lines(unittest.TestCase):
             self.assertEqual(lines, new_lines(group, 7, 20, wide=False))
             self.assertNotEqual(lines, new_lines(group, 8, 20, wide=False))
 
+    def test_layers_of_runs_show_the_rows_that_they_are_made_of(self) -> None:
+        rows = [7, 7, None, 3, 3, 3, 9]
+        for seed, layers in enumerate([0, 1, 2] * 50):
+            writer = Writer(seed)
+            layered(writer, "a", Type("u8", True), rows, partial(writer.random.randint, 0, 9), layers)
+            self.assertEqual(sum(" / w" in line for line in writer.lines), layers + 1)
+            self.assertEqual(list(completed([*writer.lines, "a rows"]))[-1], f"a rows => {shown(rows)}")
+
     def test_wide_columns_have_hundreds_of_rows(self) -> None:
         longest = max(len(line) for line in new_lines("rows", 7, 40, wide=True))
         self.assertGreater(longest, max(len(line) for line in new_lines("rows", 7, 40, wide=False)))
@@ -361,7 +370,7 @@ class Questions(unittest.TestCase):
         start = next(place for place, line in enumerate(stored) if line.startswith("# columns from the rows of others"))
         agree, differ, _ = checked(stored[start:])
         self.assertEqual(differ, [])
-        self.assertGreater(agree, 12_000)
+        self.assertGreater(agree, 19_000)
 
 
 if __name__ == "__main__":

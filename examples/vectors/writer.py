@@ -12,14 +12,15 @@ from words import Row, Type, constant_form, encoded_form, flat_form, runs_of, sh
 class Writer:
     """Lines, and the chance by which they are made. The same seed makes the same lines.
 
-    `wide` gives some columns hundreds of rows. `decimals` has older families ask for decimals of any precision too: the
-    lines of crates/vectors/stdin were made before they did.
+    `wide` gives some columns hundreds of rows. `decimals` has older families ask for decimals of any precision too, and
+    `layers` for runs over runs that are partly hidden: older lines of crates/vectors/stdin were made before they did.
     """
 
-    def __init__(self, seed: int, wide: bool = False, decimals: bool = True):
+    def __init__(self, seed: int, wide: bool = False, decimals: bool = True, layers: bool = True):
         self.random = random.Random(seed)
         self.wide = wide
         self.decimals = decimals
+        self.layers = layers
         self.lines: list[str] = []
         self.names = 0
 
