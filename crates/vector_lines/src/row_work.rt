@@ -8,7 +8,7 @@ use runend_decimals::RescaleError;
 use runend_pairs::{
     GroupError, GroupFold, Groups, RunningTotals, TotalError, ZipError, boolean, coalesce, compare,
     decimal_numeric, float_numeric, fold_by, greatest_of, if_else, is_null, is_valid, least_of,
-    not, numeric, running_totals,
+    not, numeric, running_totals, sum_by,
 };
 use runend_sorts::{ValueCounts, reverse, sort, value_counts};
 use std::alloc::Allocator;
@@ -193,8 +193,21 @@ fn made_of_groups<A: Allocator + Copy>(
     keys: &ArrayRef<A>,
     ctx: &mut ExecutionCtx<A>,
 ) -> WorkResult<ArrayRef<A>> {
-    let groups = fold_by(keys, values, fold_of(part), ctx)?;
+    let groups = groups_of(part, values, keys, ctx)?;
     Ok(part_of_groups(part, groups))
+}
+
+// The groups of values by keys: by the call that sums where sums are asked, else by that of all folds.
+fn groups_of<A: Allocator + Copy>(
+    part: GroupPart,
+    values: &ArrayRef<A>,
+    keys: &ArrayRef<A>,
+    ctx: &mut ExecutionCtx<A>,
+) -> Result<Groups<A>, GroupError> {
+    match part {
+        GroupPart::Answers(GroupFold::Sum) => sum_by(keys, values, ctx),
+        _ => fold_by(keys, values, fold_of(part), ctx),
+    }
 }
 
 // What is answered of each group: the number of its rows, where only its key or its end is kept.
