@@ -17,7 +17,7 @@ from pathlib import Path
 ROOT = Path(__file__).resolve().parent.parent
 SCREEN = 72
 PAGES = {"docs/DECISIONS.md": 250, "docs/PERFORMANCE.md": 130, "docs/PROVED.md": 160}
-TESTS = {"column_tests", "conformance", "runend_tests"}
+TESTS = {"column_tests", "conformance"}
 LEFT_OUT = {"lib", "main", "Lib"}
 
 

@@ -14,7 +14,7 @@ from pathlib import Path
 
 ROOT = Path(__file__).resolve().parent.parent
 # Crates only for tests: a further kernel has tests of its own there.
-TESTS = {"column_tests", "conformance", "refusing", "runend_tests"}
+TESTS = {"column_tests", "conformance", "refusing"}
 
 
 def order_of(crates_txt: str) -> list[str]:

@@ -1,10 +1,9 @@
 //! The texts of errors.
 use column_base::{VortexError, VortexResult};
 use std::alloc::Global;
-use std::test::Fail;
 
 // An error of each kind, in the order of their numbers, and its text.
-const TEXTS: [(VortexError, &str); 21] = [
+static TEXTS: [(VortexError, &str); 21] = [
     (VortexError::EndsNotUnsigned, "EndsNotUnsigned"),
     (
         VortexError::LengthsDiffer { ends: 2, values: 3 },
@@ -77,9 +76,11 @@ fn is_shown(alloc: Global, error: VortexError, text: &str) -> VortexResult<bool>
 }
 
 #[test]
-fn each_error_is_shown_as_its_name(rt: HostRuntime) -> Result<(), Fail> {
-    for (error, text) in TEXTS.iter() {
-        assert!(rt; is_shown(rt.alloc(), *error, text)?, "{text}");
-    }
-    Ok(())
+fn each_error_is_shown_as_its_name(rt: HostRuntime) {
+    let alloc = rt.alloc();
+    assert!(rt;
+        TEXTS
+            .iter()
+            .all(|line| is_shown(alloc, line.0, line.1) == Ok(true))
+    );
 }

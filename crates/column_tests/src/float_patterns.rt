@@ -1,172 +1,87 @@
-//! Orders and comparisons against the numbers that Python's `struct` reads from the same bits, sorted by Python. NaNs
-//! are placed by `totalOrder` of IEEE 754: minus before all numbers, plus after them, by their payloads.
-use float_bits::{
-    FloatFormat, canonical, compare_total, from_total_key, is_equal, is_less, is_nan, keys_above,
-    keys_at_least, keys_at_most, keys_below, keys_equal, total_key,
-};
+//! Orders and comparisons that no column asks for, against the numbers that Python's `struct` reads from the same bits,
+//! sorted by Python. NaNs are placed by `totalOrder` of IEEE 754: minus before all numbers, plus after them, by their
+//! payloads.
+use float_bits::{FloatFormat, compare_total, is_equal, is_less};
 use std::cmp::Ordering;
 
-// Ascending in the total order.
-static SORTED_64: [u64; 22] = [
-    0xffff_ffff_ffff_ffff,
-    0xfff8_0000_0000_0001,
-    0xfff8_0000_0000_0000,
-    0xfff0_0000_0000_0001,
-    0xfff0_0000_0000_0000,
-    0xffef_ffff_ffff_ffff,
-    0xc004_0000_0000_0000,
-    0xbff0_0000_0000_0000,
-    0x8010_0000_0000_0000,
-    0x8000_0000_0000_0001,
-    0x8000_0000_0000_0000,
-    0x0000_0000_0000_0000,
-    0x0000_0000_0000_0001,
-    0x0010_0000_0000_0000,
-    0x3fb9_9999_9999_999a,
-    0x3ff0_0000_0000_0000,
-    0x3ff0_0000_0000_0001,
-    0x7e37_e43c_8800_759c,
-    0x7ff0_0000_0000_0000,
-    0x7ff0_0000_0000_0001,
-    0x7ff8_0000_0000_0000,
-    0x7fff_ffff_ffff_ffff,
-];
+// The bits of a float, and the place of its number among those of its list: both zeros have one, and a NaN has none.
+type Pattern = (u64, Option<u8>);
 
 // Ascending in the total order.
-static SORTED_32: [u64; 15] = [
-    0xffff_ffff,
-    0xffc0_0000,
-    0xff80_0001,
-    0xff80_0000,
-    0xc060_0000,
-    0x8000_0001,
-    0x8000_0000,
-    0x0000_0000,
-    0x0000_0001,
-    0x3f00_0000,
-    0x3f80_0000,
-    0x7f80_0000,
-    0x7f80_0001,
-    0x7fc0_0000,
-    0x7fff_ffff,
+static SORTED_64: [Pattern; 22] = [
+    (0xffff_ffff_ffff_ffff, None),
+    (0xfff8_0000_0000_0001, None),
+    (0xfff8_0000_0000_0000, None),
+    (0xfff0_0000_0000_0001, None),
+    (0xfff0_0000_0000_0000, Some(0)),
+    (0xffef_ffff_ffff_ffff, Some(1)),
+    (0xc004_0000_0000_0000, Some(2)),
+    (0xbff0_0000_0000_0000, Some(3)),
+    (0x8010_0000_0000_0000, Some(4)),
+    (0x8000_0000_0000_0001, Some(5)),
+    (0x8000_0000_0000_0000, Some(6)),
+    (0x0000_0000_0000_0000, Some(6)),
+    (0x0000_0000_0000_0001, Some(7)),
+    (0x0010_0000_0000_0000, Some(8)),
+    (0x3fb9_9999_9999_999a, Some(9)),
+    (0x3ff0_0000_0000_0000, Some(10)),
+    (0x3ff0_0000_0000_0001, Some(11)),
+    (0x7e37_e43c_8800_759c, Some(12)),
+    (0x7ff0_0000_0000_0000, Some(13)),
+    (0x7ff0_0000_0000_0001, None),
+    (0x7ff8_0000_0000_0000, None),
+    (0x7fff_ffff_ffff_ffff, None),
 ];
 
 // Ascending in the total order.
-static SORTED_16: [u64; 16] = [
-    0xffff, 0xfe00, 0xfc01, 0xfc00, 0xfbff, 0x8001, 0x8000, 0x0000, 0x0001, 0x3c00, 0x3e00, 0x7bff,
-    0x7c00, 0x7c01, 0x7e00, 0x7fff,
+static SORTED_32: [Pattern; 15] = [
+    (0xffff_ffff, None),
+    (0xffc0_0000, None),
+    (0xff80_0001, None),
+    (0xff80_0000, Some(0)),
+    (0xc060_0000, Some(1)),
+    (0x8000_0001, Some(2)),
+    (0x8000_0000, Some(3)),
+    (0x0000_0000, Some(3)),
+    (0x0000_0001, Some(4)),
+    (0x3f00_0000, Some(5)),
+    (0x3f80_0000, Some(6)),
+    (0x7f80_0000, Some(7)),
+    (0x7f80_0001, None),
+    (0x7fc0_0000, None),
+    (0x7fff_ffff, None),
 ];
 
-// Bits of two floats, and whether Python finds the first below the second, and equal to it.
-static COMPARED: [(u64, u64, bool, bool); 95] = [
-    (0xfff0_0000_0000_0001, 0x8000_0000_0000_0000, false, false),
-    (0xfff0_0000_0000_0001, 0x0000_0000_0000_0000, false, false),
-    (0xfff0_0000_0000_0001, 0x3ff0_0000_0000_0000, false, false),
-    (0xfff0_0000_0000_0001, 0x7ff8_0000_0000_0000, false, false),
-    (0xfff0_0000_0000_0001, 0x7ff0_0000_0000_0000, false, false),
-    (0xfff0_0000_0000_0000, 0x8000_0000_0000_0000, true, false),
-    (0xfff0_0000_0000_0000, 0x0000_0000_0000_0000, true, false),
-    (0xfff0_0000_0000_0000, 0x3ff0_0000_0000_0000, true, false),
-    (0xfff0_0000_0000_0000, 0x7ff8_0000_0000_0000, false, false),
-    (0xfff0_0000_0000_0000, 0x7ff0_0000_0000_0000, true, false),
-    (0xffef_ffff_ffff_ffff, 0x8000_0000_0000_0000, true, false),
-    (0xffef_ffff_ffff_ffff, 0x0000_0000_0000_0000, true, false),
-    (0xffef_ffff_ffff_ffff, 0x3ff0_0000_0000_0000, true, false),
-    (0xffef_ffff_ffff_ffff, 0x7ff8_0000_0000_0000, false, false),
-    (0xffef_ffff_ffff_ffff, 0x7ff0_0000_0000_0000, true, false),
-    (0xc004_0000_0000_0000, 0x8000_0000_0000_0000, true, false),
-    (0xc004_0000_0000_0000, 0x0000_0000_0000_0000, true, false),
-    (0xc004_0000_0000_0000, 0x3ff0_0000_0000_0000, true, false),
-    (0xc004_0000_0000_0000, 0x7ff8_0000_0000_0000, false, false),
-    (0xc004_0000_0000_0000, 0x7ff0_0000_0000_0000, true, false),
-    (0xbff0_0000_0000_0000, 0x8000_0000_0000_0000, true, false),
-    (0xbff0_0000_0000_0000, 0x0000_0000_0000_0000, true, false),
-    (0xbff0_0000_0000_0000, 0x3ff0_0000_0000_0000, true, false),
-    (0xbff0_0000_0000_0000, 0x7ff8_0000_0000_0000, false, false),
-    (0xbff0_0000_0000_0000, 0x7ff0_0000_0000_0000, true, false),
-    (0x8010_0000_0000_0000, 0x8000_0000_0000_0000, true, false),
-    (0x8010_0000_0000_0000, 0x0000_0000_0000_0000, true, false),
-    (0x8010_0000_0000_0000, 0x3ff0_0000_0000_0000, true, false),
-    (0x8010_0000_0000_0000, 0x7ff8_0000_0000_0000, false, false),
-    (0x8010_0000_0000_0000, 0x7ff0_0000_0000_0000, true, false),
-    (0x8000_0000_0000_0001, 0x8000_0000_0000_0000, true, false),
-    (0x8000_0000_0000_0001, 0x0000_0000_0000_0000, true, false),
-    (0x8000_0000_0000_0001, 0x3ff0_0000_0000_0000, true, false),
-    (0x8000_0000_0000_0001, 0x7ff8_0000_0000_0000, false, false),
-    (0x8000_0000_0000_0001, 0x7ff0_0000_0000_0000, true, false),
-    (0x8000_0000_0000_0000, 0x8000_0000_0000_0000, false, true),
-    (0x8000_0000_0000_0000, 0x0000_0000_0000_0000, false, true),
-    (0x8000_0000_0000_0000, 0x3ff0_0000_0000_0000, true, false),
-    (0x8000_0000_0000_0000, 0x7ff8_0000_0000_0000, false, false),
-    (0x8000_0000_0000_0000, 0x7ff0_0000_0000_0000, true, false),
-    (0x0000_0000_0000_0000, 0x8000_0000_0000_0000, false, true),
-    (0x0000_0000_0000_0000, 0x0000_0000_0000_0000, false, true),
-    (0x0000_0000_0000_0000, 0x3ff0_0000_0000_0000, true, false),
-    (0x0000_0000_0000_0000, 0x7ff8_0000_0000_0000, false, false),
-    (0x0000_0000_0000_0000, 0x7ff0_0000_0000_0000, true, false),
-    (0x0000_0000_0000_0001, 0x8000_0000_0000_0000, false, false),
-    (0x0000_0000_0000_0001, 0x0000_0000_0000_0000, false, false),
-    (0x0000_0000_0000_0001, 0x3ff0_0000_0000_0000, true, false),
-    (0x0000_0000_0000_0001, 0x7ff8_0000_0000_0000, false, false),
-    (0x0000_0000_0000_0001, 0x7ff0_0000_0000_0000, true, false),
-    (0x0010_0000_0000_0000, 0x8000_0000_0000_0000, false, false),
-    (0x0010_0000_0000_0000, 0x0000_0000_0000_0000, false, false),
-    (0x0010_0000_0000_0000, 0x3ff0_0000_0000_0000, true, false),
-    (0x0010_0000_0000_0000, 0x7ff8_0000_0000_0000, false, false),
-    (0x0010_0000_0000_0000, 0x7ff0_0000_0000_0000, true, false),
-    (0x3fb9_9999_9999_999a, 0x8000_0000_0000_0000, false, false),
-    (0x3fb9_9999_9999_999a, 0x0000_0000_0000_0000, false, false),
-    (0x3fb9_9999_9999_999a, 0x3ff0_0000_0000_0000, true, false),
-    (0x3fb9_9999_9999_999a, 0x7ff8_0000_0000_0000, false, false),
-    (0x3fb9_9999_9999_999a, 0x7ff0_0000_0000_0000, true, false),
-    (0x3ff0_0000_0000_0000, 0x8000_0000_0000_0000, false, false),
-    (0x3ff0_0000_0000_0000, 0x0000_0000_0000_0000, false, false),
-    (0x3ff0_0000_0000_0000, 0x3ff0_0000_0000_0000, false, true),
-    (0x3ff0_0000_0000_0000, 0x7ff8_0000_0000_0000, false, false),
-    (0x3ff0_0000_0000_0000, 0x7ff0_0000_0000_0000, true, false),
-    (0x3ff0_0000_0000_0001, 0x8000_0000_0000_0000, false, false),
-    (0x3ff0_0000_0000_0001, 0x0000_0000_0000_0000, false, false),
-    (0x3ff0_0000_0000_0001, 0x3ff0_0000_0000_0000, false, false),
-    (0x3ff0_0000_0000_0001, 0x7ff8_0000_0000_0000, false, false),
-    (0x3ff0_0000_0000_0001, 0x7ff0_0000_0000_0000, true, false),
-    (0x7e37_e43c_8800_759c, 0x8000_0000_0000_0000, false, false),
-    (0x7e37_e43c_8800_759c, 0x0000_0000_0000_0000, false, false),
-    (0x7e37_e43c_8800_759c, 0x3ff0_0000_0000_0000, false, false),
-    (0x7e37_e43c_8800_759c, 0x7ff8_0000_0000_0000, false, false),
-    (0x7e37_e43c_8800_759c, 0x7ff0_0000_0000_0000, true, false),
-    (0x7ff0_0000_0000_0000, 0x8000_0000_0000_0000, false, false),
-    (0x7ff0_0000_0000_0000, 0x0000_0000_0000_0000, false, false),
-    (0x7ff0_0000_0000_0000, 0x3ff0_0000_0000_0000, false, false),
-    (0x7ff0_0000_0000_0000, 0x7ff8_0000_0000_0000, false, false),
-    (0x7ff0_0000_0000_0000, 0x7ff0_0000_0000_0000, false, true),
-    (0x7ff0_0000_0000_0001, 0x8000_0000_0000_0000, false, false),
-    (0x7ff0_0000_0000_0001, 0x0000_0000_0000_0000, false, false),
-    (0x7ff0_0000_0000_0001, 0x3ff0_0000_0000_0000, false, false),
-    (0x7ff0_0000_0000_0001, 0x7ff8_0000_0000_0000, false, false),
-    (0x7ff0_0000_0000_0001, 0x7ff0_0000_0000_0000, false, false),
-    (0x7ff8_0000_0000_0000, 0x8000_0000_0000_0000, false, false),
-    (0x7ff8_0000_0000_0000, 0x0000_0000_0000_0000, false, false),
-    (0x7ff8_0000_0000_0000, 0x3ff0_0000_0000_0000, false, false),
-    (0x7ff8_0000_0000_0000, 0x7ff8_0000_0000_0000, false, false),
-    (0x7ff8_0000_0000_0000, 0x7ff0_0000_0000_0000, false, false),
-    (0x7fff_ffff_ffff_ffff, 0x8000_0000_0000_0000, false, false),
-    (0x7fff_ffff_ffff_ffff, 0x0000_0000_0000_0000, false, false),
-    (0x7fff_ffff_ffff_ffff, 0x3ff0_0000_0000_0000, false, false),
-    (0x7fff_ffff_ffff_ffff, 0x7ff8_0000_0000_0000, false, false),
-    (0x7fff_ffff_ffff_ffff, 0x7ff0_0000_0000_0000, false, false),
+// Ascending in the total order.
+static SORTED_16: [Pattern; 16] = [
+    (0xffff, None),
+    (0xfe00, None),
+    (0xfc01, None),
+    (0xfc00, Some(0)),
+    (0xfbff, Some(1)),
+    (0x8001, Some(2)),
+    (0x8000, Some(3)),
+    (0x0000, Some(3)),
+    (0x0001, Some(4)),
+    (0x3c00, Some(5)),
+    (0x3e00, Some(6)),
+    (0x7bff, Some(7)),
+    (0x7c00, Some(8)),
+    (0x7c01, None),
+    (0x7e00, None),
+    (0x7fff, None),
 ];
 
-// Returns whether patterns ascend, and whether each comes back from its key.
-fn ascend(format: FloatFormat, patterns: &[u64]) -> bool {
+// Returns whether patterns ascend in the total order.
+fn ascend(format: FloatFormat, patterns: &[Pattern]) -> bool {
     let sign_bit = format.sign_bit();
     let mut ascending = true;
     for pair in patterns.windows(2) {
-        if pair[0] / 2 >= sign_bit || pair[1] / 2 >= sign_bit {
+        if pair[0].0 / 2 >= sign_bit || pair[1].0 / 2 >= sign_bit {
             return false;
         }
-        let order = compare_total(format, pair[0], pair[1]);
-        let back = from_total_key(format, total_key(format, pair[1]));
-        ascending = ascending && order == Ordering::Less && back == pair[1];
+        let order = compare_total(format, pair[0].0, pair[1].0);
+        ascending = ascending && order == Ordering::Less;
     }
     ascending
 }
@@ -179,31 +94,35 @@ fn patterns_are_in_the_total_order(rt: HostRuntime) {
     assert!(rt; all);
 }
 
-// Returns whether two floats compare as expected, also by the ranges of keys of the second.
-fn compares(pair: &(u64, u64, bool, bool)) -> bool {
-    let (left, right, less, equal) = *pair;
-    let format = FloatFormat::F64;
-    let key = total_key(format, left);
-    let ordered = !is_nan(format, left) && !is_nan(format, right);
-    is_less(format, left, right) == less
-        && is_equal(format, left, right) == equal
-        && keys_below(format, right).contains(&key) == less
-        && keys_equal(format, right).contains(&key) == equal
-        && keys_at_most(format, right).contains(&key) == (less || equal)
-        && keys_at_least(format, right).contains(&key) == (ordered && !less)
-        && keys_above(format, right).contains(&key) == (ordered && !less && !equal)
+// Returns whether two floats compare as their numbers do.
+fn compares(format: FloatFormat, left: &Pattern, right: &Pattern) -> bool {
+    let sign_bit = format.sign_bit();
+    if left.0 / 2 >= sign_bit || right.0 / 2 >= sign_bit {
+        return false;
+    }
+    let (is_below, is_same) = match (left.1, right.1) {
+        (Some(one), Some(other)) => (one < other, one == other),
+        _ => (false, false),
+    };
+    is_less(format, left.0, right.0) == is_below && is_equal(format, left.0, right.0) == is_same
+}
+
+// Returns whether a float compares with each of these as their numbers do.
+fn compares_with(format: FloatFormat, left: &Pattern, patterns: &[Pattern]) -> bool {
+    patterns.iter().all(|right| compares(format, left, right))
+}
+
+// Returns whether each two of these floats compare as their numbers do.
+fn all_compare(format: FloatFormat, patterns: &[Pattern]) -> bool {
+    patterns
+        .iter()
+        .all(|left| compares_with(format, left, patterns))
 }
 
 #[test]
 fn floats_compare_as_in_python(rt: HostRuntime) {
-    assert!(rt; COMPARED.iter().all(|pair| compares(pair)));
-}
-
-#[test]
-fn values_have_one_pattern(rt: HostRuntime) {
-    let zero = canonical(FloatFormat::F32, 0x8000_0000) == 0;
-    let nan = canonical(FloatFormat::F16, 0xfc01) == 0x7e00
-        && canonical(FloatFormat::F64, 0xffff_ffff_ffff_ffff) == 0x7ff8_0000_0000_0000;
-    let number = canonical(FloatFormat::F64, 0xbff0_0000_0000_0000) == 0xbff0_0000_0000_0000;
-    assert!(rt; zero && nan && number);
+    let all = all_compare(FloatFormat::F64, &SORTED_64)
+        && all_compare(FloatFormat::F32, &SORTED_32)
+        && all_compare(FloatFormat::F16, &SORTED_16);
+    assert!(rt; all);
 }

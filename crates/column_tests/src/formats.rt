@@ -117,8 +117,22 @@ fn other_formats_are_refused(rt: HostRuntime) {
     assert!(rt; REFUSED.iter().all(|format| read_format(format).is_none()));
 }
 
-// Returns whether the format's type is stored in integers of this type.
-fn is_stored(format: &str, ptype: PType) -> bool {
+// A format, and the integers in which its type is stored.
+static STORED: [(&str, PType); 9] = [
+    ("tdD", PType::I32),
+    ("tts", PType::I32),
+    ("ttm", PType::I32),
+    ("tdm", PType::I64),
+    ("ttu", PType::I64),
+    ("tsn:", PType::I64),
+    ("tDs", PType::I64),
+    ("e", PType::I16),
+    ("C", PType::U8),
+];
+
+// Returns whether a format's type is stored in the integers that its line has.
+fn is_stored(line: &(&str, PType)) -> bool {
+    let (format, ptype) = *line;
     match read_format(format) {
         Some(found) => {
             found.logical.storage(Nullability::Nullable)
@@ -130,20 +144,23 @@ fn is_stored(format: &str, ptype: PType) -> bool {
 
 #[test]
 fn types_are_stored_as_arrow_stores_them(rt: HostRuntime) {
-    let narrow = is_stored("tdD", PType::I32)
-        && is_stored("tts", PType::I32)
-        && is_stored("ttm", PType::I32);
-    let wide = is_stored("tdm", PType::I64)
-        && is_stored("ttu", PType::I64)
-        && is_stored("tsn:", PType::I64);
-    let others = is_stored("tDs", PType::I64)
-        && is_stored("e", PType::I16)
-        && is_stored("C", PType::U8);
-    assert!(rt; narrow && wide && others);
+    assert!(rt; STORED.iter().all(is_stored));
 }
 
-// Returns whether the sum of a format's type is of the type `expected`, or nothing at all.
-fn is_summed(format: &str, expected: Option<LogicalType>) -> bool {
+// A format, and the type of a sum of its rows, or `None` where there is none.
+static SUMMED: [(&str, Option<LogicalType>); 7] = [
+    ("C", Some(LogicalType::Integer(PType::U64))),
+    ("s", Some(LogicalType::Integer(PType::I64))),
+    ("tDm", Some(LogicalType::Duration(TimeUnit::Millisecond))),
+    ("tdD", None),
+    ("tss:", None),
+    ("g", None),
+    ("d:3,1", None),
+];
+
+// Returns whether the sum of a format's type is of the type that its line has.
+fn is_summed(line: &(&str, Option<LogicalType>)) -> bool {
+    let (format, expected) = *line;
     match read_format(format) {
         Some(found) => found.logical.answer(Operation::Sum) == expected,
         None => false,
@@ -152,31 +169,30 @@ fn is_summed(format: &str, expected: Option<LogicalType>) -> bool {
 
 #[test]
 fn only_integers_and_durations_have_sums(rt: HostRuntime) {
-    let summed = is_summed("C", Some(LogicalType::Integer(PType::U64)))
-        && is_summed("s", Some(LogicalType::Integer(PType::I64)))
-        && is_summed("tDm", Some(LogicalType::Duration(TimeUnit::Millisecond)));
-    let others = is_summed("tdD", None)
-        && is_summed("tss:", None)
-        && is_summed("g", None)
-        && is_summed("d:3,1", None);
-    assert!(rt; summed && others);
+    assert!(rt; SUMMED.iter().all(is_summed));
 }
 
-// Returns whether rows of two formats are compared.
-fn are_compared(left: &str, right: &str) -> bool {
+// Two formats, and whether rows of them are compared.
+static COMPARED: [(&str, &str, bool); 5] = [
+    ("tsu:UTC", "tsu:Asia/Tokyo", true),
+    ("tdD", "tdD", true),
+    ("tsu:", "tsu:UTC", false),
+    ("tsu:", "tsm:", false),
+    ("tdD", "i", false),
+];
+
+// Returns whether rows of two formats are compared where their line says so.
+fn are_compared(line: &(&str, &str, bool)) -> bool {
+    let (left, right, expected) = *line;
     match (read_format(left), read_format(right)) {
-        (Some(one), Some(other)) => Annotation::is_compared_with(one, other),
+        (Some(one), Some(other)) => Annotation::is_compared_with(one, other) == expected,
         _ => false,
     }
 }
 
 #[test]
 fn one_unit_is_compared(rt: HostRuntime) {
-    let same = are_compared("tsu:UTC", "tsu:Asia/Tokyo") && are_compared("tdD", "tdD");
-    let others = are_compared("tsu:", "tsu:UTC")
-        || are_compared("tsu:", "tsm:")
-        || are_compared("tdD", "i");
-    assert!(rt; same && !others);
+    assert!(rt; COMPARED.iter().all(are_compared));
 }
 
 #[test]

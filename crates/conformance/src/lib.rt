@@ -19,8 +19,6 @@ mod fakes;
 #[cfg(test)]
 mod functions;
 #[cfg(test)]
-mod groups;
-#[cfg(test)]
 mod laws;
 #[cfg(test)]
 mod lookups;
