@@ -1,5 +1,5 @@
 #!/usr/bin/env python3
-"""What the gate costs, crate by crate, as a table for docs/GATE.md.
+"""What the gate costs, crate by crate, as a table for docs/GATE.md, and how long it would take on two processors.
 
     python3 tools/gate_times.py [COMMAND ..]      runs the command, `rt ci` where none is given, and prints the table
 
@@ -7,8 +7,13 @@ While it runs the processor time of each process of the prover is read once a se
 process took may be missing. A process is known by its command (a build or a check, and of which crate) and by its
 folder: wrong bodies are tried in folders of their own, whose name begins with `rt-edit-`. A check that runs next to
 another gate on the machine is counted as well: run nothing else. Exits with the command's status.
+
+The time on two processors is worked out from these costs: each processor does one check at a time, first those that the
+longest chain of crates in `crates.txt` waits for, and wrong bodies last. What a check of a library waits for is the
+build of each library below it.
 """
 
+import heapq
 import os
 import re
 import subprocess
@@ -74,6 +79,58 @@ def machine() -> str:
     return f"{len(os.sched_getaffinity(0))} processors ({models[0] if models else 'unnamed'})"
 
 
+def libraries(text: str) -> dict[str, list[str]]:
+    """The libraries of this repository that each crate of a `crates.txt` uses."""
+    lines = [line.split(":") for line in text.splitlines() if ":" in line and not line.startswith("#")]
+    used = {head.split()[0]: names.split() for head, names in lines}
+    return {crate: [name for name in names if name in used] for crate, names in used.items()}
+
+
+@dataclass
+class Check:
+    """A check that waits for the libraries of these crates, makes that of a crate, or none, and is begun by its rank."""
+
+    makes: str
+    seconds: float
+    waits: list[str]
+    rank: float
+
+
+def checks_of(costs: dict[str, Costs], used: dict[str, list[str]]) -> list[Check]:
+    """The checks of all crates, ranked by the seconds of the longest chain that begins with them."""
+    chains: dict[str, float] = {}
+
+    def chain(crate: str) -> float:
+        if crate not in chains:
+            own = (costs[crate].builds + costs[crate].checks)[:1] if crate in costs else []
+            chains[crate] = sum(own) + max((chain(above) for above, names in used.items() if crate in names), default=0)
+        return chains[crate]
+
+    found = []
+    for crate, cost in costs.items():
+        below = used.get(crate, [])
+        first, *others = cost.builds + cost.checks or [0.0]
+        found.append(Check(crate, first, below, chain(crate)))
+        found += [Check("", seconds, below, seconds) for seconds in others]
+        found += [Check("", seconds, [crate, *below], 0) for seconds in cost.wrong_bodies]
+    return found
+
+
+def clock_on(processors: int, checks: list[Check]) -> float:
+    """The seconds by the clock of these checks, where each processor does one at a time."""
+    waiting = sorted(checks, key=lambda check: -check.rank)
+    missing = {check.makes for check in checks}
+    now, running = 0.0, []
+    while waiting or running:
+        ready = [check for check in waiting if not missing.intersection(check.waits)]
+        for check in ready[: processors - len(running)]:
+            waiting.remove(check)
+            heapq.heappush(running, (now + check.seconds, id(check), check))
+        now, _, done = heapq.heappop(running)
+        missing.discard(done.makes)
+    return now
+
+
 def table(costs: dict[str, Costs], clock: float, day: str) -> str:
     """The page's table, the dearest crate first, under a line that says where and when."""
     whole = sum(cost.all() for cost in costs.values())
@@ -97,7 +154,10 @@ def main(command: list[str]) -> int:
     while running.poll() is None:
         seen.update(provers())
         time.sleep(1)
-    print(table(costs_of(seen), time.time() - begin, date.today().isoformat()))
+    costs = costs_of(seen)
+    print(table(costs, time.time() - begin, date.today().isoformat()))
+    two = clock_on(2, checks_of(costs, libraries(Path("crates.txt").read_text(encoding="utf-8"))))
+    print(f"\nWorked out from these: {two / 60:.0f} minutes on two processors.")
     return running.returncode
 
 
