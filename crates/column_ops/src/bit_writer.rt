@@ -1,6 +1,6 @@
 //! Bits that are written one behind the other, 64 to a word. The word that is not full yet stands in a register, so
 //! that no bit waits for memory.
-ghost use Rattle.std.specs.Prelude.{◌≡◌, ◌∷◌, ◌++◌, [], length, IfOk, IsOkUnless, OnOk};
+ghost use Rattle.std.specs.Prelude.{◌≡◌, ◌∷◌, ◌++◌, [], length, IfOk, IsOkUnless, OnErr, OnOk};
 
 use column_core::{BitBufferMut, VortexError, VortexResult};
 use std::alloc::Allocator;
@@ -39,10 +39,11 @@ impl<A: Allocator + Copy> BitWriter<A> {
         })
     }
 
-    /// Puts `bit` behind the last bit. Refused only for memory.
+    /// Puts `bit` behind the last bit. Refused only for memory, where the bits stay as they were.
     #[inline(always)]
     pub fn append(&mut self, bit: bool) -> VortexResult<()>
         ensures ok { OnOk result (self.new ≡ self.old ++ bit ∷ []) }
+        ensures kept { OnErr result (self.new ≡ self.old) }
         ensures only { IsOkUnless result VortexError.OutOfMemory }
     {
         let word = self.word | (u64::from(bit) << self.filled);
