@@ -1,5 +1,5 @@
 //! The format strings of Arrow's C data interface, written.
-ghost use Rattle.std.specs.Prelude.{◌≡◌, ◌++◌, [], OnOk};
+ghost use Rattle.std.specs.Prelude.{◌≡◌, ◌++◌, [], OnErr, OnOk};
 ghost use Rattle.std.specs.String.{string_bytes};
 ghost use Rattle.logical_types.specs.Formats.{date_format, duration_format, float_format, format_of, integer_format, time_format, timestamp_format, written_ending};
 ghost use Rattle.logical_types.specs.declared.types.LogicalType.TheVariants.{Decimal};
@@ -10,13 +10,15 @@ use column_base::{DecimalDType, PType};
 use float_bits::FloatFormat;
 use std::alloc::{AllocError, Allocator};
 
-/// Puts the format string of a type after the text, with the zone of timestamps. Refused only for memory.
+/// Puts the format string of a type after the text, with the zone of timestamps. Refused only for memory, where the
+/// text stays as it was.
 pub fn push_format<A: Allocator + Copy>(
     text: &mut String<A>,
     annotation: Annotation<'_>,
 ) -> Result<(), AllocError>
-    ensures { OnOk result (string_bytes text.new ≡
+    ensures written { OnOk result (string_bytes text.new ≡
         string_bytes text.old ++ format_of annotation.entry.logical annotation.entry.zone.now) }
+    ensures kept { OnErr result (string_bytes text.new ≡ string_bytes text.old) }
 {
     match annotation.logical {
         LogicalType::Integer(ptype) => text.push_str(integer_format(ptype)),
@@ -24,9 +26,10 @@ pub fn push_format<A: Allocator + Copy>(
         LogicalType::Date(unit) => text.push_str(date_format(unit)),
         LogicalType::TimeOfDay(unit) => text.push_str(time_format(unit)),
         LogicalType::Timestamp(unit) => {
-            text.push_str(timestamp_format(unit))?;
-            text.push_str(":")?;
-            text.push_str(annotation.zone)
+            let clock = timestamp_format(unit);
+            let zone = annotation.zone;
+            let word = format!(in *text.allocator(); "{clock}:{zone}")?;
+            text.push_str(word.as_str())
         }
         LogicalType::Duration(unit) => text.push_str(duration_format(unit)),
         LogicalType::Decimal(decimal, width) => push_decimal(text, decimal, width),
@@ -39,12 +42,15 @@ fn push_decimal<A: Allocator + Copy>(
     decimal: DecimalDType,
     width: DecimalWidth,
 ) -> Result<(), AllocError>
-    ensures { OnOk result (string_bytes text.new ≡ string_bytes text.old ++ format_of (Decimal decimal width) []) }
+    ensures written { OnOk result (string_bytes text.new ≡
+        string_bytes text.old ++ format_of (Decimal decimal width) []) }
+    ensures kept { OnErr result (string_bytes text.new ≡ string_bytes text.old) }
 {
     let precision = decimal.precision;
     let scale = decimal.scale;
-    write!(text, "d:{precision},{scale}")?;
-    text.push_str(ending(width))
+    let ending = ending(width);
+    let word = format!(in *text.allocator(); "d:{precision},{scale}{ending}")?;
+    text.push_str(word.as_str())
 }
 
 fn ending(width: DecimalWidth) -> &'static str
