@@ -1,9 +1,10 @@
 #!/usr/bin/env python3
 """The public names of the library, held against the sources: a name that callers use has to stay where they find it.
 
-    python3 tools/surface.py        names what is gone; ends in 'N passed, M failed', N the names
+    python3 tools/surface.py            names what is gone, and what is not listed; ends in 'N passed, M failed'
+    python3 tools/surface.py --write    adds to surface.txt what the sources make public and it does not list
 
-`surface.txt` lists the names. A line `[PATH]` says where a caller finds those below it: a crate, or a public module of
+`surface.txt` lists the names: of the crates in LISTED all that a caller finds, and of others those that are wanted. A line `[PATH]` says where a caller finds those below it: a crate, or a public module of
 one. A line `NAME` is a function, a constant, a type or a trait there, defined `pub` or by `pub use`. Behind `NAME:` come
 what belongs to it: variants, and their fields as `VARIANT.FIELD`; fields that are `pub`; methods that are `pub`, or of a
 public trait that the type implements; what a trait has; and traits that it derives or implements as `+TRAIT`.
@@ -16,6 +17,9 @@ from functools import cache
 from pathlib import Path
 
 ROOT = Path(__file__).resolve().parent.parent
+LIST = ROOT / "tools" / "surface.txt"
+# of these crates each public name is listed
+LISTED = ("column_base", "runend_array", "vortex_runend")
 ITEM = re.compile(r"^(pub(?:\([a-z]+\))? )?(?:const )?(?:unsafe )?(fn|struct|enum|trait|type|const) (\w+)", re.M)
 MODULE = re.compile(r"^(pub )?mod (\w+);", re.M)
 USE = re.compile(r"^pub use ([\w:]+?)(?:::\{([^}]*)\}|( as \w+)?);", re.M)
@@ -164,12 +168,79 @@ def missing(listed: str, sources: Sources) -> tuple[int, list[str]]:
     return count, faults
 
 
+def public_names(sources: Sources, path: tuple[str, ...]) -> dict[str, list[str]]:
+    """Where a caller finds names in a module and in the public modules below it, and the names there, in order."""
+    module = sources.find(path)
+    if not isinstance(module, Module):
+        return {}
+    names = {name for name, (public, _) in module.items.items() if public} | set(module.uses)
+    below = {name for name in names if isinstance(sources.find(path + (name,)), Module)}
+    found = {"::".join(path): sorted(names - below)}
+    for name in below | {name for name, public in module.modules.items() if public}:
+        found |= public_names(sources, path + (name,))
+    return found
+
+
+def names_in(listed: str) -> dict[str, list[str]]:
+    """The names of a list, by where a caller finds them."""
+    found: dict[str, list[str]] = {}
+    home = ""
+    for line in re.sub(r"#.*", "", listed).replace("\\\n", " ").split("\n"):
+        if line.startswith("["):
+            home = line.strip("[] ")
+            found.setdefault(home, [])
+        elif line.strip():
+            found[home].append(line.partition(":")[0].strip())
+    return found
+
+
+def unlisted(listed: str, sources: Sources, crates: tuple[str, ...] = LISTED) -> dict[str, list[str]]:
+    """The public names of these crates that the list lacks, by where a caller finds them."""
+    there = names_in(listed)
+    public: dict[str, list[str]] = {}
+    for crate in crates:
+        public |= public_names(sources, (crate,))
+    lacking = {home: [name for name in names if name not in there.get(home, [])] for home, names in public.items()}
+    return {home: names for home, names in lacking.items() if names}
+
+
+def line_of(sources: Sources, home: str, name: str) -> str:
+    """A line of the list for a name, with all that belongs to it, in lines of at most 120 characters."""
+    found = sources.find(tuple(f"{home}::{name}".split("::")))
+    members = sorted(sources.members(*found)) if isinstance(found, tuple) else []
+    lines, line = [], f"{name}:" if members else name
+    for member in members:
+        if len(line) + len(member) > 116:
+            lines.append(line + " \\")
+            line = "   "
+        line += f" {member}"
+    return "\n".join([*lines, line])
+
+
+def with_lines(listed: str, sources: Sources, added: dict[str, list[str]]) -> str:
+    """The list with lines for further names, each at the end of its part."""
+    parts = re.split(r"(?m)^(?=\[)", listed.rstrip("\n") + "\n")
+    for home, names in added.items():
+        lines = "".join(line_of(sources, home, name) + "\n" for name in names)
+        place = next((at for at, part in enumerate(parts) if part.startswith(f"[{home}]")), None)
+        if place is None:
+            parts.append(f"\n[{home}]\n{lines}")
+        else:
+            parts[place] = parts[place].rstrip("\n") + f"\n{lines}" + ("\n" if place + 1 < len(parts) else "")
+    return "".join(parts)
+
+
 def main() -> int:
-    listed = (ROOT / "tools" / "surface.txt").read_text(encoding="utf-8")
-    count, faults = missing(listed, Sources(ROOT))
+    listed, sources = LIST.read_text(encoding="utf-8"), Sources(ROOT)
+    lacking = unlisted(listed, sources)
+    if sys.argv[1:] == ["--write"]:
+        LIST.write_text(with_lines(listed, sources, lacking), encoding="utf-8")
+        lacking = {}
+    count, faults = missing(LIST.read_text(encoding="utf-8"), sources)
+    faults += [f"{home}: {name} is public and not listed" for home, names in lacking.items() for name in names]
     for fault in faults:
         print(fault)
-    print(f"{count - len(faults)} passed, {len(faults)} failed")
+    print(f"{max(count - len(faults), 0)} passed, {len(faults)} failed")
     return 1 if faults else 0
 
 

@@ -4,7 +4,7 @@ import tempfile
 import unittest
 from pathlib import Path
 
-from surface import ROOT, Sources, missing
+from surface import ROOT, Sources, missing, unlisted, with_lines
 
 LOWER = """//! Lower.
 mod shapes;
@@ -119,6 +119,35 @@ class Surface(unittest.TestCase):
         laws = sources.module(("vortex_runend", "laws"))
         laws.uses["executions_agree"] = laws.uses.pop("runs_agree")
         self.assertEqual(missing(listed, sources), (count, ["vortex_runend::laws: no caller finds runs_agree"]))
+
+
+class Unlisted(unittest.TestCase):
+    LISTED = "# Names.\n\n[upper]\nExtent\nGrows\nShape: Box\n"
+
+    def sources(self, folder: str) -> Sources:
+        for name, text in FILES.items():
+            path = Path(folder) / "crates" / name
+            path.parent.mkdir(parents=True, exist_ok=True)
+            path.write_text(text, encoding="utf-8")
+        return Sources(Path(folder))
+
+    def test_what_the_list_lacks_is_told(self) -> None:
+        with tempfile.TemporaryDirectory() as folder:
+            lacking = unlisted(self.LISTED, self.sources(folder), ("upper",))
+            self.assertEqual(lacking, {"upper": ["surface"], "upper::laws": ["sums_agree"]})
+
+    def test_private_names_are_not_wanted(self) -> None:
+        with tempfile.TemporaryDirectory() as folder:
+            lacking = unlisted("", self.sources(folder), ("lower",))
+            self.assertEqual(lacking, {"lower": ["Extent", "Shape", "area"], "lower::laws": ["sums_agree"]})
+
+    def test_what_is_added_is_listed_with_what_belongs_to_it(self) -> None:
+        with tempfile.TemporaryDirectory() as folder:
+            sources = self.sources(folder)
+            made = with_lines("[lower]\narea\n", sources, unlisted("[lower]\narea\n", sources, ("lower",)))
+            self.assertEqual(missing(made, sources)[1], [])
+            self.assertEqual(unlisted(made, sources, ("lower",)), {})
+            self.assertIn("Shape: +Clone +Copy +Debug +Display", made)
 
 
 if __name__ == "__main__":
