@@ -40,11 +40,20 @@ pub fn lists_over<A: Allocator + Copy>(
         return Err(VortexError::Unsupported);
     };
     let elements = Rc::new(alloc, flat.try_clone(alloc)?)?;
-    let offsets = index_column(alloc, offsets)?;
+    let offsets = match index_column(alloc, offsets) {
+        Ok(offsets) => offsets,
+        Err(error) => {
+            drop(elements);
+            drop(validity);
+            return Err(error);
+        }
+    };
     let sizes = match index_column(alloc, sizes) {
         Ok(sizes) => sizes,
         Err(error) => {
             drop(offsets);
+            drop(elements);
+            drop(validity);
             return Err(error);
         }
     };

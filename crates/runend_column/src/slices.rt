@@ -136,7 +136,13 @@ fn runs_between<A: Allocator + Copy>(
 {
     let alloc = *ctx.allocator();
     let ends = array.ends_between(alloc, runs.start, runs.end)?;
-    let values = values_between(alloc, array.values(), runs.start, runs.end)?;
+    let values = match values_between(alloc, array.values(), runs.start, runs.end) {
+        Ok(values) => values,
+        Err(error) => {
+            drop(ends);
+            return Err(error);
+        }
+    };
     let ends = ArrayRef::Primitive(ends);
     let part = RunEnd::new_unchecked(ends, values, offset, count);
     ArrayRef::of_runs(alloc, part)
