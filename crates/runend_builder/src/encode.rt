@@ -124,9 +124,20 @@ fn runs_of_constant<A: Allocator + Copy>(
     let runs = count.min(1);
     let ends = vec![in alloc; count as u64; runs]?;
     let ends = PrimitiveArray::new_unchecked(u64::wrap(ends), Validity::NonNullable);
-    let flat = array.rows_between(alloc, 0, runs)?;
+    let flat = match array.rows_between(alloc, 0, runs) {
+        Ok(flat) => flat,
+        Err(error) => {
+            drop(ends);
+            return Err(error);
+        }
+    };
     match flat {
-        Canonical::Flat(values) => encode_runs(alloc, &ends, &values, 0, count),
+        Canonical::Flat(values) => {
+            let made = encode_runs(alloc, &ends, &values, 0, count);
+            drop(values);
+            drop(ends);
+            made
+        }
         Canonical::List(_) => unreachable!(),
     }
 }
