@@ -1,5 +1,5 @@
-//! Tests of the crates below run columns, where no line of vectors makes the call: bits, flat columns, scalars and
-//! sums, the texts of errors, metadata records, floats by their bits, logical types, and the allocator that refuses.
+//! Tests of the crates below run columns, where no line of vectors makes the call: bits, flat columns, the texts of
+//! errors, metadata records, floats by their bits, logical types, and the allocator that refuses.
 #![tactic(auto)]
 
 #[cfg(test)]
@@ -8,8 +8,6 @@ mod bits;
 mod errors;
 #[cfg(test)]
 mod exact_sums;
-#[cfg(test)]
-mod flat;
 #[cfg(test)]
 mod flat_calls;
 #[cfg(test)]
@@ -22,9 +20,5 @@ mod parts;
 mod records;
 #[cfg(test)]
 mod refusals;
-#[cfg(test)]
-mod scalars;
-#[cfg(test)]
-mod sums;
 #[cfg(test)]
 mod units;

@@ -35,23 +35,3 @@ pub(crate) fn nullable<T: NativePType, A: Allocator + Copy>(
         }
     }
 }
-
-/// Both, or the first refusal.
-pub(crate) fn both<L: Drop, R: Drop>(
-    left: VortexResult<L>,
-    right: VortexResult<R>,
-) -> VortexResult<(L, R)> {
-    match left {
-        Ok(left) => match right {
-            Ok(right) => Ok((left, right)),
-            Err(error) => {
-                drop(left);
-                Err(error)
-            }
-        },
-        Err(error) => {
-            drop(right);
-            Err(error)
-        }
-    }
-}

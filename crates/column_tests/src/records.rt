@@ -1,42 +1,10 @@
-//! Metadata records that no line of vectors holds: those that a program builds, and long ones.
-use column_base::{PType, VortexError, VortexResult};
+//! Metadata records that no line of vectors holds: those that a program builds.
+use column_base::{PType, VortexResult};
 use column_fields::RunEndMetadata;
 use column_fields::record_laws::write_then_read;
 use refusing::{Calls, are_answered_in_turn};
-use std::alloc::{Allocator, Global};
+use std::alloc::Allocator;
 use std::test::Fail;
-
-// How many bytes of fields are skipped: two fields of two bytes each time.
-const SKIPPED: usize = 1 << 20;
-
-// A record of a mebibyte of fields that are skipped, each a number of one byte, and then the ends type u32.
-fn with_skipped_fields(alloc: Global) -> VortexResult<Vec<u8, Global>> {
-    let mut bytes = Vec::new(alloc);
-    for index in 0..SKIPPED {
-        bytes.push(if index % 2 == 0 { 0x20 } else { 0x7F })?;
-    }
-    bytes.extend_from_slice(&[0x08, 0x02])?;
-    Ok(bytes)
-}
-
-// Does the record say this type of ends, and no runs and no offset?
-fn says_ends(bytes: &[u8], ends_ptype: i32) -> VortexResult<bool> {
-    let metadata = RunEndMetadata::decode(bytes)?;
-    Ok((metadata.ends_ptype, metadata.num_runs, metadata.offset) == (ends_ptype, 0, 0))
-}
-
-#[test]
-fn a_mebibyte_of_skipped_fields_is_read(rt: HostRuntime) -> Result<(), Fail> {
-    let bytes = with_skipped_fields(rt.alloc())?;
-    let is_read = says_ends(&bytes, 2);
-    let front = bytes
-        .split_last()
-        .map_or(bytes.as_slice(), |(_, front)| front);
-    let is_cut = says_ends(front, 2);
-    drop(bytes);
-    assert!(rt; is_read == Ok(true) && is_cut == Err(VortexError::BadMetadata));
-    Ok(())
-}
 
 // Are these the bytes that a record was written as?
 fn are_bytes<A: Allocator>(written: VortexResult<Vec<u8, A>>, bytes: &[u8]) -> VortexResult<bool> {
