@@ -1,5 +1,5 @@
 //! Tests of the library as a program calls it: the lines that the pages show, calls that no line of vectors can make,
-//! scripts that end early, and the report of vectors.
+//! and scripts that end early.
 #![tactic(auto)]
 
 #[cfg(test)]
@@ -21,19 +21,19 @@ mod functions;
 #[cfg(test)]
 mod laws;
 #[cfg(test)]
-mod lookups;
+mod list_steps;
 #[cfg(test)]
-mod many_runs;
+mod lists;
+#[cfg(test)]
+mod lookups;
 #[cfg(test)]
 mod names;
 #[cfg(test)]
 mod parts;
 #[cfg(test)]
-mod reports;
+mod refusals;
 #[cfg(test)]
 mod scripts;
-#[cfg(test)]
-mod shared;
 #[cfg(test)]
 mod shown;
 #[cfg(test)]
