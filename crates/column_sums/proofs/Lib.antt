@@ -4,3 +4,4 @@ pub mod RunSums
 pub mod SingleRows
 pub mod Reaches
 pub mod EightBits
+pub mod Lanes

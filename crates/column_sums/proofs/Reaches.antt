@@ -1,5 +1,5 @@
 -- A bound of the numbers bounds each partial sum.
-use Rattle.std.proofs.Common.{◌≡◌, ◌∙◌, ℕ, zero, suc, ◌+◌, ◌*◌, ◌<◌, ◌≤◌, ℤ, pos, negsuc, neg_ℤ, ◌+ℤ◌, ◌*ℤ◌, ◌≤ℤ◌, ◌&&◌, Bool, true, false, not, Option, Some, None, List, [], ◌∷◌, length, drop, refl, sym, ap, arith, length-append}
+use Rattle.std.proofs.Common.{◌≡◌, ◌∙◌, ℕ, zero, suc, ◌+◌, ◌*◌, ◌<◌, ◌≤◌, ℤ, pos, negsuc, neg_ℤ, ◌+ℤ◌, ◌*ℤ◌, ◌≤ℤ◌, Bool, true, false, not, Option, Some, None, List, [], ◌∷◌, length, drop, refl, sym, ap, arith, length-append}
 use Rattle.std.specs.Prelude.{IfSome, is_none, is_some, option_map, replicate, slice_get}
 use Rattle.column_base.specs.Words.{one_if}
 use Rattle.std.proofs.lemmas.Int.{ints}
@@ -9,9 +9,9 @@ use Rattle.std.proofs.Math.Nat.{mul-le-mul_right, mul-le-mul_left, mul-add}
 use Rattle.column_sums.specs.SumRange.{SumRange, SignedRange, UnsignedRange, is_within}
 use Rattle.column_sums.specs.RunSum.{rows_of_runs}
 use Rattle.column_sums.specs.Reach.{IsSized, IsStored, StaysWithin, has_number, lowest}
-use Rattle.column_sums.specs.SumState.{IsAddable, SumState, with_run}
-use Rattle.column_sums.specs.Summed.{IsSummedOn, run_value}
-use Rattle.column_sums.proofs.RunSums.{all_or, drop-at, none_after, null_run, valid_run}
+use Rattle.column_sums.specs.SumState.{IsAddable, lanes_with}
+use Rattle.column_sums.specs.Summed.{run_value}
+use Rattle.column_sums.proofs.RunSums.{drop-at}
 use Rattle.column_sums.proofs.Within.{is_within-between}
 
 -- a product of a number from -low to high and a count
@@ -105,24 +105,22 @@ run-addable range size sum runs run (Some n) count at sized stays =
     )
 
 -- and after it the rows of the others leave the sum in the range
-pub run-stays : (range : SumRange) (size : ℕ) (sum : SumState) (runs : List (Option ℤ × ℕ)) (run : ℕ) (value : Option ℤ) (count : ℕ) → slice_get runs run ≡ Some (value, count)
-    → ((n : ℤ) → value ≡ Some n → IsSized range size n) → StaysWithin range size sum.value (length (rows_of_runs (drop run runs)))
-    → StaysWithin range size (with_run sum value count).value (length (rows_of_runs (drop (run + 1) runs)))
+pub run-stays : (range : SumRange) (size : ℕ) (sum : ℤ) (runs : List (Option ℤ × ℕ)) (run : ℕ) (value : Option ℤ) (count : ℕ) → slice_get runs run ≡ Some (value, count)
+    → ((n : ℤ) → value ≡ Some n → IsSized range size n) → StaysWithin range size sum (length (rows_of_runs (drop run runs)))
+    → StaysWithin range size (lanes_with sum value count) (length (rows_of_runs (drop (run + 1) runs)))
 run-stays range size sum runs run None count at sized stays =
-    stays-fewer range size sum.value (length (rows_of_runs (drop run runs))) (length (rows_of_runs (drop (run + 1) runs))) (rows_left-next runs run) stays
+    stays-fewer range size sum (length (rows_of_runs (drop run runs))) (length (rows_of_runs (drop (run + 1) runs))) (rows_left-next runs run) stays
 run-stays range size sum runs run (Some n) count at sized stays =
     let rest = length (rows_of_runs (drop (run + 1) runs)) in
     let left = rows_left-at runs run (Some n) count at in
-    stays-next range size sum.value n count rest (sized n refl) (stays-fewer range size sum.value (length (rows_of_runs (drop run runs))) (count + rest) (omega (arith, left)) stays)
+    stays-next range size sum n count rest (sized n refl) (stays-fewer range size sum (length (rows_of_runs (drop run runs))) (count + rest) (omega (arith, left)) stays)
 
--- a run whose value and rows were read, and were added untested
-pub known_run : (range : SumRange) (runs : List (Option ℤ × ℕ)) (run : ℕ) (value : Option ℤ) (count : ℕ) (sum : SumState) (is_empty : Bool)
-    → slice_get runs run ≡ Some (value, count) → 0 < count → IsAddable range sum.value value count
-    → IsSummedOn range runs run sum is_empty (run + 1) (with_run sum value count) (is_empty && is_none value)
-known_run range runs run None count sum is_empty at shown addable =
-    λ before summed. rw (all_or is_empty) (null_run range before runs run count sum is_empty at summed)
-known_run range runs run (Some n) count sum is_empty at shown addable =
-    λ before summed. rw (none_after is_empty) (valid_run range before runs run n count sum (with_run sum (Some n) count) is_empty at shown (sym addable.0) refl refl summed)
+-- rows that leave a sum in the range leave 0 there too
+pub stays-alone : (range : SumRange) (size : ℕ) (sum : ℤ) (rows : ℕ) → StaysWithin range size sum rows → StaysWithin range size (pos 0) rows
+stays-alone SignedRange size sum rows stays =
+    let down = stays.down in let up = stays.up in record { down = omega (arith, ints); up = omega (arith, ints) }
+stays-alone UnsignedRange size sum rows stays =
+    let down = stays.down in let up = stays.up in record { down = omega (arith, ints); up = omega (arith, ints) }
 
 -- a number of a size is of each larger one
 pub sized-wider : (range : SumRange) (size wider : ℕ) (n : ℤ) → size ≤ wider → IsSized range size n → IsSized range wider n

@@ -8,7 +8,7 @@ use Rattle.std.proofs.Math.IntN.{*ℤ-zero, +ℤ_idr}
 use Rattle.column_sums.specs.SumRange.{SumRange, is_within}
 use Rattle.column_sums.specs.RowSum.{partial_sums, last_after, sum_from, sum_of_rows, are_null}
 use Rattle.column_sums.specs.RunSum.{rows_of_runs, valid_runs, through_first_leaving, calls_of}
-use Rattle.column_sums.specs.SumState.{SumState}
+use Rattle.column_sums.specs.SumState.{IsCounted, SumState}
 use Rattle.column_sums.specs.Summed.{IsSummed, IsSumOfRuns}
 use Rattle.column_sums.specs.SumAnswer.{value_in, answer_of}
 use Rattle.column_sums.specs.declared.answer.SumAnswer.{SumAnswer}
@@ -224,3 +224,13 @@ pub few_calls : (range : SumRange) (before calls : List (ℤ × ℕ)) (runs : Li
 few_calls range before calls runs made =
     let counted : length calls ≡ length before + length (calls_of range runs) = ap length made ∙ length-append before (calls_of range runs) in
     omega (arith, length-through_first_leaving range (pos 0) (valid_runs runs))
+
+-- an addition for a run that is listed is counted
+pub counted_run : (old sum next : SumState) (n : ℤ) (count : ℕ) → next.calls ≡ sum.calls ++ (n, count) ∷ [] → next.additions ≡ sum.additions + 1 → IsCounted old sum → IsCounted old next
+counted_run old sum next n count called added counted =
+    let longer : length next.calls ≡ length sum.calls + 1 = ap length called ∙ length-append sum.calls ((n, count) ∷ []) in omega (arith, longer, added, counted)
+
+-- no more is added than there are valid runs
+pub few_additions : (runs : List (Option ℤ × ℕ)) (old new : SumState) → length new.calls ≤ length old.calls + length (valid_runs runs) → IsCounted old new
+    → new.additions ≤ old.additions + length (valid_runs runs)
+few_additions runs old new few counted = omega (arith, few, counted)

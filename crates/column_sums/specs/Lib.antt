@@ -6,3 +6,4 @@ pub mod SumAnswer
 pub mod Summed
 pub mod Room
 pub mod Reach
+pub mod Lanes

@@ -5,6 +5,7 @@ ghost use Rattle.column_sums.specs.Reach.{AreFlagsOfEight, AreSized, StaysWithin
 ghost use Rattle.column_sums.specs.RunSum.{rows_of_runs};
 ghost use Rattle.column_sums.specs.Summed.{IsSummedOn, run_value};
 ghost use Rattle.column_sums.specs.SumRange.{sum_range};
+ghost use Rattle.column_sums.specs.SumState.{IsCounted};
 
 use crate::run_sum::RunSum;
 use crate::runs::Runs;
@@ -37,6 +38,7 @@ pub(crate) fn add_known_runs<V: NativePType, S: RunSum<V>, R: Runs<V>>(
     ensures to { result.end ≤ to }
     ensures summed { IsSummedOn (sum_range V.PTYPE) (R.runs runs.now) from (S.state sum.old) is_empty
         result.end (S.state sum.new) result.is_empty }
+    ensures counted { IsCounted (S.state sum.old) (S.state sum.new) }
 {
     match size_in_reach::<V, S, R>(runs, from, to, sum) {
         Some(size) if size <= SHORT_SIZE => {
@@ -97,6 +99,7 @@ fn add_eights<const SHORT: bool, V: NativePType, S: RunSum<V>, R: Runs<V>>(
     ensures to { result.end ≤ to }
     ensures summed { IsSummedOn (sum_range V.PTYPE) (R.runs runs.now) from (S.state sum.old) is_empty
         result.end (S.state sum.new) result.is_empty }
+    ensures counted { IsCounted (S.state sum.old) (S.state sum.new) }
 {
     let last = to - (to - from) % 8;
     let mut all_null = is_empty;
@@ -114,7 +117,8 @@ fn add_eights<const SHORT: bool, V: NativePType, S: RunSum<V>, R: Runs<V>>(
     }
 }
 
-// Eight runs, of which flags say which are not null. Returns whether all runs so far are null.
+// Eight runs, of which flags say which are not null. What they come to is worked out in lanes of its own, and added at
+// once, where one of them is valid. Returns whether all runs so far are null.
 #[inline(always)]
 fn add_eight<const SHORT: bool, V: NativePType, S: RunSum<V>, R: Runs<V>>(
     runs: &R,
@@ -136,14 +140,21 @@ fn add_eight<const SHORT: bool, V: NativePType, S: RunSum<V>, R: Runs<V>>(
         (length (rows_of_runs (drop (from + 8) (R.runs runs.now)))) }
     ensures summed { IsSummedOn (sum_range V.PTYPE) (R.runs runs.now) from (S.state sum.old) is_empty
         (from + 8) (S.state sum.new) result }
+    ensures counted { IsCounted (S.state sum.old) (S.state sum.new) }
 {
-    let mut all_null = is_empty;
+    let mut lanes = V::default();
+    let mut all_null = true;
     for lane in 0..8 {
         let value = value_of_lane::<V, R>(runs, from, flags, lane);
+        let len = runs.inner_row_count(from + lane);
         all_null = all_null & value.is_none();
-        sum.add_known(value, runs.inner_row_count(from + lane), SHORT);
+        lanes = S::lane_added(lanes, value, len, SHORT);
+        sum.list(value, len);
     }
-    all_null
+    if !all_null {
+        sum.add_lanes(lanes);
+    }
+    is_empty & all_null
 }
 
 // The value of one of eight runs. It is read before its flag is asked, so that eight values are read without a branch.

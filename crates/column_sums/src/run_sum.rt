@@ -1,9 +1,9 @@
 //! What a loop over runs asks of a sum, whichever sign its numbers have.
-ghost use Rattle.std.specs.Prelude.{◌≡◌, ◌+◌, ◌-◌, ◌*◌, ◌<◌, ◌^◌, ◌+ℤ◌, ◌*ℤ◌, pos, [], ◌∷◌, ◌++◌, true, option_map, IfSome};
+ghost use Rattle.std.specs.Prelude.{◌≡◌, ◌+◌, ◌-◌, ◌*◌, ◌<◌, ◌^◌, ◌+ℤ◌, ◌*ℤ◌, pos, [], ◌∷◌, ◌++◌, true, false, option_map, IfSome};
 ghost use Rattle.column_sums.specs.Reach.{IsSized, StaysWithin};
 ghost use Rattle.column_sums.specs.SumAnswer.{value_in};
 ghost use Rattle.column_sums.specs.SumRange.{is_within, sum_range};
-ghost use Rattle.column_sums.specs.SumState.{IsAddable, SumState, with_run};
+ghost use Rattle.column_sums.specs.SumState.{IsAddable, SumState, lanes_with, with_lanes, with_listed};
 
 use crate::answer::SumValue;
 use column_core::NativePType;
@@ -15,7 +15,7 @@ pub trait RunSum<V: NativePType>: Drop {
 
     /// Makes the sum of nothing, which is 0.
     fn empty() -> Self
-        ensures { state result ≡ record { value = pos 0; calls = [] } };
+        ensures { state result ≡ record { value = pos 0; calls = []; additions = 0 } };
 
     /// Returns the sum so far.
     fn total(&self) -> SumValue
@@ -28,16 +28,27 @@ pub trait RunSum<V: NativePType>: Drop {
             ((state self.old).value +ℤ V.number value *ℤ pos len) }
         ensures added { result ≡ true → (state self.new).value ≡
             (state self.old).value +ℤ V.number value *ℤ pos len }
-        ensures calls { (state self.new).calls ≡ (state self.old).calls ++ (V.number value, len) ∷ [] };
+        ensures unchanged { result ≡ false → (state self.new).value ≡ (state self.old).value }
+        ensures calls { (state self.new).calls ≡ (state self.old).calls ++ (V.number value, len) ∷ [] }
+        ensures additions { (state self.new).additions ≡ (state self.old).additions + 1 };
 
-    /// Adds a run whose value and result are known to be in the range, and nothing for a null run: without a test, and
-    /// without a branch. `is_short` says that the value has 32 bits.
-    fn add_known(&mut self, value: Option<V>, len: usize, is_short: bool)
+    /// Returns what lanes come to with one run more, whose value and result are known to be in the range, and nothing
+    /// more for a null run: without a test, and without a branch. `is_short` says that the value has 32 bits.
+    fn lane_added(lanes: V, value: Option<V>, len: usize, is_short: bool) -> V
         requires few { len < 2 ^ 31 }
         requires short { is_short ≡ true →
             IfSome (option_map V.number value) (IsSized (sum_range V.PTYPE) (2 ^ 31 - 1)) }
-        requires addable { IsAddable (sum_range V.PTYPE) (state self.old).value (option_map V.number value) len }
-        ensures { state self.new ≡ with_run (state self.old) (option_map V.number value) len };
+        requires addable { IsAddable (sum_range V.PTYPE) (V.number lanes) (option_map V.number value) len }
+        ensures { V.number result ≡ lanes_with (V.number lanes) (option_map V.number value) len };
+
+    /// Lists a run that lanes add, and no null run. Nothing is added to the sum yet.
+    fn list(&mut self, value: Option<V>, len: usize)
+        ensures { state self.new ≡ with_listed (state self.old) (option_map V.number value) len };
+
+    /// Adds what lanes come to, which is known to leave the sum in the range, by one addition.
+    fn add_lanes(&mut self, lanes: V)
+        requires { is_within (sum_range V.PTYPE) ((state self.old).value +ℤ V.number lanes) ≡ true }
+        ensures { state self.new ≡ with_lanes (state self.old) (V.number lanes) };
 
     /// Do this many rows of any numbers of this size leave the sum in the range, and are they fewer than 2^31?
     fn stays_within(&self, size: u64, rows: u32) -> bool

@@ -5,6 +5,7 @@ ghost use Rattle.column_sums.specs.SumRange.{sum_range};
 ghost use Rattle.column_sums.specs.Reach.{AreFlagsOfEight, AreSized, IsStored};
 ghost use Rattle.column_sums.specs.RunSum.{calls_of, rows_of_runs, valid_runs};
 ghost use Rattle.column_sums.specs.SumAnswer.{answer_of, value_in};
+ghost use Rattle.column_sums.specs.SumState.{IsCounted};
 
 use crate::answer::SumAnswer;
 use crate::known_runs::add_known_runs;
@@ -88,8 +89,9 @@ pub trait Runs<V: NativePType> {
     }
 }
 
-/// Returns the sum of the rows of the runs, by one call of `add_run` for each run that is not null, up to and with the
-/// first that leaves the range. Where there is a sum, it is that of the accumulator.
+/// Returns the sum of the rows of the runs, by adding each run that is not null, up to and with the first that leaves
+/// the range. Nothing else is added, nor more often than there are such runs. Where there is a sum, it is that of the
+/// accumulator.
 #[inline]
 pub fn sum_in_runs<V: NativePType, S: RunSum<V>, R: Runs<V>>(runs: &R, sum: &mut S) -> SumAnswer
     requires { (S.state sum.old).value ≡ pos 0 }
@@ -97,6 +99,8 @@ pub fn sum_in_runs<V: NativePType, S: RunSum<V>, R: Runs<V>>(runs: &R, sum: &mut
     ensures calls { (S.state sum.new).calls ≡ (S.state sum.old).calls ++
         calls_of (sum_range V.PTYPE) (R.runs runs.now) }
     ensures few { length (S.state sum.new).calls ≤ length (S.state sum.old).calls +
+        length (valid_runs (R.runs runs.now)) }
+    ensures additions { (S.state sum.new).additions ≤ (S.state sum.old).additions +
         length (valid_runs (R.runs runs.now)) }
     ensures value { IfSome result.sum (λ value. value ≡ value_in (sum_range V.PTYPE) (S.state sum.new).value) }
 {
@@ -115,6 +119,8 @@ fn add_runs<V: NativePType, S: RunSum<V>, R: Runs<V>>(runs: &R, sum: &mut S) -> 
     ensures calls { (S.state sum.new).calls ≡ (S.state sum.old).calls ++
         calls_of (sum_range V.PTYPE) (R.runs runs.now) }
     ensures few { length (S.state sum.new).calls ≤ length (S.state sum.old).calls +
+        length (valid_runs (R.runs runs.now)) }
+    ensures additions { (S.state sum.new).additions ≤ (S.state sum.old).additions +
         length (valid_runs (R.runs runs.now)) }
     ensures value { IfSome result.sum (λ value. value ≡ value_in (sum_range V.PTYPE) (S.state sum.new).value) }
 {
@@ -138,6 +144,7 @@ fn add_parts<V: NativePType, S: RunSum<V>, R: Runs<V>>(runs: &R, sum: &mut S) ->
         (R.runs runs.now) (length (R.runs runs.now)) (S.state sum.new) is_empty) }
     ensures left { result ≡ None → IsSumOfRuns (sum_range V.PTYPE) (S.state sum.old).calls (R.runs runs.now) None
         (S.state sum.new).calls false }
+    ensures counted { IsCounted (S.state sum.old) (S.state sum.new) }
 {
     let count = runs.run_count();
     let first = count.min(1);
@@ -163,6 +170,7 @@ fn add_inner<V: NativePType, S: RunSum<V>, R: Runs<V>>(
         is_empty to (S.state sum.new) empty) }
     ensures left { result ≡ None → IsLeftAfter (sum_range V.PTYPE) (R.runs runs.now) from (S.state sum.old) is_empty
         (S.state sum.new) }
+    ensures counted { IsCounted (S.state sum.old) (S.state sum.new) }
 {
     let mut empty = is_empty;
     let mut run = from;
@@ -202,6 +210,7 @@ fn add_between<const INNER: bool, V: NativePType, S: RunSum<V>, R: Runs<V>>(
         is_empty to (S.state sum.new) empty) }
     ensures left { result ≡ None → IsLeftAfter (sum_range V.PTYPE) (R.runs runs.now) from (S.state sum.old) is_empty
         (S.state sum.new) }
+    ensures counted { IsCounted (S.state sum.old) (S.state sum.new) }
 {
     let mut empty = is_empty;
     for run in from..to {

@@ -1,24 +1,23 @@
 //! A sum of signed numbers.
-ghost use Rattle.std.specs.Prelude.{◌≡◌, ◌-◌, ◌≤◌, ◌<◌, ◌^◌, ◌+ℤ◌, ◌*ℤ◌, pos, [], ◌∷◌, ◌++◌, true, false, FitsSigned, IfSome, MatchOption, option_map};
+ghost use Rattle.std.specs.Prelude.{◌≡◌, ◌+◌, ◌-◌, ◌≤◌, ◌<◌, ◌^◌, ◌+ℤ◌, ◌*ℤ◌, pos, [], ◌∷◌, ◌++◌, true, false, FitsSigned, IfSome, MatchOption, option_map};
 ghost use Rattle.std.specs.Int.{w32};
 ghost use Rattle.column_sums.specs.Room.{HasRoom};
 ghost use Rattle.column_sums.specs.Reach.{IsSized};
 ghost use Rattle.column_sums.specs.SumRange.{SignedRange, is_within};
-ghost use Rattle.column_sums.specs.SumState.{IsAddable, with_run};
+ghost use Rattle.column_sums.specs.SumState.{IsAddable, lanes_with, with_lanes, with_listed};
 
 use crate::answer::SumValue;
 use crate::calls::Calls;
 use crate::run_sum::{RunSum, reach_of};
 use std::marker::Model;
-use std::mem;
 
 // No value of 32 bits is further from 0.
 const FURTHEST: usize = 1 << 31;
 
 /// A sum in the range of `i64`, which is given runs one at a time.
 ///
-/// A contract sees a record: `value`, the sum so far, and `calls`, the runs that it was given, each
-/// value with its number of rows. The list takes no bytes and no time.
+/// A contract sees a record: `value`, the sum so far; `calls`, the runs that it was given, each value with its number
+/// of rows; and `additions`, how often anything was added to it. List and number take no bytes and no time.
 #[derive(Drop)]
 pub struct SignedSum {
     value: i64,
@@ -33,7 +32,7 @@ impl Model for SignedSum {
 
     ghost Value = { SumState };
 
-    ghost view = { λ s. record { value = s.value; calls = s.calls.runs } };
+    ghost view = { λ s. record { value = s.value; calls = s.calls.runs; additions = s.calls.additions } };
 
     ghost invariant = { λ s. HasRoom s.value s.room };
 }
@@ -41,7 +40,7 @@ impl Model for SignedSum {
 impl SignedSum {
     /// Returns the sum of nothing, which is 0.
     pub fn new() -> SignedSum
-        ensures { result ≡ record { value = pos 0; calls = [] } }
+        ensures { result ≡ record { value = pos 0; calls = []; additions = 0 } }
     {
         SignedSum {
             value: 0,
@@ -65,8 +64,9 @@ impl SignedSum {
         ensures added { result ≡ true → self.new.value ≡ self.old.value +ℤ value *ℤ pos len }
         ensures unchanged { result ≡ false → self.new.value ≡ self.old.value }
         ensures calls { self.new.calls ≡ self.old.calls ++ (value, len) ∷ [] }
+        ensures additions { self.new.additions ≡ self.old.additions + 1 }
     {
-        self.calls = self.calls.and_signed(&value, &len);
+        self.calls = self.calls.and_signed(&value, &len).and_addition();
         if has_32_bits(value) && len <= self.room {
             self.value = short_sum(self.value, self.room, value, len);
             self.room -= len;
@@ -102,21 +102,33 @@ impl RunSum<i64> for SignedSum {
     }
 
     #[inline(always)]
-    fn add_known(&mut self, value: Option<i64>, len: usize, is_short: bool)
+    fn lane_added(lanes: i64, value: Option<i64>, len: usize, is_short: bool) -> i64
         requires few { len < 2 ^ 31 }
         requires short { is_short ≡ true → IfSome (option_map (λ n. n) value) (IsSized SignedRange (2 ^ 31 - 1)) }
-        requires addable { IsAddable SignedRange self.old.value (option_map (λ n. n) value) len }
-        ensures { self.new ≡ with_run self.old (option_map (λ n. n) value) len }
+        requires addable { IsAddable SignedRange lanes (option_map (λ n. n) value) len }
+        ensures { result ≡ lanes_with lanes (option_map (λ n. n) value) len }
     {
-        let number = value.unwrap_or(0);
-        let calls = match value {
-            Some(number) => self.calls.and_signed(&number, &len),
-            None => mem::replace(&mut self.calls, Calls::new()),
-        };
+        known_sum(lanes, value.unwrap_or(0), len, is_short)
+    }
+
+    #[inline(always)]
+    fn list(&mut self, value: Option<i64>, len: usize)
+        ensures { self.new ≡ with_listed self.old (option_map (λ n. n) value) len }
+    {
+        if let Some(number) = value {
+            self.calls = self.calls.and_signed(&number, &len);
+        }
+    }
+
+    #[inline(always)]
+    fn add_lanes(&mut self, lanes: i64)
+        requires { is_within SignedRange (self.old.value +ℤ lanes) ≡ true }
+        ensures { self.new ≡ with_lanes self.old lanes }
+    {
         *self = SignedSum {
-            value: known_sum(self.value, number, len, is_short),
+            value: sum_of(self.value, lanes),
             room: 0,
-            calls,
+            calls: self.calls.and_addition(),
         };
     }
 
@@ -134,10 +146,19 @@ fn known_sum(sum: i64, value: i64, len: usize, is_short: bool) -> i64
     requires short { is_short ≡ true → FitsSigned w32 value }
     requires fits { is_within SignedRange (sum +ℤ value *ℤ pos len) ≡ true }
     requires product { is_within SignedRange (value *ℤ pos len) ≡ true }
-    ensures sum { result ≡ sum +ℤ value *ℤ pos len }
+    ensures { result ≡ sum +ℤ value *ℤ pos len }
+{
+    sum_of(sum, known_product(value, len, is_short))
+}
+
+// Two numbers together, in 64 bits.
+#[inline(always)]
+fn sum_of(sum: i64, more: i64) -> i64
+    requires { is_within SignedRange (sum +ℤ more) ≡ true }
+    ensures sum { result ≡ sum +ℤ more }
     ensures room { HasRoom result 0 }
 {
-    sum + known_product(value, len, is_short)
+    sum + more
 }
 
 // A number of rows times the value, in 64 bits. The casts let several rows be multiplied at once.

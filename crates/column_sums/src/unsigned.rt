@@ -2,18 +2,17 @@
 ghost use Rattle.std.specs.Prelude.{◌≡◌, ◌+◌, ◌*◌, ◌+ℤ◌, ◌*ℤ◌, ◌<◌, ◌^◌, pos, [], ◌∷◌, ◌++◌, true, false, IfSome, option_map, ◌-◌};
 ghost use Rattle.column_sums.specs.Reach.{IsSized};
 ghost use Rattle.column_sums.specs.SumRange.{UnsignedRange, is_within};
-ghost use Rattle.column_sums.specs.SumState.{IsAddable, with_run};
+ghost use Rattle.column_sums.specs.SumState.{IsAddable, lanes_with, with_lanes, with_listed};
 
 use crate::answer::SumValue;
 use crate::calls::Calls;
 use crate::run_sum::{RunSum, reach_of};
 use std::marker::Model;
-use std::mem;
 
 /// A sum in the range of `u64`, which is given runs one at a time.
 ///
-/// A contract sees a record: `value`, the sum so far, and `calls`, the runs that it was given, each
-/// value with its number of rows. The list takes no bytes and no time.
+/// A contract sees a record: `value`, the sum so far; `calls`, the runs that it was given, each value with its number
+/// of rows; and `additions`, how often anything was added to it. List and number take no bytes and no time.
 #[derive(Drop)]
 pub struct UnsignedSum {
     value: u64,
@@ -26,13 +25,13 @@ impl Model for UnsignedSum {
 
     ghost Value = { SumState };
 
-    ghost view = { λ s. record { value = pos s.value; calls = s.calls.runs } };
+    ghost view = { λ s. record { value = pos s.value; calls = s.calls.runs; additions = s.calls.additions } };
 }
 
 impl UnsignedSum {
     /// Returns the sum of nothing, which is 0.
     pub fn new() -> UnsignedSum
-        ensures { result ≡ record { value = pos 0; calls = [] } }
+        ensures { result ≡ record { value = pos 0; calls = []; additions = 0 } }
     {
         UnsignedSum {
             value: 0,
@@ -55,8 +54,9 @@ impl UnsignedSum {
         ensures added { result ≡ true → self.new.value ≡ self.old.value +ℤ pos value *ℤ pos len }
         ensures unchanged { result ≡ false → self.new.value ≡ self.old.value }
         ensures calls { self.new.calls ≡ self.old.calls ++ (pos value, len) ∷ [] }
+        ensures additions { self.new.additions ≡ self.old.additions + 1 }
     {
-        self.calls = self.calls.and_unsigned(&value, &len);
+        self.calls = self.calls.and_unsigned(&value, &len).and_addition();
         match u64::try_from(sum_with(self.value, value, len)) {
             Ok(sum) => {
                 self.value = sum;
@@ -86,20 +86,32 @@ impl RunSum<u64> for UnsignedSum {
     }
 
     #[inline(always)]
-    fn add_known(&mut self, value: Option<u64>, len: usize, is_short: bool)
+    fn lane_added(lanes: u64, value: Option<u64>, len: usize, is_short: bool) -> u64
         requires few { len < 2 ^ 31 }
         requires short { is_short ≡ true → IfSome (option_map pos value) (IsSized UnsignedRange (2 ^ 31 - 1)) }
-        requires addable { IsAddable UnsignedRange self.old.value (option_map pos value) len }
-        ensures { self.new ≡ with_run self.old (option_map pos value) len }
+        requires addable { IsAddable UnsignedRange (pos lanes) (option_map pos value) len }
+        ensures { pos result ≡ lanes_with (pos lanes) (option_map pos value) len }
     {
-        let number = value.unwrap_or(0);
-        let calls = match value {
-            Some(number) => self.calls.and_unsigned(&number, &len),
-            None => mem::replace(&mut self.calls, Calls::new()),
-        };
+        known_sum(lanes, value.unwrap_or(0), len, is_short)
+    }
+
+    #[inline(always)]
+    fn list(&mut self, value: Option<u64>, len: usize)
+        ensures { self.new ≡ with_listed self.old (option_map pos value) len }
+    {
+        if let Some(number) = value {
+            self.calls = self.calls.and_unsigned(&number, &len);
+        }
+    }
+
+    #[inline(always)]
+    fn add_lanes(&mut self, lanes: u64)
+        requires { is_within UnsignedRange (self.old.value +ℤ pos lanes) ≡ true }
+        ensures { self.new ≡ with_lanes self.old (pos lanes) }
+    {
         *self = UnsignedSum {
-            value: known_sum(self.value, number, len, is_short),
-            calls,
+            value: self.value + lanes,
+            calls: self.calls.and_addition(),
         };
     }
 

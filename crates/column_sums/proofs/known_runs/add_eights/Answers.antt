@@ -16,4 +16,5 @@ loop-run-preserved g c =
       whole = omega (arith, old.whole, c.loop-run-test.true);
       stays = c.add_eight-all_null.ensures.stays;
       summed = λ before h. c.add_eight-all_null.ensures.summed before (old.summed before h);
+      counted = omega (arith, old.counted, c.add_eight-all_null.ensures.counted);
     }

@@ -2,6 +2,7 @@ use Rattle.std.proofs.Common.{◌≡◌, ◌-◌, ◌%◌, ◌≤◌, length, dr
 use Rattle.column_sums.specs.Reach.{StaysWithin}
 use Rattle.column_sums.specs.RunSum.{rows_of_runs}
 use Rattle.column_sums.specs.SumRange.{sum_range}
+use Rattle.column_sums.specs.SumState.{IsCounted}
 use Rattle.column_sums.specs.Summed.{IsSummedOn}
 use Rattle.column_sums.proofs.known_runs.add_eights.Given as goal
 
@@ -18,6 +19,7 @@ invariant-loop-run g l =
       whole : (l.last - l.run) % 8 ≡ 0;
       stays : StaysWithin range l.size (state l.sum).value (length (rows_of_runs (drop l.run runs)));
       summed : IsSummedOn range runs l.from (state l.initial.sum) l.is_empty l.run (state l.sum) l.all_null;
+      counted : IsCounted (state l.initial.sum) (state l.sum);
     }
 
 abbrev pub decreases-loop-run : goal.decreases-loop-run

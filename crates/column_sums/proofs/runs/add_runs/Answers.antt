@@ -1,6 +1,6 @@
 use Rattle.std.proofs.Common.{length, false, None, Some, arith}
 use Rattle.column_sums.specs.SumRange.{sum_range}
-use Rattle.column_sums.proofs.RunSums.{answered, few_calls, finished}
+use Rattle.column_sums.proofs.RunSums.{answered, few_additions, few_calls, finished}
 use Rattle.column_sums.proofs.runs.add_runs.Goals as goal
 
 pub returns-in-Some : goal.returns-in-Some
@@ -14,6 +14,7 @@ returns-in-Some g c =
       answer = rw c.total.ensures (answered range before sum.calls runs (Some sum.value) c.in-Some.is_empty whole);
       calls = whole.made;
       few = few_calls range before sum.calls runs whole.made;
+      additions = few_additions runs (g.S.RunSum.state c.args.sum.now) sum (few_calls range before sum.calls runs whole.made) c.add_parts.ensures.counted;
       value = c.total.ensures;
     }
 
@@ -28,5 +29,6 @@ returns-in-None g c =
       answer = answered range before sum.calls runs None false whole;
       calls = whole.made;
       few = few_calls range before sum.calls runs whole.made;
+      additions = few_additions runs (g.S.RunSum.state c.args.sum.now) sum (few_calls range before sum.calls runs whole.made) c.add_parts.ensures.counted;
       value = tt;
     }
