@@ -1,6 +1,5 @@
 -- Which groups of rows are refused, by what is asked.
-use Rattle.std.proofs.Common.{◌≡◌, ℕ, ℤ, List, Option, None, Result, Ok, Err, inl, subst, sym}
-use Rattle.std.specs.Prelude.{IfErr, IsErrAnd}
+use Rattle.std.proofs.Common.{◌≡◌, ℕ, ℤ, List, Option, None, inl}
 use Rattle.column_base.specs.declared.dtype.DType.{DType}
 use Rattle.column_base.specs.declared.error.VortexError.{VortexError}
 use Rattle.column_core.specs.Value.{Value}
@@ -30,8 +29,3 @@ pub refused_groups : (fold : GroupFold) (dtype : DType) (keys : List (Option Val
     → IsTightCover keys ends group_keys → fault ≡ None → IsFoldRefusal (IsGiven fold dtype) (answer_of fold) ends rows error → IsGroupRefusal fault (large_group fold dtype keys rows) error
 refused_groups fold dtype keys rows ends group_keys fault (Refused error) cover none refused = inl refused
 refused_groups fold dtype keys rows ends group_keys fault (SumOverflow group) cover none refused = (none, large_in dtype keys rows ends group_keys cover group fold refused)
-
--- an error that is passed on
-pub passed_on : {T E : Type 0} (Why : E → Type 0) (error : E) (result : Result T E) → IsErrAnd result (λ other. other ≡ error) → Why error → IfErr result Why
-passed_on Why error (Ok value) passed why = absurd passed
-passed_on Why error (Err other) passed why = subst Why (sym passed) why

@@ -68,13 +68,22 @@ pub(crate) fn zip_columns<Z: Copy + Drop, K: Stored<Z>, O: Pairwise<Z, K>, A: Al
 {
     let count = left.len();
     let left_runs = ColumnRuns::of(alloc, left)?;
-    let right_runs = ColumnRuns::of(alloc, right)?;
+    let right_runs = match ColumnRuns::of(alloc, right) {
+        Ok(right_runs) => right_runs,
+        Err(error) => {
+            drop(left_runs);
+            return Err(ZipError::Refused(error));
+        }
+    };
     let form = AnswerForm {
         count,
         nullability,
         is_constant: are_constants(left, right),
     };
-    zip_shown::<Z, K, O, A>(alloc, &left_runs, operation, &right_runs, stored, form)
+    let answers = zip_shown::<Z, K, O, A>(alloc, &left_runs, operation, &right_runs, stored, form);
+    drop(right_runs);
+    drop(left_runs);
+    answers
 }
 
 /// Returns the answers of an operation for each row of a column, given to it twice: a constant where the column is one
@@ -104,7 +113,9 @@ pub(crate) fn map_column<Z: Copy + Drop, K: Stored<Z>, O: Pairwise<Z, K>, A: All
         nullability,
         is_constant: is_filled_constant(column),
     };
-    zip_shown::<Z, K, O, A>(alloc, &runs, operation, &runs, stored, form)
+    let answers = zip_shown::<Z, K, O, A>(alloc, &runs, operation, &runs, stored, form);
+    drop(runs);
+    answers
 }
 
 /// Returns the answers of an operation that has one for any two rows, which are booleans and null only where a row is.
@@ -256,8 +267,23 @@ fn encoding_of<Z: Copy + Drop, K: Stored<Z>, A: Allocator + Copy>(
         reached: _,
         steps: _,
     } = runs;
-    let ends = least_ends(alloc, ends.as_slice())?;
-    let values = stored.column(alloc, items, flags.freeze(), nullability)?;
+    let least = least_ends(alloc, ends.as_slice());
+    drop(ends);
+    let ends = match least {
+        Ok(ends) => ends,
+        Err(error) => {
+            drop(flags);
+            drop(items);
+            return Err(error);
+        }
+    };
+    let values = match stored.column(alloc, items, flags.freeze(), nullability) {
+        Ok(values) => values,
+        Err(error) => {
+            drop(ends);
+            return Err(error);
+        }
+    };
     Ok((ends, values))
 }
 
@@ -279,7 +305,10 @@ fn column_over<A: Allocator + Copy>(
         (leaf_dtype (leaf_of values)) (column_of answers)) }
 {
     if constant {
-        let scalar = Scalar::of_view(alloc, values.dtype(), values.get(0))?;
+        let scalar = Scalar::of_view(alloc, values.dtype(), values.get(0));
+        drop(values);
+        drop(ends);
+        let scalar = scalar?;
         return Ok(ArrayRef::Constant(ConstantArray::new(scalar, count)));
     }
     let runs = RunEnd::new_unchecked(ArrayRef::Primitive(ends), array_of(values), 0, count);

@@ -67,19 +67,28 @@ fn choose<A: Allocator + Copy>(
         left,
         Nullability::Nullable,
     )?;
-    let others = pick(
+    let others = match pick(
         alloc,
         mask,
         PickRule::WhereFalse,
         right,
         Nullability::Nullable,
-    )?;
+    ) {
+        Ok(others) => others,
+        Err(error) => {
+            drop(kept);
+            return Err(error);
+        }
+    };
     let chosen = pick(
         alloc,
         &kept,
         PickRule::FirstValid,
         &others,
         Nullability::Nullable,
-    )?;
+    );
+    drop(others);
+    drop(kept);
+    let chosen = chosen?;
     Ok(chosen)
 }

@@ -67,7 +67,14 @@ pub fn fold_by<A: Allocator + Copy>(
     }
     let alloc = *ctx.allocator();
     let (ends, group_keys) = row_runs(alloc, keys)?;
-    let answers = fold_in(alloc, &ends, values, fold)?;
+    let answers = match fold_in(alloc, &ends, values, fold) {
+        Ok(answers) => answers,
+        Err(error) => {
+            drop(group_keys);
+            drop(ends);
+            return Err(error);
+        }
+    };
     Ok(Groups {
         ends,
         keys: group_keys,
@@ -121,5 +128,8 @@ fn fold_in<A: Allocator + Copy>(
         (ends_of groups.now) (map number_in (rows values.now))) }
 {
     let (ends, numbers) = number_runs(alloc, values)?;
-    fold_numbers(alloc, groups, &ends, &numbers, fold)
+    let answers = fold_numbers(alloc, groups, &ends, &numbers, fold);
+    drop(numbers);
+    drop(ends);
+    answers
 }

@@ -32,6 +32,8 @@ pub fn hash<A: Allocator + Copy>(
     let (ends, values) = row_runs(*ctx.allocator(), column)?;
     let mut state = DefaultHasher::new();
     write_runs(&ends, &values, &mut state);
+    drop(values);
+    drop(ends);
     let hash = state.finish();
     Ok(hash)
 }

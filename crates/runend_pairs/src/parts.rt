@@ -45,6 +45,8 @@ pub fn sum_parts<A: Allocator + Copy>(alloc: A, array: &ArrayRef<A>) -> VortexRe
     }
     let (ends, numbers) = number_runs(alloc, array)?;
     let parts = parts_of_numbers(&ends, &numbers);
+    drop(numbers);
+    drop(ends);
     Ok(parts)
 }
 

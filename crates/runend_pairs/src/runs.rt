@@ -1,7 +1,5 @@
 //! The runs of a column of any form, to be walked along.
-ghost use Rattle.std.specs.Prelude.{◌≡◌, ◌≢◌, ◌+◌, ◌<◌, ◌-◌, length, map, slice_index, unsigned_abs, IfOk, IsOkUnless};
-ghost use Rattle.column_base.specs.Numbers.{numbers, ptype_of};
-ghost use Rattle.column_base.specs.Types.{IsUnsigned};
+ghost use Rattle.std.specs.Prelude.{◌≡◌, ◌≢◌, ◌+◌, ◌<◌, length, IfOk, IsOkUnless};
 ghost use Rattle.column_core.specs.FlatColumn.{leaf_of};
 ghost use Rattle.column_core.specs.Leaf.{leaf_dtype};
 ghost use Rattle.column_core.specs.PrimitiveForm.{primitive_dtype};
@@ -11,10 +9,8 @@ ghost use Rattle.runend_array.specs.Column.{column_dtype, column_of_runs, column
 ghost use Rattle.runend_windows.specs.Ends.{IsEndsType, ends_of};
 ghost use Rattle.runend_pairs.specs.Runs.{AreColumnRuns, rows_in, stop_of};
 
-use column_base::match_each_unsigned;
-use column_core::{
-    FlatColumn, PrimitiveArray, PrimitiveValues, UnsignedPType, VortexError, VortexResult,
-};
+use crate::ends::end_of;
+use column_core::{FlatColumn, PrimitiveArray, VortexError, VortexResult};
 use runend_array::{ArrayRef, RunEndArray};
 use runend_builder::row_runs;
 use runend_column::{ends_of_visible, visible_offset, visible_values};
@@ -114,7 +110,6 @@ pub(crate) fn run_after(run: usize, stop: usize, row: usize) -> usize
 }
 
 /// Returns the row that a run ends before, counted from the row at position `offset`.
-#[tactic(auto, using(runend_windows::proofs::Ends::length_ends_of))]
 pub(crate) fn stop_in<A: Allocator + Copy>(
     ends: &PrimitiveArray<A>,
     run: usize,
@@ -125,25 +120,5 @@ pub(crate) fn stop_in<A: Allocator + Copy>(
     ensures stop { result ≡ stop_of ends.now offset run }
     ensures bounded { run < usize.MAX }
 {
-    stop_among(ends.values(), run, offset)
-}
-
-// The same, of the numbers that the ends are.
-#[tactic(auto, using(runend_windows::proofs::Ends::ends_stored))]
-fn stop_among<A: Allocator + Copy>(ends: &PrimitiveValues<A>, run: usize, offset: usize) -> usize
-    requires unsigned { IsUnsigned (ptype_of ends.now) }
-    requires there { run < length (numbers ends.now) }
-    ensures stop { result ≡ slice_index (map unsigned_abs (numbers ends.now)) run - offset }
-    ensures bounded { run < usize.MAX }
-{
-    match_each_unsigned!(ends, items => stop_at(items.as_slice(), run, offset))
-}
-
-// The same, of ends of one type.
-fn stop_at<E: UnsignedPType>(ends: &[E], run: usize, offset: usize) -> usize
-    requires { run < length ends.now }
-    ensures stop { result ≡ slice_index (map E.natural ends.now) run - offset }
-    ensures bounded { run < usize.MAX }
-{
-    (ends[run].to_u64() as usize).saturating_sub(offset)
+    end_of(ends, run).saturating_sub(offset)
 }

@@ -62,7 +62,15 @@ pub fn running_totals<A: Allocator + Copy>(
     }
     let alloc = *ctx.allocator();
     let (ends, numbers) = number_runs(alloc, array)?;
-    let totals = total_numbers(alloc, &ends, &numbers)?;
+    let totals = match total_numbers(alloc, &ends, &numbers) {
+        Ok(totals) => totals,
+        Err(error) => {
+            drop(numbers);
+            drop(ends);
+            return Err(error);
+        }
+    };
+    drop(numbers);
     Ok(RunningTotals { ends, totals })
 }
 

@@ -33,7 +33,9 @@ pub fn value_counts<A: Allocator + Copy>(
     ensures session { ctx.new ≡ ctx.old }
 {
     let sorted = sort(array, ctx)?;
-    let RowRuns { values, lengths } = RowRuns::of(*ctx.allocator(), &sorted)?;
+    let runs = RowRuns::of(*ctx.allocator(), &sorted);
+    drop(sorted);
+    let RowRuns { values, lengths } = runs?;
     let counts = PrimitiveArray::new_unchecked(u64::wrap(lengths), Validity::NonNullable);
     Ok(ValueCounts {
         values: array_of(values),

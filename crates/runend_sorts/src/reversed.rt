@@ -49,7 +49,16 @@ fn reversed_runs<A: Allocator + Copy>(
 {
     let alloc = *ctx.allocator();
     let runs = RowRuns::of(alloc, array)?;
-    let mut order = runs.stretches(alloc)?;
+    let mut order = match runs.stretches(alloc) {
+        Ok(order) => order,
+        Err(error) => {
+            drop(runs);
+            return Err(error);
+        }
+    };
     order.reverse();
-    runs.in_order(&order, ctx)
+    let reversed = runs.in_order(&order, ctx);
+    drop(order);
+    drop(runs);
+    reversed
 }

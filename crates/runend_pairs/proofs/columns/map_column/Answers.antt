@@ -9,8 +9,8 @@ use Rattle.runend_pairs.specs.Zipped.{zip_rows, IsAnswerColumn, IsOneRow}
 use Rattle.runend_pairs.proofs.Mapped.{one_mapped_row, same_answers}
 use Rattle.runend_pairs.proofs.columns.map_column.Goals as goal
 
-pub zip_shown-requires-clause-one : goal.zip_shown-requires-clause-one
-zip_shown-requires-clause-one g c = λ constant.
+pub zip_shown-answers-requires-clause-one : goal.zip_shown-answers-requires-clause-one
+zip_shown-answers-requires-clause-one g c = λ constant.
     let f = g.O.Pairwise.answer_of c.args.operation.now in
     let runs = c.in_ok-runs.runs in
     let own = rows c.args.column.now in
@@ -28,9 +28,9 @@ returns-clause-answers g c =
     let dtype = g.K.Stored.dtype_in c.args.stored.now c.args.nullability in
     let count = c.len-count.result in
     let shown_is : rows_in runs.ends runs.offset (leaf_of runs.values) count ≡ own = ap (λ (n : ℕ). rows_in runs.ends runs.offset (leaf_of runs.values) n) c.len-count.ensures ∙ c.in_ok-runs.ensures.rows in
-    subst (λ (constant : Bool). IfOk c.zip_shown.result (λ made. IsAnswerColumn constant (zip_rows f own own) dtype (column_of made))) c.is_filled_constant.ensures
-    (subst (λ (answers : List (Option Value)). IfOk c.zip_shown.result (λ made. IsAnswerColumn c.is_filled_constant.result answers dtype (column_of made))) (same_answers f own own _ _ shown_is shown_is)
-    c.zip_shown.ensures.answers)
+    subst (λ (constant : Bool). IfOk c.zip_shown-answers.result (λ made. IsAnswerColumn constant (zip_rows f own own) dtype (column_of made))) c.is_filled_constant.ensures
+    (subst (λ (answers : List (Option Value)). IfOk c.zip_shown-answers.result (λ made. IsAnswerColumn c.is_filled_constant.result answers dtype (column_of made))) (same_answers f own own _ _ shown_is shown_is)
+    c.zip_shown-answers.ensures.answers)
 
 pub returns-clause-refused : goal.returns-clause-refused
 returns-clause-refused g c =
@@ -39,4 +39,4 @@ returns-clause-refused g c =
     let own = rows c.args.column.now in
     let count = c.len-count.result in
     let shown_is : rows_in runs.ends runs.offset (leaf_of runs.values) count ≡ own = ap (λ (n : ℕ). rows_in runs.ends runs.offset (leaf_of runs.values) n) c.len-count.ensures ∙ c.in_ok-runs.ensures.rows in
-    subst (λ (answers : List (Option Value)). IfErr c.zip_shown.result (IsZipRefusal (g.O.Pairwise.has c.args.operation.now) answers)) (same_answers f own own _ _ shown_is shown_is) c.zip_shown.ensures.refused
+    subst (λ (answers : List (Option Value)). IfErr c.zip_shown-answers.result (IsZipRefusal (g.O.Pairwise.has c.args.operation.now) answers)) (same_answers f own own _ _ shown_is shown_is) c.zip_shown-answers.ensures.refused

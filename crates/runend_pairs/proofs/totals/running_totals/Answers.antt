@@ -10,9 +10,8 @@ use Rattle.runend_array.specs.Array.{dtype_of, rows}
 use Rattle.runend_windows.specs.Ends.{ends_of}
 use Rattle.runend_pairs.specs.GroupFaults.{numbers_fault}
 use Rattle.runend_pairs.specs.Sums.{sum_of, summed_ptype}
-use Rattle.runend_pairs.specs.Totals.{AreRunningAnswers, IsRunningRefusal, IsTotalRefusal}
+use Rattle.runend_pairs.specs.Totals.{AreRunningAnswers, IsRunningRefusal}
 use Rattle.runend_pairs.proofs.Encoded.{encoded_numbers, encoded_paired, whole_runs}
-use Rattle.runend_pairs.proofs.Refusals.{passed_on}
 use Rattle.runend_pairs.proofs.TotalRefusals.{refused_totals}
 use Rattle.runend_pairs.proofs.totals.running_totals.Goals as goal
 
@@ -25,18 +24,17 @@ total_numbers-requires-clause-paired g c =
     let encoding = c.in_ok-ends.ensures.encoding in
     encoded_paired (rows array) (dtype_of array) c.in_ok-ends.ends c.in_ok-ends.numbers encoding
 
-pub returns-in_err-totals-clause-refused : goal.returns-in_err-totals-clause-refused
-returns-in_err-totals-clause-refused g c =
+pub returns-in-Err-clause-refused : goal.returns-in-Err-clause-refused
+returns-in-Err-clause-refused g c =
     let array = c.args.array.now in
     let numbers = c.in_ok-ends.numbers in
     let ends = c.in_ok-ends.ends in
     let encoding = c.in_ok-ends.ensures.encoding in
     let none : numbers_fault (dtype_of array) ≡ None = rw c.dtype.ensures at (sym c.fault_of_numbers.ensures ∙ c.in_default.is) in
-    let refused = subst (λ (shown : List (Option ℤ)). IsRunningRefusal (HasNumber (summed_ptype (primitive_dtype numbers))) sum_of (ends_of ends) shown c.in_err-totals.field-0.0)
-    (encoded_numbers (rows array) (dtype_of array) ends numbers encoding) c.in_err-totals.ensures.refused in
-    let typed = subst (λ (t : DType). IsRunningRefusal (HasNumber (summed_ptype t)) sum_of (ends_of ends) (map number_in (rows array)) c.in_err-totals.field-0.0) encoding.typed refused in
-    passed_on (IsTotalRefusal (dtype_of array) (rows array)) c.in_err-totals.field-0.0 c.from_residual-in_err-totals.result c.from_residual-in_err-totals.ensures.1
-    (refused_totals (dtype_of array) (rows array) (ends_of ends) (single_rows (OfNumbers numbers)) c.in_err-totals.field-0.0 encoding.cover none typed)
+    let refused = subst (λ (shown : List (Option ℤ)). IsRunningRefusal (HasNumber (summed_ptype (primitive_dtype numbers))) sum_of (ends_of ends) shown c.in-Err.error)
+    (encoded_numbers (rows array) (dtype_of array) ends numbers encoding) c.in-Err.ensures.refused in
+    let typed = subst (λ (t : DType). IsRunningRefusal (HasNumber (summed_ptype t)) sum_of (ends_of ends) (map number_in (rows array)) c.in-Err.error) encoding.typed refused in
+    refused_totals (dtype_of array) (rows array) (ends_of ends) (single_rows (OfNumbers numbers)) c.in-Err.error encoding.cover none typed
 
 pub returns-clause-ends : goal.returns-clause-ends
 returns-clause-ends g c = record { values = OfNumbers c.in_ok-ends.numbers; encoding = c.in_ok-ends.ensures.encoding }
@@ -46,12 +44,12 @@ returns-clause-totals g c =
     let array = c.args.array.now in
     let numbers = c.in_ok-ends.numbers in
     let encoding = c.in_ok-ends.ensures.encoding in
-    subst (λ (shown : List (Option ℤ)). AreRunningAnswers sum_of (ends_of c.in_ok-ends.ends) shown (optional_numbers c.in_ok-totals.totals))
-    (encoded_numbers (rows array) (dtype_of array) c.in_ok-ends.ends numbers encoding) c.in_ok-totals.ensures.totals
+    subst (λ (shown : List (Option ℤ)). AreRunningAnswers sum_of (ends_of c.in_ok-ends.ends) shown (optional_numbers c.in-Ok.totals))
+    (encoded_numbers (rows array) (dtype_of array) c.in_ok-ends.ends numbers encoding) c.in-Ok.ensures.totals
 
 pub returns-clause-dtype : goal.returns-clause-dtype
 returns-clause-dtype g c =
     let array = c.args.array.now in
     let numbers = c.in_ok-ends.numbers in
     let encoding = c.in_ok-ends.ensures.encoding in
-    subst (λ (t : DType). primitive_dtype c.in_ok-totals.totals ≡ column.Primitive (summed_ptype t) Nullable) encoding.typed c.in_ok-totals.ensures.dtype
+    subst (λ (t : DType). primitive_dtype c.in-Ok.totals ≡ column.Primitive (summed_ptype t) Nullable) encoding.typed c.in-Ok.ensures.dtype
