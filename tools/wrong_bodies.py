@@ -7,7 +7,8 @@
 Each is a title `NAME` in backquotes and, indented by four spaces, the lines of an edit: `file:`, and then `old:` and
 `new:` in turn. An `old:` text has to stand exactly once in its file, in what the earlier pairs of the same edit made.
 Before these lines `crate:` names another crate than that of the page, and `only:` a function with `prints:` a text:
-such an edit does not compile, and a check of only the function has to fail and print the text. A page has no other
+such an edit does not compile, and a check of only the function has to fail and print the text. `by:` names a function
+by its path below the crate, if a caller refuses the edit, and not the function that it changes. A page has no other
 indented lines, and one wrong body at least.
 
 A try takes a check of the crate and 10 to 40 seconds for each; it begins with what `rt check` kept. Edits of the same
@@ -23,7 +24,7 @@ from pathlib import Path
 
 ROOT = Path(__file__).resolve().parent.parent
 TITLE = re.compile(r"`([a-z0-9-]+)`.*:$")
-LINE = re.compile(r"    (crate|only|prints|file|old|new): ?(.*)")
+LINE = re.compile(r"    (crate|only|prints|by|file|old|new): ?(.*)")
 EDIT_KEYS = ("file", "old", "new")
 
 
@@ -56,11 +57,11 @@ class WrongBody:
         """The edit as a file of must-fail/ has it."""
         return "".join(f"{key}: {value}\n" for key, value in self.lines if key in EDIT_KEYS)
 
-    def edited(self) -> dict[Path, str]:
-        """The files that it changes, as they read with the edit."""
+    def edited(self, others: dict[Path, str] | None = None) -> dict[Path, str]:
+        """The files that it changes, as they read with the edit, and with those of others where these are given."""
         if (self.value("only") is None) != self.compiles():
             raise Unfit("'only:' and 'prints:' stand together")
-        sources: dict[Path, str] = {}
+        sources = dict(others or {})
         path = old = None
         for key, value in self.lines:
             if key == "file":
@@ -78,7 +79,7 @@ class WrongBody:
                 old = None
         if old is not None:
             raise Unfit("an 'old:' line with no 'new:' line after it")
-        if not sources:
+        if path is None:
             raise Unfit("no lines")
         if self.value("new") is None:
             raise Unfit("no text is changed")

@@ -1,0 +1,290 @@
+#!/usr/bin/env python3
+"""The ledger of wrong bodies: which goal the prover refused each at, and of which text.
+
+    python3 tools/ledger.py                      looks: each has a line, none is stale; ends in 'N passed, M failed'
+    python3 tools/ledger.py try NAME ..          tries these (CRATE, CRATE/NAME, or `stale`) and writes their lines
+    python3 tools/ledger.py sample MINUTES KEY   tries stale ones, then the others in the order that KEY (a commit)
+                                                 gives, for that many processor minutes; fails if one is not refused
+
+A try checks the functions that an edit changes, in a copy of the crate, over the libraries in crates/*/out/rlib of this
+clone or, by `--libraries CLONE`, of another. `try` puts edits of a crate into one check, one for each function and
+`--most` at most. As many checks run at once as there are processors and memory.
+
+A line of crates/NAME/must-fail/ledger.txt has, in this order:
+
+    name      of the wrong body; the lines have the order of the pages
+    hash      of the edit and of each function that it changes: text and contract, without comments and spaces
+    kit       the first word of `rt version`
+    function  whose goal refused it, by its path below the crate
+    label     of this goal, or of the error where the edit does not compile, as its page says
+    how       `false`: the prover found values at which the goal is false; `goal`: it found no proof of the goal;
+              `written`: a written proof did not fit, which shows less: it may refuse a right edit at this place too;
+              `text`: the edit does not compile, as its page says
+    seconds   of processor that the try took; its share, where one check tried several
+    evidence  may follow: a line of vectors or a test whose answer differs with the edit
+
+A wrong body is refused where a goal of a function that it changes is, or of the caller that its page names by a line
+`by:`. An edit that the prover cannot read and a refusal without a goal do not count. What a callee promises is not in
+the hash: the sample, which comes to each in turn, is for that. tools/ledger_open.txt names the wrong bodies that have
+no line yet, as CRATE/NAME. It may only become shorter.
+"""
+
+import argparse
+import hashlib
+import re
+import subprocess
+import sys
+from collections.abc import Iterable
+from dataclasses import astuple, dataclass
+from pathlib import Path
+
+import wrong_bodies
+from wrong_bodies import WrongBody
+
+OPEN = "tools/ledger_open.txt"
+# How many wrong bodies may be without a line. Lower it as they get theirs.
+MOST_OPEN = 0
+HEAD = "# name hash kit function label how seconds [evidence]: tools/ledger.py says what each is, and writes them\n"
+FUNCTION = re.compile(r"^([ \t]*)(?:pub(?:\([^)]*\))? )?(?:const |unsafe |extern \"C\" )*fn (\w+)", re.M)
+OWNER = re.compile(r"^(?:pub )?(?:unsafe )?(?:impl\b|trait (\w+))", re.M)
+
+
+@dataclass(frozen=True)
+class Function:
+    """A function of a source: its path below the crate, and its text with its contract."""
+
+    path: str
+    text: str
+
+
+@dataclass(frozen=True)
+class Line:
+    """A line of a ledger."""
+
+    name: str
+    mark: str
+    kit: str
+    function: str
+    label: str
+    how: str
+    seconds: int
+    evidence: str = ""
+
+    def text(self) -> str:
+        """The line as the file has it."""
+        return " ".join(str(word) for word in astuple(self)).rstrip() + "\n"
+
+
+def line_of(text: str) -> Line | None:
+    """The line that a text is, or None."""
+    words = text.split(" ", 7)
+    if len(words) < 7 or not words[6].isdigit():
+        return None
+    return Line(*words[:6], int(words[6]), *words[7:])
+
+
+def owner_of(head: str) -> str:
+    """The name by which the prover has the methods of an `impl`: of the type, followed by those of the trait if any.
+
+    The words of the trait's arguments follow too, but for parameters: `impl<A> Index<u8, A> for Bits` is `BitsIndexU8`.
+    """
+    text = head.split("{")[0].split("\n")[0].split(" where ")[0].removeprefix("unsafe ").removeprefix("impl")
+    depth = end = 0
+    if text.startswith("<"):
+        for end, sign in enumerate(text.replace("->", "  "), start=1):
+            depth += (sign == "<") - (sign == ">")
+            if depth == 0:
+                break
+    parameters = re.findall(r"(?:^<|, )(?:const )?('?\w+)", text[:end])
+    trait, _, owner = text[end:].strip().rpartition(" for ")
+    words = [word for word in re.findall(r"'?\w+", trait) if word not in parameters and word[0] != "'"]
+    name = re.split(r"[<({\[]", owner.strip("&").split("::")[-1])[0].split(" ")[-1]
+    return "".join(word[0].upper() + word[1:] for word in (name, *words)) if trait else name
+
+
+def function_at(module: str, source: str, place: int) -> Function | None:
+    """The function around a place of a source, from its `fn` to the brace that closes it, or None outside of all."""
+    end_of_line = source.find("\n", place) % (len(source) + 1)
+    for head in reversed(list(FUNCTION.finditer(source, 0, end_of_line))):
+        close = re.compile(rf"^{head[1]}}}$", re.M).search(source, head.end())
+        stop = close.end() if close else len(source)
+        if place < stop:
+            owners = list(OWNER.finditer(source, 0, head.start())) if head[1] else []
+            owner = owners[-1][1] or owner_of(source[owners[-1].start() :]) if owners else ""
+            # A function of a macro has as many paths as the macro has calls: its module is named for all of them.
+            names = [module, owner, "" if head[1] and not owner else head[2]]
+            return Function("::".join(filter(None, names)), source[head.start() : stop])
+    return None
+
+
+def module_of(wrong: WrongBody, path: Path) -> str:
+    """The module that a source is, by its path below the crate; empty for the root."""
+    parts = path.relative_to(wrong.crate() / "src").with_suffix("").parts
+    return "::".join(part for part in parts if part not in ("lib", "main", "mod"))
+
+
+def places(wrong: WrongBody) -> list[tuple[Path, str]]:
+    """Where an edit changes the sources: each file with an old text that is in it as it is."""
+    found, path = [], wrong.crate()
+    for key, value in wrong.lines:
+        if key == "file":
+            path = wrong.crate() / value
+        elif key == "old" and value in wrong_bodies.read(path):
+            found.append((path, value))
+    return found
+
+
+def functions_of(wrong: WrongBody) -> list[Function]:
+    """The functions that an edit changes. What it changes outside of functions is a function without a path."""
+    found = []
+    for path, old in places(wrong):
+        source = wrong_bodies.read(path)
+        at = source.find(old)
+        outside = Function("", source[source.rfind("\n\n", 0, at) + 1 : source.find("\n\n", at)])
+        found.append(function_at(module_of(wrong, path), source, at) or outside)
+    return list(dict.fromkeys(each for each in found if each.path or not each.text.strip().startswith("use ")))
+
+
+def bare(text: str) -> str:
+    """A text without comments and spaces."""
+    return re.sub(r"\s+", "", re.sub(r"//.*", "", text))
+
+
+def mark_of(wrong: WrongBody) -> str:
+    """The hash of a wrong body: its lines, and what it changes."""
+    edit = "".join(f"{key}: {value}\n" for key, value in wrong.lines)
+    parts = [edit, *(bare(each.text) for each in functions_of(wrong))]
+    return hashlib.sha256("\0".join(parts).encode()).hexdigest()[:12]
+
+
+def name_of(wrong: WrongBody) -> str:
+    """The name of a wrong body with that of the crate whose page has it."""
+    return f"{wrong.page.parent.parent.name}/{wrong.name}"
+
+
+def edits() -> list[WrongBody]:
+    """The wrong bodies that are files, and not text of a page: the gate tries these each time."""
+    found = []
+    for path in sorted(wrong_bodies.ROOT.glob("crates/*/must-fail/*.edit")):
+        lines = [line.partition(": ") for line in path.read_text(encoding="utf-8").splitlines()]
+        found.append(WrongBody(path, path.stem, [(key, value) for key, _, value in lines]))
+    return found
+
+
+def every() -> list[WrongBody]:
+    """All wrong bodies, by crates, those of pages in the order of the page, and then those that are files."""
+    of_pages = [wrong for page in wrong_bodies.pages() for wrong in wrong_bodies.wrong_bodies(page)[0]]
+    return sorted(of_pages + edits(), key=lambda wrong: wrong.page.parent.parent.name)
+
+
+def ledger_of(crate: str) -> Path:
+    """The ledger of a crate."""
+    return wrong_bodies.ROOT / "crates" / crate / "must-fail/ledger.txt"
+
+
+def read(path: Path) -> list[str]:
+    """The lines of a file that are no comments; none where the file is not there."""
+    lines = path.read_text(encoding="utf-8").splitlines() if path.is_file() else []
+    return [line for line in lines if line and not line.startswith("#")]
+
+
+def kept_lines() -> dict[str, Line]:
+    """The lines of all ledgers that can be read, by the crate and the name."""
+    found = {}
+    for path in sorted(wrong_bodies.ROOT.glob("crates/*/must-fail/ledger.txt")):
+        lines = [line for line in map(line_of, read(path)) if line]
+        found.update({f"{path.parent.parent.name}/{line.name}": line for line in lines})
+    return found
+
+
+def write(crate: str, found: Iterable[Line]) -> None:
+    """Puts lines into the ledger of a crate, in the order of its pages; lines of no wrong body go."""
+    path = ledger_of(crate)
+    lines = {line.name: line for line in [*filter(None, map(line_of, read(path))), *found]}
+    names = [wrong.name for wrong in every() if wrong.page.parent.parent.name == crate]
+    path.write_text(HEAD + "".join(lines[name].text() for name in names if name in lines), encoding="utf-8")
+
+
+def is_stale(wrong: WrongBody, known: dict[str, Line]) -> bool:
+    """Whether a wrong body has no line, or one of another text."""
+    line = known.get(name_of(wrong))
+    return wrong.fault() is None and (line is None or line.mark != mark_of(wrong))
+
+
+def faults_of_ledgers(names: list[str]) -> list[str]:
+    """What is wrong with the lines of the ledgers themselves: they cannot be read, or are not those of the pages."""
+    found = []
+    for path in sorted(wrong_bodies.ROOT.glob("crates/*/must-fail/ledger.txt")):
+        crate, lines = path.parent.parent.name, read(path)
+        found += [f"{crate}: a line that cannot be read: {line[:60]}" for line in lines if not line_of(line)]
+        have = [f"{crate}/{line.split()[0]}" for line in lines]
+        found += [f"{name}: a line of no wrong body" for name in have if name not in names]
+        if sorted(have, key=names.index if set(have) <= set(names) else None) != have or len(set(have)) < len(have):
+            found.append(f"{crate}: lines are not in the order of its pages, each once")
+    return found
+
+
+def faults_of_open(names: list[str], known: dict[str, Line]) -> list[str]:
+    """What is wrong with the list of those that have no line yet."""
+    names_open = read(wrong_bodies.ROOT / OPEN)
+    found = [f"{name}: is in {OPEN}, and is no wrong body" for name in names_open if name not in names]
+    found += [f"{name}: has a line, so take it out of {OPEN}" for name in names_open if name in known]
+    if len(names_open) != MOST_OPEN:
+        found.append(f"{OPEN} has {len(names_open)} names, and MOST_OPEN is {MOST_OPEN}: it may only become shorter")
+    return found
+
+
+def look() -> int:
+    """Whether each wrong body has its line, of the text as it is."""
+    known, all_of, open_ones = kept_lines(), every(), set(read(wrong_bodies.ROOT / OPEN))
+    names = [name_of(wrong) for wrong in all_of]
+    told = [f"{name}: two have this name" for name in sorted({name for name in names if names.count(name) > 1})]
+    told += faults_of_ledgers(names) + faults_of_open(names, known)
+    stale = [name_of(wrong) for wrong in all_of if is_stale(wrong, known) and name_of(wrong) not in open_ones]
+    told += [f"{name}: {'changed since it was tried' if name in known else 'was never tried'}" for name in stale]
+    for fault in told:
+        print(fault)
+    print(f"{len(all_of) - len(stale)} passed, {len(told)} failed")
+    return 1 if told or not all_of else 0
+
+
+def chosen(words: list[str]) -> list[WrongBody]:
+    """The wrong bodies that words name: a crate, one of a crate, or `stale`."""
+    known = kept_lines()
+    found = []
+    for wrong in every():
+        name = name_of(wrong)
+        if name in words or name.split("/")[0] in words or "stale" in words and is_stale(wrong, known):
+            found.append(wrong)
+    return found
+
+
+def in_turn(key: str) -> list[WrongBody]:
+    """All wrong bodies of pages in the order in which a sample tries them: stale ones first, the others by the key."""
+    known = kept_lines()
+    of_pages = [wrong for wrong in every() if wrong.page.suffix == ".md"]
+    ranks = {name_of(wrong): hashlib.sha256(f"{key} {name_of(wrong)}".encode()).digest() for wrong in of_pages}
+    return sorted(of_pages, key=lambda wrong: (not is_stale(wrong, known), ranks[name_of(wrong)]))
+
+
+def main() -> int:
+    parser = argparse.ArgumentParser(description="The ledger of wrong bodies.")
+    parser.add_argument("words", nargs="*", metavar="try NAME .. | sample MINUTES KEY")
+    parser.add_argument("--libraries", type=Path, default=wrong_bodies.ROOT, metavar="CLONE")
+    parser.add_argument("--most", type=int, default=8, metavar="N")
+    options = parser.parse_args()
+    words = options.words
+    if not words:
+        return look()
+    import ledger_tries
+
+    prover = ledger_tries.Prover(options.libraries.resolve())
+    if words[0] == "try" and (found := chosen(words[1:])):
+        return ledger_tries.try_all(prover, found, options.most)
+    if words[0] == "sample" and len(words) == 3 and words[1].isdigit():
+        return ledger_tries.sample(prover, in_turn(words[2]), 60 * int(words[1]))
+    parser.error("the words are: try NAME .. (a crate, CRATE/NAME or stale), or sample MINUTES KEY")
+
+
+if __name__ == "__main__":
+    sys.exit(main())

@@ -1,0 +1,289 @@
+"""Has the prover try wrong bodies for tools/ledger.py: checks edited copies of a crate, and reads what they print."""
+
+import os
+import re
+import shutil
+import subprocess
+import tempfile
+import threading
+from collections import Counter
+from collections.abc import Iterable, Iterator
+from concurrent.futures import ThreadPoolExecutor, as_completed
+from dataclasses import dataclass, field
+from itertools import repeat
+from pathlib import Path
+from typing import Any
+
+import ledger
+import wrong_bodies
+from ledger import Line
+from proved_libraries import toolchain
+from wrong_bodies import Unfit, WrongBody
+
+PARTS = ("src", "specs", "proofs")
+# What is read of the lines of a check. A function's proof files are in the folder of its path.
+STATUS = re.compile(r"^fn (\w+)::([\w:+]+): (.*)$", re.M)
+UNPROVED = re.compile(r"`search` did not prove (.*)$")
+FALSE = re.compile(r"^note: `([\w/+.-]+)` of proofs/(\S+)/\w+\.antt may be false", re.M)
+ABSENT = r"is not in scope|has no field|was not admitted"
+WRITTEN = re.compile(rf"^(?:\./)?proofs/(\S+)/\w+\.antt:\d+:\d+: error: `([\w/+.-]+)`: (?!.*(?:{ABSENT}))", re.M)
+GOAL = re.compile(r"`([\w/+.-]+)`")
+PROVED = ("proved", "no holes")
+# What is said of a text that the front end, or the reader of clauses, cannot read: then no goal was tried.
+UNREAD = re.compile(rf"^(?:\./)?(?:src|specs)/\S+?:\d+:\d+: error(?:\[[\w-]+\]: |: .*(?:{ABSENT})).*$", re.M)
+NO_NAME = re.compile(r"^rattle: error: (?:several functions are named|`\w+` has no) .*$", re.M)
+
+
+@dataclass(frozen=True)
+class Refusal:
+    """The goal that refused a wrong body: its function below the crate, its label, and how (as ledger.py has it)."""
+
+    function: str
+    label: str
+    how: str
+
+
+@dataclass(frozen=True)
+class Run:
+    """What a check printed, and the processor seconds that it took."""
+
+    text: str
+    seconds: float
+
+
+@dataclass
+class Batch:
+    """Wrong bodies of one crate that change different functions, and the sources with all of their edits."""
+
+    crate: str
+    wrongs: list[WrongBody] = field(default_factory=list)
+    texts: dict[Path, str] = field(default_factory=dict)
+
+    def takes(self, wrong: WrongBody, most: int) -> bool:
+        """Adds a wrong body if it is of the crate and changes nothing that another one changes or asks for."""
+        if wrong.crate().name != self.crate or len(self.wrongs) >= most:
+            return False
+        mine, others = touched(wrong), [name for each in self.wrongs for name in touched(each)]
+        if any(is_of(one, [other]) or is_of(other, [one]) for one in mine for other in others):
+            return False
+        try:
+            self.texts = wrong.edited(self.texts)
+        except Unfit:
+            return False
+        self.wrongs.append(wrong)
+        return True
+
+
+class Prover:
+    """Checks functions of an edited crate over libraries that are built."""
+
+    def __init__(self, libraries: Path) -> None:
+        self.rtlib: Any = toolchain()
+        self.crates = {each.name: each for each in self.rtlib.crates_below(str(wrong_bodies.ROOT))}
+        for each in self.crates.values():
+            each.rlib = str(libraries / "crates" / each.name / "out/rlib" / f"{each.name}.rlib")
+        version = subprocess.run(["rt", "version"], capture_output=True, text=True, check=True).stdout
+        self.kit = version.split()[0]
+
+    def lacks(self, crate: str) -> list[str]:
+        """The libraries below a crate that are not built."""
+        return [low.name for low in self.crates[crate].below() if not Path(low.rlib, "format").is_file()]
+
+    def check(self, crate: str, texts: dict[Path, str], functions: Iterable[str]) -> Run:
+        """Checks functions of a copy of the crate that has these texts."""
+        each = self.crates[crate]
+        with tempfile.TemporaryDirectory(prefix="ledger-") as room:
+            for part in PARTS:
+                if (Path(each.folder) / part).is_dir():
+                    shutil.copytree(Path(each.folder) / part, Path(room) / part)
+            for path, text in texts.items():
+                (Path(room) / path.relative_to(each.folder)).write_text(text, encoding="utf-8")
+            flags = ["--jobs", "1", "--allow-holes"]
+            flags += [word for name in functions for word in ("--only", name)]
+            return run([*self.rtlib.guarded(), self.rtlib.RATTLE, "check", *each.words(flags, keeps=False)], room)
+
+
+def run(command: list[str], folder: str) -> Run:
+    """Runs a command in a folder."""
+    with subprocess.Popen(
+        command, cwd=folder, stdin=subprocess.DEVNULL, stdout=subprocess.PIPE, stderr=subprocess.STDOUT
+    ) as ran:
+        text = ran.stdout.read().decode(errors="replace")
+        _, status, used = os.wait4(ran.pid, 0)
+        ran.returncode = os.waitstatus_to_exitcode(status)
+    return Run(text, used.ru_utime + used.ru_stime)
+
+
+def asked(wrong: WrongBody) -> list[str]:
+    """The functions whose goals may refuse a wrong body: those that its page names, or else those that it changes."""
+    named = [value for key, value in wrong.lines if key in ("by", "only")]
+    return named or [each.path for each in ledger.functions_of(wrong) if each.path]
+
+
+def touched(wrong: WrongBody) -> list[str]:
+    """The functions that a wrong body changes or asks for."""
+    return [*asked(wrong), *(each.path for each in ledger.functions_of(wrong))]
+
+
+def is_of(function: str, names: list[str]) -> bool:
+    """Whether a function is one of these, a closure of one, or in a module that is; an empty name is the root."""
+    path = re.sub(r"(^|::)fn::", r"\1", function)
+    return any(path == name or not name or path.startswith(f"{name}::") for name in names)
+
+
+def refusal(text: str, crate: str, names: list[str]) -> Refusal | None:
+    """The goal at which a check refused one of these functions; one with a counterexample first."""
+    false = {(path.replace("/", "::"), label) for label, path in FALSE.findall(text)}
+    written = [(path.replace("/", "::"), label) for path, label in WRITTEN.findall(text)]
+    found = []
+    for library, function, status in STATUS.findall(text):
+        if library != crate or not is_of(function, names) or status.startswith(PROVED):
+            continue
+        open_goals = UNPROVED.search(status)
+        labels = GOAL.findall(open_goals[1]) if open_goals else []
+        found += [Refusal(function, label, "false" if (function, label) in false else "goal") for label in labels]
+        found += [Refusal(function, label, "written") for path, label in written if path == function]
+    return min(found, key=lambda each: ("false", "goal", "written").index(each.how), default=None)
+
+
+def is_proved(text: str, crate: str, names: list[str]) -> bool:
+    """Whether a check proved all functions that it names of these, one at least."""
+    found = [status for library, name, status in STATUS.findall(text) if library == crate and is_of(name, names)]
+    return bool(found) and all(status.startswith(PROVED) for status in found)
+
+
+def outcome(wrong: WrongBody, ran: Run) -> Refusal | str:
+    """What a check of this wrong body, or of a batch that could be read, says of it: its refusal, or else why not."""
+    crate, names = wrong.crate().name, asked(wrong)
+    if wanted := wrong.value("prints"):
+        named = re.search(r"\[([\w-]+)\]", wanted)
+        return Refusal(names[0], named[1] if named else "error", "text") if wanted in ran.text else "NOT refused so"
+    if found := refusal(ran.text, crate, names):
+        return found
+    if no_name := NO_NAME.search(ran.text):
+        return f"NOT tried: {no_name[0]}"
+    if unread := UNREAD.search(ran.text):
+        return f"NOT tried: {unread[0]}"
+    if is_proved(ran.text, crate, names):
+        return f"NOT refused: {' '.join(names)} proved in spite of it"
+    lines = [line for line in ran.text.splitlines() if re.search(r"error|could not tell|no verdict|not proved", line)]
+    return f"no verdict: {lines[0] if lines else ran.text[-200:].strip() or 'the check was ended'}"
+
+
+def is_read(ran: Run) -> bool:
+    """Whether the prover came to functions of a batch, all of which it could read."""
+    return bool(STATUS.search(ran.text)) and not UNREAD.search(ran.text) and not NO_NAME.search(ran.text)
+
+
+def batches(wrongs: Iterable[WrongBody], most: int) -> list[Batch]:
+    """Wrong bodies as batches; one that does not compile is by itself."""
+    found: list[Batch] = []
+    for wrong in wrongs:
+        room = 1 if not wrong.compiles() else most
+        if not any(batch.takes(wrong, room) for batch in found):
+            found.append(Batch(wrong.crate().name))
+            found[-1].takes(wrong, 1)
+    return found
+
+
+def try_batch(prover: Prover, batch: Batch) -> Iterator[tuple[WrongBody, Refusal | str, float]]:
+    """What the prover says of each of a batch, and the processor seconds: one by one where it cannot read them all."""
+    functions = dict.fromkeys(name for wrong in batch.wrongs for name in asked(wrong))
+    ran = prover.check(batch.crate, batch.texts, functions)
+    if len(batch.wrongs) == 1 or is_read(ran):
+        share = ran.seconds / len(batch.wrongs)
+        yield from ((wrong, outcome(wrong, ran), share) for wrong in batch.wrongs)
+        return
+    for wrong in batch.wrongs:
+        alone = Batch(batch.crate)
+        alone.takes(wrong, 1)
+        yield from try_batch(prover, alone)
+
+
+def told(wrong: WrongBody, found: Refusal | str, seconds: float) -> str:
+    """A line that says what a try of a wrong body came to."""
+    said = f"refused by {found.label} of {found.function}, {found.how}" if isinstance(found, Refusal) else found
+    return f"{ledger.name_of(wrong)}: {said}; {seconds:.0f} s"
+
+
+def line_of(wrong: WrongBody, found: Refusal, kit: str, seconds: float) -> Line:
+    """The line of a refused wrong body for its ledger. A line of the same text keeps its evidence."""
+    mark, known = ledger.mark_of(wrong), ledger.kept_lines().get(ledger.name_of(wrong))
+    evidence = known.evidence if known and known.mark == mark else ""
+    return Line(wrong.name, mark, kit, found.function, found.label, found.how, round(seconds), evidence)
+
+
+def workers() -> int:
+    """How many checks run at once: one for each processor, and for each 4 GiB of memory that is free."""
+    found = re.search(r"MemAvailable: *(\d+) kB", wrong_bodies.read(Path("/proc/meminfo")))
+    free = int(found[1]) // 4194304 if found else 1
+    return max(1, min(len(os.sched_getaffinity(0)), free))
+
+
+def try_all(prover: Prover, wrongs: list[WrongBody], most: int) -> int:
+    """Tries wrong bodies, several in a check, prints what each came to, and writes the lines of the refused ones."""
+    passed = failed = 0
+    with ThreadPoolExecutor(workers()) as pool:
+        tries = [pool.submit(list, try_batch(prover, batch)) for batch in batches(wrongs, most)]
+        for done in as_completed(tries):
+            for wrong, found, seconds in done.result():
+                print(told(wrong, found, seconds), flush=True)
+                if isinstance(found, Refusal):
+                    ledger.write(wrong.page.parent.parent.name, [line_of(wrong, found, prover.kit, seconds)])
+                    passed += 1
+                else:
+                    failed += 1
+    print(f"{passed} passed, {failed} failed")
+    return 1 if failed or not passed else 0
+
+
+class Clock:
+    """Processor seconds that checks may take together, as they are left."""
+
+    def __init__(self, limit: float) -> None:
+        self.left = limit
+        self.lock = threading.Lock()
+
+    def takes(self, expected: float) -> bool:
+        """Whether a check may begin that is expected to take so long, which is then taken off."""
+        with self.lock:
+            if self.left <= 0:
+                return False
+            self.left -= expected
+            return True
+
+    def correct(self, expected: float, used: float) -> None:
+        """Puts what a check took in place of what was expected."""
+        with self.lock:
+            self.left += expected - used
+
+
+Try = tuple[Refusal | str, float]
+
+
+def try_in_time(prover: Prover, clock: Clock, wrong: WrongBody, line: Line | None) -> Try | None:
+    """What a try of a wrong body came to, and its seconds; None where no time is left or a library is not built."""
+    expected = max(30, 2 * line.seconds if line else 0)
+    if prover.lacks(wrong.crate().name) or not clock.takes(expected):
+        return None
+    _, found, seconds = next(try_batch(prover, batches([wrong], 1)[0]))
+    clock.correct(expected, seconds)
+    return found, seconds
+
+
+def sample(prover: Prover, wrongs: list[WrongBody], limit: float) -> int:
+    """Tries wrong bodies one by one, in their order, until the processor seconds are used; each has to be refused."""
+    clock, known, count = Clock(limit), ledger.kept_lines(), Counter()
+    with ThreadPoolExecutor(workers()) as pool:
+        lines = [known.get(ledger.name_of(wrong)) for wrong in wrongs]
+        tries = pool.map(try_in_time, repeat(prover), repeat(clock), wrongs, lines)
+        for wrong, done in zip(wrongs, tries):
+            if done:
+                print(told(wrong, *done), flush=True)
+                is_known = isinstance(done[0], Refusal) or not done[0].startswith("no verdict")
+                count["passed" if isinstance(done[0], Refusal) else "failed" if is_known else "skipped"] += 1
+    if not count:
+        print("skipped: the sample of wrong bodies, no library is built to try them over")
+        count["skipped"] = 1
+    print(f"{count['passed']} passed, {count['failed']} failed, {count['skipped']} skipped")
+    return 1 if count["failed"] else 0
