@@ -23,7 +23,7 @@ A line of crates/NAME/must-fail/ledger.txt has, in this order:
     seconds   of processor that the try took; its share, where one check tried several
     evidence  may follow: a line of vectors or a test whose answer differs with the edit
 
-A wrong body is refused where a goal of a function that it changes is, or of the caller that its page names by a line
+A wrong body is refused where a goal of a function that it changes is, or of a caller that its page names by a line
 `by:`. An edit that the prover cannot read and a refusal without a goal do not count. What a callee promises is not in
 the hash: the sample, which comes to each in turn, is for that. tools/ledger_open.txt names the wrong bodies that have
 no line yet, as CRATE/NAME. It may only become shorter.

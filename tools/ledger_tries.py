@@ -86,8 +86,13 @@ class Prover:
         self.kit = version.split()[0]
 
     def lacks(self, crate: str) -> list[str]:
-        """The libraries below a crate that are not built."""
-        return [low.name for low in self.crates[crate].below() if not Path(low.rlib, "format").is_file()]
+        """The libraries below a crate that are not built, or not of the sources as they are.
+
+        One without a stamp is of an `rt ci` that has just passed, which leaves it in a tree that had none before.
+        """
+        stamps = {low: Path(low.rlib).with_name("stamp") for low in self.crates[crate].below()}
+        old = [low for low, stamp in stamps.items() if stamp.is_file() and stamp.read_text() != low.stamp()]
+        return [low.name for low in stamps if low in old or not Path(low.rlib, "format").is_file()]
 
     def check(self, crate: str, texts: dict[Path, str], functions: Iterable[str]) -> Run:
         """Checks functions of a copy of the crate that has these texts."""
@@ -115,9 +120,11 @@ def run(command: list[str], folder: str) -> Run:
 
 
 def asked(wrong: WrongBody) -> list[str]:
-    """The functions whose goals may refuse a wrong body: those that its page names, or else those that it changes."""
-    named = [value for key, value in wrong.lines if key in ("by", "only")]
-    return named or [each.path for each in ledger.functions_of(wrong) if each.path]
+    """The functions whose goals may refuse a wrong body: those that it changes, and the callers that its page names."""
+    if not wrong.compiles():
+        return [str(wrong.value("only"))]
+    named = [value for key, value in wrong.lines if key == "by"]
+    return [*(each.path for each in ledger.functions_of(wrong) if each.path), *named]
 
 
 def touched(wrong: WrongBody) -> list[str]:

@@ -230,6 +230,22 @@ class OutputTests(unittest.TestCase):
         self.assertFalse(ledger_tries.is_of("a::fine", ["a::f"]))
 
 
+class Base:
+    """A crate `base` below, as the toolchain reads it."""
+
+    name = "base"
+    rlib = ""
+
+    def __init__(self, folder: str) -> None:
+        self.folder = folder
+
+    def below(self) -> list["Base"]:
+        return []
+
+    def stamp(self) -> str:
+        return "stamp of base"
+
+
 class TryTests(Tree):
     """Tries by a prover that is a script, over libraries that are built or not."""
 
@@ -241,7 +257,7 @@ class TryTests(Tree):
         calls = str(self.root / "calls")
         path = f"{self.root / 'bin'}{os.pathsep}{os.environ['PATH']}"
         self.stand_in(mock.patch.dict(os.environ, PATH=path, CALLS=calls))
-        base = SimpleNamespace(name="base", rlib="", folder=str(self.root / "crates/base"), below=lambda: [])
+        base = Base(str(self.root / "crates/base"))
         low = SimpleNamespace(
             name="low",
             rlib="",
@@ -296,7 +312,7 @@ class TryTests(Tree):
         page.write_text(text, encoding="utf-8")
         self.assertEqual([len(batch.wrongs) for batch in batches(ledger.every(), 8)], [1, 1])
         _, lines = self.tried()
-        self.assertIn("low/the-second-is-first: NOT refused: next proved in spite of it; 0 s", lines)
+        self.assertIn("low/the-second-is-first: NOT refused: Bits::first next proved in spite of it; 0 s", lines)
 
     def test_two_edits_of_one_function_are_two_checks(self) -> None:
         first = ledger.every()[0]
@@ -323,6 +339,12 @@ class TryTests(Tree):
             self.write("crates/low/must-fail/ledger.txt", text)
             self.assertEqual(ledger.in_turn("any")[0].name, name)
             self.write_true_lines()
+
+    def test_a_library_of_other_sources_counts_as_none(self) -> None:
+        self.write("crates/base/out/rlib/stamp", "stamp of base")
+        self.assertEqual(Prover(self.root).lacks("low"), [])
+        self.write("crates/base/out/rlib/stamp", "another stamp")
+        self.assertEqual(Prover(self.root).lacks("low"), ["base"])
 
     def test_a_sample_needs_the_libraries_below(self) -> None:
         (self.root / "crates/base/out/rlib/base.rlib/format").unlink()
