@@ -10,7 +10,7 @@ A try checks the functions that an edit changes, in a copy of the crate, over th
 clone or, by `--libraries CLONE`, of another. `try` puts edits of a crate into one check, one for each function and
 `--most` at most. As many checks run at once as there are processors and memory.
 
-A line of crates/NAME/must-fail/ledger.txt has, in this order:
+A line of crates/NAME/must-fail/ledger.md, indented by four spaces, has in this order:
 
     name      of the wrong body; the lines have the order of the pages
     hash      of the edit and of each function that it changes: text and contract, without comments and spaces
@@ -44,7 +44,13 @@ from wrong_bodies import WrongBody
 OPEN = "tools/ledger_open.txt"
 # How many wrong bodies may be without a line. Lower it as they get theirs.
 MOST_OPEN = 0
-HEAD = "# name hash kit function label how seconds [evidence]: tools/ledger.py says what each is, and writes them\n"
+HEAD = """# Which goal refused each wrong body
+
+`python3 tools/ledger.py try {crate}` tries them and writes this page. A line has the name, the hash of the edit and of
+what it changes, the toolchain, the function, the goal, how it was refused, and the processor seconds; `tools/ledger.py`
+says more of each.
+
+"""
 FUNCTION = re.compile(r"^([ \t]*)(?:pub(?:\([^)]*\))? )?(?:const |unsafe |extern \"C\" )*fn (\w+)", re.M)
 OWNER = re.compile(r"^(?:pub )?(?:unsafe )?(?:impl\b|trait (\w+))", re.M)
 
@@ -179,19 +185,19 @@ def every() -> list[WrongBody]:
 
 def ledger_of(crate: str) -> Path:
     """The ledger of a crate."""
-    return wrong_bodies.ROOT / "crates" / crate / "must-fail/ledger.txt"
+    return wrong_bodies.ROOT / "crates" / crate / "must-fail/ledger.md"
 
 
-def read(path: Path) -> list[str]:
-    """The lines of a file that are no comments; none where the file is not there."""
+def read(path: Path, indent: str = "    ") -> list[str]:
+    """The indented lines of a file, without what they are indented by; none where the file is not there."""
     lines = path.read_text(encoding="utf-8").splitlines() if path.is_file() else []
-    return [line for line in lines if line and not line.startswith("#")]
+    return [line.removeprefix(indent) for line in lines if line.startswith(indent) and line]
 
 
 def kept_lines() -> dict[str, Line]:
     """The lines of all ledgers that can be read, by the crate and the name."""
     found = {}
-    for path in sorted(wrong_bodies.ROOT.glob("crates/*/must-fail/ledger.txt")):
+    for path in sorted(wrong_bodies.ROOT.glob("crates/*/must-fail/ledger.md")):
         lines = [line for line in map(line_of, read(path)) if line]
         found.update({f"{path.parent.parent.name}/{line.name}": line for line in lines})
     return found
@@ -202,7 +208,8 @@ def write(crate: str, found: Iterable[Line]) -> None:
     path = ledger_of(crate)
     lines = {line.name: line for line in [*filter(None, map(line_of, read(path))), *found]}
     names = [wrong.name for wrong in every() if wrong.page.parent.parent.name == crate]
-    path.write_text(HEAD + "".join(lines[name].text() for name in names if name in lines), encoding="utf-8")
+    text = "".join(f"    {lines[name].text()}" for name in names if name in lines)
+    path.write_text(HEAD.format(crate=crate) + text, encoding="utf-8")
 
 
 def is_stale(wrong: WrongBody, known: dict[str, Line]) -> bool:
@@ -214,7 +221,7 @@ def is_stale(wrong: WrongBody, known: dict[str, Line]) -> bool:
 def faults_of_ledgers(names: list[str]) -> list[str]:
     """What is wrong with the lines of the ledgers themselves: they cannot be read, or are not those of the pages."""
     found = []
-    for path in sorted(wrong_bodies.ROOT.glob("crates/*/must-fail/ledger.txt")):
+    for path in sorted(wrong_bodies.ROOT.glob("crates/*/must-fail/ledger.md")):
         crate, lines = path.parent.parent.name, read(path)
         found += [f"{crate}: a line that cannot be read: {line[:60]}" for line in lines if not line_of(line)]
         have = [f"{crate}/{line.split()[0]}" for line in lines]
@@ -226,7 +233,7 @@ def faults_of_ledgers(names: list[str]) -> list[str]:
 
 def faults_of_open(names: list[str], known: dict[str, Line]) -> list[str]:
     """What is wrong with the list of those that have no line yet."""
-    names_open = read(wrong_bodies.ROOT / OPEN)
+    names_open = read(wrong_bodies.ROOT / OPEN, "")
     found = [f"{name}: is in {OPEN}, and is no wrong body" for name in names_open if name not in names]
     found += [f"{name}: has a line, so take it out of {OPEN}" for name in names_open if name in known]
     if len(names_open) != MOST_OPEN:
@@ -236,7 +243,7 @@ def faults_of_open(names: list[str], known: dict[str, Line]) -> list[str]:
 
 def look() -> int:
     """Whether each wrong body has its line, of the text as it is."""
-    known, all_of, open_ones = kept_lines(), every(), set(read(wrong_bodies.ROOT / OPEN))
+    known, all_of, open_ones = kept_lines(), every(), set(read(wrong_bodies.ROOT / OPEN, ""))
     names = [name_of(wrong) for wrong in all_of]
     told = [f"{name}: two have this name" for name in sorted({name for name in names if names.count(name) > 1})]
     told += faults_of_ledgers(names) + faults_of_open(names, known)

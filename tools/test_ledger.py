@@ -97,7 +97,10 @@ class Tree(unittest.TestCase):
         return path
 
     def lines(self) -> list[str]:
-        return (self.root / "crates/low/must-fail/ledger.txt").read_text(encoding="utf-8").splitlines()
+        return ledger.read(self.root / "crates/low/must-fail/ledger.md")
+
+    def write_lines(self, *lines: str) -> None:
+        self.write("crates/low/must-fail/ledger.md", "# Lines\n\n" + "".join(f"    {line}\n" for line in lines))
 
     def write_true_lines(self) -> None:
         """Writes the ledger as it would be after a try of both."""
@@ -173,13 +176,12 @@ class LookTests(Tree):
 
     def test_a_line_of_no_wrong_body_or_out_of_order_fails(self) -> None:
         self.write_true_lines()
-        head, first, second = self.lines()
-        path = "crates/low/must-fail/ledger.txt"
-        self.write(path, "\n".join([head, second, first]))
+        first, second = self.lines()
+        self.write_lines(second, first)
         self.assertIn("low: lines are not in the order of its pages, each once", self.looked()[1])
-        self.write(path, "\n".join([head, first, second, second.replace("the-second", "the-third")]))
+        self.write_lines(first, second, second.replace("the-second", "the-third"))
         self.assertIn("low/the-third-is-first: a line of no wrong body", self.looked()[1])
-        self.write(path, "\n".join([head, first, second, "half a line"]))
+        self.write_lines(first, second, "half a line")
         self.assertIn("low: a line that cannot be read: half a line", self.looked()[1])
 
     def test_the_list_of_open_ones_may_not_grow(self) -> None:
@@ -202,7 +204,8 @@ class OutputTests(unittest.TestCase):
 
     def test_a_counterexample_comes_before_a_goal_without_one(self) -> None:
         text = (
-            "fn low::a::f: no proof: expected answers in ./proofs/a/f/Answers.antt; `search` did not prove `b`, `returns`\n"
+            "fn low::a::f: no proof: expected answers in ./proofs/a/f/Answers.antt; "
+            "`search` did not prove `b`, `returns`\n"
             "note: `returns` of proofs/a/f/Answers.antt may be false: the known facts allow `x` = `0`\n"
         )
         self.assertEqual(refusal(text, "low", ["a::f"]), Refusal("a::f", "returns", "false"))
@@ -295,7 +298,7 @@ class TryTests(Tree):
     def test_only_what_is_refused_gets_a_line_and_sources_stay(self) -> None:
         self.tried()
         mark = ledger.mark_of(ledger.every()[0])
-        self.assertEqual(self.lines()[1:], [f"two-are-added {mark} kit-9 next returns false 0"])
+        self.assertEqual(self.lines(), [f"two-are-added {mark} kit-9 next returns false 0"])
         self.assertEqual((self.root / "crates/low/src/lib.rt").read_text(encoding="utf-8"), SOURCE)
 
     def test_where_one_cannot_be_read_each_is_tried_by_itself(self) -> None:
@@ -304,7 +307,7 @@ class TryTests(Tree):
         _, lines = self.tried()
         self.assertEqual(len(self.calls()), 3)
         self.assertIn("low/two-are-added: refused by returns of next, false; 0 s", lines)
-        self.assertTrue(lines[1].startswith("low/the-second-is-first: NOT tried: src/lib.rt:20:9: error[no-such-field]"))
+        self.assertIn("low/the-second-is-first: NOT tried: src/lib.rt:20:9: error[no-such-field]", lines[1])
 
     def test_a_page_may_name_the_caller_that_refuses(self) -> None:
         page = self.root / "crates/low/must-fail/by-hand.md"
@@ -322,7 +325,7 @@ class TryTests(Tree):
     def test_a_sample_writes_nothing_and_fails_on_what_is_proved(self) -> None:
         status, lines = self.sampled(3600)
         self.assertEqual((status, lines[-1]), (1, "1 passed, 1 failed, 0 skipped"))
-        self.assertFalse((self.root / "crates/low/must-fail/ledger.txt").exists())
+        self.assertFalse((self.root / "crates/low/must-fail/ledger.md").exists())
 
     def test_a_sample_ends_with_its_time(self) -> None:
         self.stand_in(mock.patch.object(ledger_tries, "workers", lambda: 1))
@@ -335,8 +338,7 @@ class TryTests(Tree):
         self.write_true_lines()
         for name in ("two-are-added", "the-second-is-first"):
             marks = {wrong.name: ledger.mark_of(wrong) for wrong in ledger.every()}
-            text = "\n".join(self.lines()).replace(marks[name], MARK)
-            self.write("crates/low/must-fail/ledger.txt", text)
+            self.write_lines(*(line.replace(marks[name], MARK) for line in self.lines()))
             self.assertEqual(ledger.in_turn("any")[0].name, name)
             self.write_true_lines()
 
