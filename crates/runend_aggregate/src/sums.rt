@@ -15,9 +15,9 @@ use column_sums::{SignedSum, SumAnswer, UnsignedSum};
 use runend_array::{ExecutionCtx, RunEndArray, RunEndArrayExt};
 use std::alloc::Allocator;
 
-/// Returns the sum of the rows of a column of signed numbers, by one call of `add_run` for each visible run that is not
-/// null, with its value and the number of rows that show it, up to and with the first that leaves the range of `i64`.
-/// Never refused.
+/// Returns the sum of the rows of a column of signed numbers, by adding each visible run that is not null, with its
+/// value and the number of rows that show it, up to and with the first that leaves the range of `i64`. To `sum` it adds
+/// no more often than there are such runs. Never refused.
 pub fn sum_signed_runs<A: Allocator + Copy>(
     array: &RunEndArray<A>,
     sum: &mut SignedSum,
@@ -30,6 +30,7 @@ pub fn sum_signed_runs<A: Allocator + Copy>(
         (column_rows (column_of_runs array.now))) }
     ensures calls { sum.new.calls ≡ sum.old.calls ++ calls_of SignedRange (visible_runs array.now) }
     ensures few { length sum.new.calls ≤ length sum.old.calls + length (valid_runs (visible_runs array.now)) }
+    ensures additions { sum.new.additions ≤ sum.old.additions + length (valid_runs (visible_runs array.now)) }
     ensures rows { rows_of_runs (visible_runs array.now) ≡ map number_in (column_rows (column_of_runs array.now)) }
     ensures shown { All (λ run. 0 < run.1) (visible_runs array.now) }
     ensures session { ctx.new ≡ ctx.old }
@@ -38,9 +39,9 @@ pub fn sum_signed_runs<A: Allocator + Copy>(
     Ok(sum_signed_visible(array, sum))
 }
 
-/// Returns the sum of the rows of a column of unsigned numbers, by one call of `add_run` for each visible run that is
-/// not null, with its value and the number of rows that show it, up to and with the first that leaves the range of
-/// `u64`. Never refused.
+/// Returns the sum of the rows of a column of unsigned numbers, by adding each visible run that is not null, with its
+/// value and the number of rows that show it, up to and with the first that leaves the range of `u64`. To `sum` it adds
+/// no more often than there are such runs. Never refused.
 pub fn sum_unsigned_runs<A: Allocator + Copy>(
     array: &RunEndArray<A>,
     sum: &mut UnsignedSum,
@@ -53,6 +54,7 @@ pub fn sum_unsigned_runs<A: Allocator + Copy>(
         (column_rows (column_of_runs array.now))) }
     ensures calls { sum.new.calls ≡ sum.old.calls ++ calls_of UnsignedRange (visible_runs array.now) }
     ensures few { length sum.new.calls ≤ length sum.old.calls + length (valid_runs (visible_runs array.now)) }
+    ensures additions { sum.new.additions ≤ sum.old.additions + length (valid_runs (visible_runs array.now)) }
     ensures rows { rows_of_runs (visible_runs array.now) ≡ map number_in (column_rows (column_of_runs array.now)) }
     ensures shown { All (λ run. 0 < run.1) (visible_runs array.now) }
     ensures session { ctx.new ≡ ctx.old }

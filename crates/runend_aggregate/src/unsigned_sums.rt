@@ -17,8 +17,8 @@ use column_sums::{Numbers, SumAnswer, UnsignedSum};
 use runend_array::{ArrayRef, RunEndArray, RunEndArrayExt, RunEndArraySlotsExt};
 use std::alloc::Allocator;
 
-/// Returns the sum of the rows of a column of unsigned numbers, by one call of `add_run` for each visible run that is
-/// not null, up to and with the first that leaves the range of `u64`.
+/// Returns the sum of the rows of a column of unsigned numbers, by adding each visible run that is not null, up to and
+/// with the first that leaves the range of `u64`.
 pub(crate) fn sum_unsigned_visible<A: Allocator + Copy>(
     array: &RunEndArray<A>,
     sum: &mut UnsignedSum,
@@ -28,6 +28,7 @@ pub(crate) fn sum_unsigned_visible<A: Allocator + Copy>(
     ensures answer { result ≡ answer_of UnsignedRange (rows_of_runs (visible_runs array.now)) }
     ensures calls { sum.new.calls ≡ sum.old.calls ++ calls_of UnsignedRange (visible_runs array.now) }
     ensures few { length sum.new.calls ≤ length sum.old.calls + length (valid_runs (visible_runs array.now)) }
+    ensures additions { sum.new.additions ≤ sum.old.additions + length (valid_runs (visible_runs array.now)) }
     ensures valid { AreRuns array.now }
 {
     let ends = visible::plain_ends(array);
@@ -46,6 +47,7 @@ fn sum_over<E: UnsignedPType, A: Allocator + Copy>(
     ensures answer { result ≡ answer_of UnsignedRange (rows_of_runs (visible_runs array.now)) }
     ensures calls { sum.new.calls ≡ sum.old.calls ++ calls_of UnsignedRange (visible_runs array.now) }
     ensures few { length sum.new.calls ≤ length sum.old.calls + length (valid_runs (visible_runs array.now)) }
+    ensures additions { sum.new.additions ≤ sum.old.additions + length (valid_runs (visible_runs array.now)) }
 {
     match array.values() {
         ArrayRef::Primitive(values) => sum_values(array, ends, values, sum),
@@ -67,6 +69,7 @@ fn sum_values<E: UnsignedPType, A: Allocator + Copy>(
     ensures answer { result ≡ answer_of UnsignedRange (rows_of_runs (visible_runs array.now)) }
     ensures calls { sum.new.calls ≡ sum.old.calls ++ calls_of UnsignedRange (visible_runs array.now) }
     ensures few { length sum.new.calls ≤ length sum.old.calls + length (valid_runs (visible_runs array.now)) }
+    ensures additions { sum.new.additions ≤ sum.old.additions + length (valid_runs (visible_runs array.now)) }
 {
     let validity = values.validity();
     match values.values() {

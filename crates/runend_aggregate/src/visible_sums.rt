@@ -43,6 +43,8 @@ where
         calls_of (sum_range V.PTYPE) (visible_runs array.now) }
     ensures few { length (S.state sum.new).calls ≤ length (S.state sum.old).calls +
         length (valid_runs (visible_runs array.now)) }
+    ensures additions { (S.state sum.new).additions ≤ (S.state sum.old).additions +
+        length (valid_runs (visible_runs array.now)) }
 {
     let count = items.len();
     match validity {
@@ -83,6 +85,8 @@ where
     ensures calls { (S.state sum.new).calls ≡ (S.state sum.old).calls ++
         calls_of (sum_range V.PTYPE) (visible_runs array.now) }
     ensures few { length (S.state sum.new).calls ≤ length (S.state sum.old).calls +
+        length (valid_runs (visible_runs array.now)) }
+    ensures additions { (S.state sum.new).additions ≤ (S.state sum.old).additions +
         length (valid_runs (visible_runs array.now)) }
 {
     let runs = array.visible_runs();

@@ -1,5 +1,5 @@
-use Rattle.std.proofs.Common.{◌≡◌, ◌∙◌, ◌++◌, ℕ, ℤ, pos, List, [], ◌∷◌, Option, Some, None, ap}
-use Rattle.column_sums.specs.RunSum.{calls_of}
+use Rattle.std.proofs.Common.{◌≡◌, ◌∙◌, ◌++◌, ℕ, ℤ, pos, List, [], ◌∷◌, Option, Some, None, length, ap, arith}
+use Rattle.column_sums.specs.RunSum.{calls_of, valid_runs}
 use Rattle.column_sums.specs.SumRange.{SignedRange}
 use Rattle.runend_array.specs.Column.{Runs, column_dtype, column_of_runs, column_rows}
 use Rattle.runend_aggregate.specs.ShownRuns.{AreFourRuns, visible_runs}
@@ -21,3 +21,9 @@ pub returns-clause-calls : goal.returns-clause-calls
 returns-clause-calls g c =
     let runs = visible_are c.args.four_runs.now c.requires.runs c.requires.offset c.requires.count in
     c.sum_signed_runs.ensures.calls ∙ ap (λ (shown : List (Option ℤ × ℕ)). c.args.sum.now.calls ++ calls_of SignedRange shown) runs
+
+pub returns-clause-additions : goal.returns-clause-additions
+returns-clause-additions g c =
+    let runs = visible_are c.args.four_runs.now c.requires.runs c.requires.offset c.requires.count in
+    let valid : length (valid_runs (visible_runs c.args.four_runs.now)) ≡ 1 = ap (λ (shown : List (Option ℤ × ℕ)). length (valid_runs shown)) runs in
+    omega (arith, valid, c.sum_signed_runs.ensures.additions)

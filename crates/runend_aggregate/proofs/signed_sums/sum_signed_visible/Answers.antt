@@ -9,7 +9,7 @@ sum_over-requires-clause-ends g c =
     numbers_stored c.as_slice.result.now c.plain_ends-ends.result.now.numbers shown ∙ c.plain_ends-ends.ensures.ends
 
 pub returns-in-U8-match_each_unsigned : goal.returns-in-U8-match_each_unsigned
-returns-in-U8-match_each_unsigned g c = record { answer = c.sum_over.ensures.answer; calls = c.sum_over.ensures.calls; few = c.sum_over.ensures.few; valid = c.plain_ends-ends.ensures.valid }
+returns-in-U8-match_each_unsigned g c = record { answer = c.sum_over.ensures.answer; calls = c.sum_over.ensures.calls; few = c.sum_over.ensures.few; additions = c.sum_over.ensures.additions; valid = c.plain_ends-ends.ensures.valid }
 
 pub sum_over-requires-2-clause-ends : goal.sum_over-requires-2-clause-ends
 sum_over-requires-2-clause-ends g c =
@@ -17,7 +17,7 @@ sum_over-requires-2-clause-ends g c =
     numbers_stored c.as_slice-2.result.now c.plain_ends-ends.result.now.numbers shown ∙ c.plain_ends-ends.ensures.ends
 
 pub returns-in-U16-match_each_unsigned : goal.returns-in-U16-match_each_unsigned
-returns-in-U16-match_each_unsigned g c = record { answer = c.sum_over-2.ensures.answer; calls = c.sum_over-2.ensures.calls; few = c.sum_over-2.ensures.few; valid = c.plain_ends-ends.ensures.valid }
+returns-in-U16-match_each_unsigned g c = record { answer = c.sum_over-2.ensures.answer; calls = c.sum_over-2.ensures.calls; few = c.sum_over-2.ensures.few; additions = c.sum_over-2.ensures.additions; valid = c.plain_ends-ends.ensures.valid }
 
 pub sum_over-requires-3-clause-ends : goal.sum_over-requires-3-clause-ends
 sum_over-requires-3-clause-ends g c =
@@ -25,7 +25,7 @@ sum_over-requires-3-clause-ends g c =
     numbers_stored c.as_slice-3.result.now c.plain_ends-ends.result.now.numbers shown ∙ c.plain_ends-ends.ensures.ends
 
 pub returns-in-U32-match_each_unsigned : goal.returns-in-U32-match_each_unsigned
-returns-in-U32-match_each_unsigned g c = record { answer = c.sum_over-3.ensures.answer; calls = c.sum_over-3.ensures.calls; few = c.sum_over-3.ensures.few; valid = c.plain_ends-ends.ensures.valid }
+returns-in-U32-match_each_unsigned g c = record { answer = c.sum_over-3.ensures.answer; calls = c.sum_over-3.ensures.calls; few = c.sum_over-3.ensures.few; additions = c.sum_over-3.ensures.additions; valid = c.plain_ends-ends.ensures.valid }
 
 pub sum_over-requires-4-clause-ends : goal.sum_over-requires-4-clause-ends
 sum_over-requires-4-clause-ends g c =
@@ -33,4 +33,4 @@ sum_over-requires-4-clause-ends g c =
     numbers_stored c.as_slice-4.result.now c.plain_ends-ends.result.now.numbers shown ∙ c.plain_ends-ends.ensures.ends
 
 pub returns-in-U64-match_each_unsigned : goal.returns-in-U64-match_each_unsigned
-returns-in-U64-match_each_unsigned g c = record { answer = c.sum_over-4.ensures.answer; calls = c.sum_over-4.ensures.calls; few = c.sum_over-4.ensures.few; valid = c.plain_ends-ends.ensures.valid }
+returns-in-U64-match_each_unsigned g c = record { answer = c.sum_over-4.ensures.answer; calls = c.sum_over-4.ensures.calls; few = c.sum_over-4.ensures.few; additions = c.sum_over-4.ensures.additions; valid = c.plain_ends-ends.ensures.valid }

@@ -12,7 +12,7 @@ sum_items-requires-clause-items g c =
     stored_values (λ (n : ℤ). n) c.as_slice.result.now validity c.args.values.now c.args.array.now.values shown c.validity-validity.ensures.form c.requires.values
 
 pub returns-in-I8 : goal.returns-in-I8
-returns-in-I8 g c = record { answer = c.sum_items.ensures.answer; calls = c.sum_items.ensures.calls; few = c.sum_items.ensures.few }
+returns-in-I8 g c = record { answer = c.sum_items.ensures.answer; calls = c.sum_items.ensures.calls; few = c.sum_items.ensures.few; additions = c.sum_items.ensures.additions }
 
 pub sum_items-requires-in-I16-clause-items : goal.sum_items-requires-in-I16-clause-items
 sum_items-requires-in-I16-clause-items g c =
@@ -21,7 +21,7 @@ sum_items-requires-in-I16-clause-items g c =
     stored_values (λ (n : ℤ). n) c.as_slice-in-I16.result.now validity c.args.values.now c.args.array.now.values shown c.validity-validity.ensures.form c.requires.values
 
 pub returns-in-I16 : goal.returns-in-I16
-returns-in-I16 g c = record { answer = c.sum_items-in-I16.ensures.answer; calls = c.sum_items-in-I16.ensures.calls; few = c.sum_items-in-I16.ensures.few }
+returns-in-I16 g c = record { answer = c.sum_items-in-I16.ensures.answer; calls = c.sum_items-in-I16.ensures.calls; few = c.sum_items-in-I16.ensures.few; additions = c.sum_items-in-I16.ensures.additions }
 
 pub sum_items-requires-in-I32-clause-items : goal.sum_items-requires-in-I32-clause-items
 sum_items-requires-in-I32-clause-items g c =
@@ -30,7 +30,7 @@ sum_items-requires-in-I32-clause-items g c =
     stored_values (λ (n : ℤ). n) c.as_slice-in-I32.result.now validity c.args.values.now c.args.array.now.values shown c.validity-validity.ensures.form c.requires.values
 
 pub returns-in-I32 : goal.returns-in-I32
-returns-in-I32 g c = record { answer = c.sum_items-in-I32.ensures.answer; calls = c.sum_items-in-I32.ensures.calls; few = c.sum_items-in-I32.ensures.few }
+returns-in-I32 g c = record { answer = c.sum_items-in-I32.ensures.answer; calls = c.sum_items-in-I32.ensures.calls; few = c.sum_items-in-I32.ensures.few; additions = c.sum_items-in-I32.ensures.additions }
 
 pub sum_items-requires-in-I64-clause-items : goal.sum_items-requires-in-I64-clause-items
 sum_items-requires-in-I64-clause-items g c =
@@ -39,4 +39,4 @@ sum_items-requires-in-I64-clause-items g c =
     stored_values (λ (n : ℤ). n) c.as_slice-in-I64.result.now validity c.args.values.now c.args.array.now.values shown c.validity-validity.ensures.form c.requires.values
 
 pub returns-in-I64 : goal.returns-in-I64
-returns-in-I64 g c = record { answer = c.sum_items-in-I64.ensures.answer; calls = c.sum_items-in-I64.ensures.calls; few = c.sum_items-in-I64.ensures.few }
+returns-in-I64 g c = record { answer = c.sum_items-in-I64.ensures.answer; calls = c.sum_items-in-I64.ensures.calls; few = c.sum_items-in-I64.ensures.few; additions = c.sum_items-in-I64.ensures.additions }
