@@ -1,7 +1,7 @@
 -- Two windows walked along together: the answers of a stretch of rows in which both stay in one run.
 use Rattle.std.proofs.Common.{◌≡◌, ℕ, zero, suc, ◌+◌, ◌-◌, ◌<◌, ◌≤◌, List, [], ◌∷◌, Bool, true, Option, Some, None, length, min, replicate, slice_index, refl, sym, subst, ◌∙◌, ap, arith, inl, inr, add-zero}
 use Rattle.std.specs.Prelude.{IsSome, is_some, slice_get}
-use Rattle.std.proofs.lemmas.Bool.{cases_eq, false≢true}
+use Rattle.std.proofs.lemmas.Bool.{cases_eq, cases_lt, false≢true}
 use Rattle.column_base.specs.Types.{nullability_of}
 use Rattle.column_base.specs.declared.dtype.DType.{DType}
 use Rattle.column_core.specs.ScalarView.{sees, IsViewOf}
@@ -102,6 +102,22 @@ IsCounted-none left_runs right_runs count = record {
   during = λ h. omega arith;
   done = λ some at. absurd (omega arith);
 }
+
+-- after the last row these are few
+pub few_asked : (left_runs right_runs count row left_run right_run steps : ℕ) → IsCounted left_runs right_runs count row left_run right_run steps → row ≡ count → steps ≤ left_runs + right_runs - 1
+few_asked left_runs right_runs count row left_run right_run steps counted at = elim (cases_lt 0 count) [
+  | inl some ↦ let fewer = counted.done some at in omega arith
+  | inr none ↦ let walked = counted.walked in omega arith
+]
+
+-- and before it there are few with one more
+pub step_few : (left right : List ℕ) (count row left_run right_run steps left_offset right_offset : ℕ) → IsWindow left left_offset count → IsWindow right right_offset count → row < count
+    → IsPlaced left left_offset right right_offset count row left_run right_run → IsCounted (length left) (length right) count row left_run right_run steps → steps + 1 ≤ length left + length right - 1
+step_few left right count row left_run right_run steps left_offset right_offset left_window right_window more placed counted =
+    let one = run_there left left_offset count row left_run left_window more placed.at_left in
+    let other = run_there right right_offset count row right_run right_window more placed.at_right in
+    let during = counted.during more in
+    omega arith
 
 -- the walk goes to no earlier run
 run_on : (run stop end next : ℕ) → IsRunAfter run stop end next → run ≤ next

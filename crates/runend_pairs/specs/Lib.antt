@@ -2,6 +2,7 @@ pub mod Zipped
 pub mod Operations
 pub mod Runs
 pub mod Answers
+pub mod Asks
 pub mod Faults
 pub mod FloatKeys
 pub mod Decimals

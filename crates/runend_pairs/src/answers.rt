@@ -1,5 +1,5 @@
 //! Answers as they are made: runs of equal answers, of which the last is open.
-ghost use Rattle.std.specs.Prelude.{◌≡◌, ◌<◌, ◌+◌, ◌↔◌, ◌⊎◌, ◌++◌, [], ◌∷◌, false, is_some, length, map, IfOk, IsOkUnless, IsTrue, OnOk};
+ghost use Rattle.std.specs.Prelude.{◌≡◌, ◌↔◌, ◌⊎◌, ◌++◌, [], ◌∷◌, false, is_some, length, map, IfOk, IsOkUnless, IsTrue, OnOk};
 ghost use Rattle.column_core.specs.Optionals.{AreBlankAtNulls};
 ghost use Rattle.runend_pairs.specs.Answers.{row_of, rows_of_items};
 
@@ -20,8 +20,6 @@ pub(crate) struct AnswerRuns<Z: Drop, A: Allocator> {
     pub(crate) last: Option<Z>,
     /// Counts the rows that are answered.
     pub(crate) reached: usize,
-    /// Counts the stretches of rows that were answered at once.
-    pub(crate) steps: usize,
 }
 
 impl<Z: Copy + Drop, A: Allocator + Copy> AnswerRuns<Z, A> {
@@ -32,7 +30,6 @@ impl<Z: Copy + Drop, A: Allocator + Copy> AnswerRuns<Z, A> {
         ensures items { IfOk result (λ runs. runs.items.items ≡ []) }
         ensures flags { IfOk result (λ runs. runs.flags ≡ []) }
         ensures reached { IfOk result (λ runs. runs.reached ≡ 0) }
-        ensures steps { IfOk result (λ runs. runs.steps ≡ 0) }
     {
         Ok(AnswerRuns {
             ends: Vec::new(alloc),
@@ -40,7 +37,6 @@ impl<Z: Copy + Drop, A: Allocator + Copy> AnswerRuns<Z, A> {
             flags: BitBufferMut::with_capacity(alloc, 0)?,
             last: None,
             reached: 0,
-            steps: 0,
         })
     }
 
@@ -53,17 +49,14 @@ impl<Z: Copy + Drop, A: Allocator + Copy> AnswerRuns<Z, A> {
 
     /// Puts the rows up to `stop`, which show the same, to the open run, or opens the first run for them.
     pub(crate) fn go_on(&mut self, answer: Option<Z>, stop: usize)
-        requires { self.old.steps < usize.MAX }
         ensures ends { self.new.ends.items ≡ self.old.ends.items }
         ensures items { self.new.items.items ≡ self.old.items.items }
         ensures flags { self.new.flags ≡ self.old.flags }
         ensures last { self.new.last ≡ answer }
         ensures reached { self.new.reached ≡ stop }
-        ensures steps { self.new.steps ≡ self.old.steps + 1 }
     {
         self.last = answer;
         self.reached = stop;
-        self.steps += 1;
     }
 
     /// Closes the open run, and opens one for the rows up to `stop`. Refused as `OutOfMemory` only.
@@ -72,8 +65,7 @@ impl<Z: Copy + Drop, A: Allocator + Copy> AnswerRuns<Z, A> {
         answer: Option<Z>,
         stop: usize,
     ) -> VortexResult<()>
-        requires paired { length self.old.flags ≡ length self.old.items.items }
-        requires counted { self.old.steps < usize.MAX }
+        requires { length self.old.flags ≡ length self.old.items.items }
         ensures only { IsOkUnless result VortexError.OutOfMemory }
         ensures ends { OnOk result (self.new.ends.items ≡ self.old.ends.items ++ self.old.reached ∷ []) }
         ensures flags { OnOk result (self.new.flags ≡ self.old.flags ++ is_some self.old.last ∷ []) }
@@ -84,12 +76,10 @@ impl<Z: Copy + Drop, A: Allocator + Copy> AnswerRuns<Z, A> {
             AreBlankAtNulls K.blank_value (map K.shown self.new.items.items) self.new.flags) }
         ensures last { OnOk result (self.new.last ≡ answer) }
         ensures reached { OnOk result (self.new.reached ≡ stop) }
-        ensures steps { OnOk result (self.new.steps ≡ self.old.steps + 1) }
     {
         self.close::<K>()?;
         self.last = answer;
         self.reached = stop;
-        self.steps += 1;
         Ok(())
     }
 
@@ -106,7 +96,6 @@ impl<Z: Copy + Drop, A: Allocator + Copy> AnswerRuns<Z, A> {
             AreBlankAtNulls K.blank_value (map K.shown self.new.items.items) self.new.flags) }
         ensures last { self.new.last ≡ self.old.last }
         ensures reached { self.new.reached ≡ self.old.reached }
-        ensures steps { self.new.steps ≡ self.old.steps }
     {
         self.ends.push(self.reached as u64)?;
         self.flags.append(self.last.is_some())?;

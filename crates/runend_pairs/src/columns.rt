@@ -265,7 +265,6 @@ fn encoding_of<Z: Copy + Drop, K: Stored<Z>, A: Allocator + Copy>(
         flags,
         last: _,
         reached: _,
-        steps: _,
     } = runs;
     let least = least_ends(alloc, ends.as_slice());
     drop(ends);

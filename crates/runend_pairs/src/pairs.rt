@@ -1,5 +1,5 @@
 //! Two columns walked along their runs, each stretch of rows in which both stay in one run answered once.
-ghost use Rattle.std.specs.Prelude.{◌≡◌, ◌<◌, ◌+◌, All, Option, length, map, true, IfErr, IfOk};
+ghost use Rattle.std.specs.Prelude.{◌≡◌, ◌≤◌, ◌+◌, ◌-◌, All, Option, length, map, true, IfErr, IfOk};
 ghost use Rattle.column_base.specs.declared.dtype.DType.{DType};
 ghost use Rattle.column_base.specs.Types.{nullability_of};
 ghost use Rattle.column_core.specs.FlatColumn.{leaf_of};
@@ -16,6 +16,7 @@ ghost use Rattle.runend_pairs.specs.Runs.{rows_in, AreColumnRuns};
 ghost use Rattle.runend_pairs.specs.Zipped.{zip_rows, AllHave};
 
 use crate::answers::AnswerRuns;
+use crate::asked::{Asked, ask};
 use crate::fault::ZipError;
 use crate::runs::{ColumnRuns, run_after};
 use crate::stored::Stored;
@@ -44,8 +45,8 @@ pub(crate) trait Pairwise<Z: Copy + Drop, K: Stored<Z>> {
 }
 
 /// Returns the runs of the answers of `count` rows, all closed. The operation is asked once for each stretch of rows in
-/// which both columns stay in one run. `steps` counts the answers that are put together: at most m + n - 1 for m and n
-/// runs. Refused with the first row whose answer the type does not have, and as `OutOfMemory`.
+/// which both columns stay in one run. Refused with the first row whose answer the type does not have, and as
+/// `OutOfMemory`.
 pub(crate) fn zip_runs<Z: Copy + Drop, K: Stored<Z>, O: Pairwise<Z, K>, A: Allocator + Copy>(
     alloc: A,
     left: &ColumnRuns<A>,
@@ -66,12 +67,46 @@ pub(crate) fn zip_runs<Z: Copy + Drop, K: Stored<Z>, O: Pairwise<Z, K>, A: Alloc
     ensures filled { IsNeverNull (nullability_of (leaf_dtype (leaf_of left.now.values)))
         (nullability_of (leaf_dtype (leaf_of right.now.values))) (O.answer_of operation.now) →
         IfOk result (λ runs. All (λ flag. flag ≡ true) runs.flags) }
-    ensures few { IfOk result (λ runs. 0 < count →
-        runs.steps < length (ends_of left.now.ends) + length (ends_of right.now.ends)) }
     ensures had { IfOk result (λ runs. AllHave (O.has operation.now) (zip_rows (O.answer_of operation.now)
         (rows_in left.now.ends left.now.offset (leaf_of left.now.values) count)
         (rows_in right.now.ends right.now.offset (leaf_of right.now.values) count))) }
     ensures refused { IfErr result (IsZipRefusal (O.has operation.now) (zip_rows (O.answer_of operation.now)
+        (rows_in left.now.ends left.now.offset (leaf_of left.now.values) count)
+        (rows_in right.now.ends right.now.offset (leaf_of right.now.values) count))) }
+{
+    let mut asked = Asked::new(operation);
+    walk_runs::<Z, K, O, A>(alloc, left, &mut asked, right, count)
+}
+
+// The same, of an operation that was not asked yet: it is asked at most m + n - 1 times for m and n runs.
+fn walk_runs<Z: Copy + Drop, K: Stored<Z>, O: Pairwise<Z, K>, A: Allocator + Copy>(
+    alloc: A,
+    left: &ColumnRuns<A>,
+    asked: &mut Asked<'_, O>,
+    right: &ColumnRuns<A>,
+    count: usize,
+) -> Result<AnswerRuns<Z, A>, ZipError>
+    requires left { AreColumnRuns left.now.ends left.now.offset (leaf_of left.now.values) count }
+    requires right { AreColumnRuns right.now.ends right.now.offset (leaf_of right.now.values) count }
+    requires taken { O.takes asked.old.operation (leaf_dtype (leaf_of left.now.values))
+        (leaf_dtype (leaf_of right.now.values)) }
+    requires unasked { asked.old.asks ≡ 0 }
+    ensures cover { IfOk result (λ runs. IsTightCover (zip_rows (O.answer_of asked.old.operation)
+        (rows_in left.now.ends left.now.offset (leaf_of left.now.values) count)
+        (rows_in right.now.ends right.now.offset (leaf_of right.now.values) count))
+        runs.ends.items (rows_of_items K.shown runs.items.items runs.flags)) }
+    ensures paired { IfOk result (λ runs. length runs.flags ≡ length runs.items.items) }
+    ensures blank { IfOk result (λ runs. AreBlankAtNulls K.blank_value (map K.shown runs.items.items) runs.flags) }
+    ensures filled { IsNeverNull (nullability_of (leaf_dtype (leaf_of left.now.values)))
+        (nullability_of (leaf_dtype (leaf_of right.now.values))) (O.answer_of asked.old.operation) →
+        IfOk result (λ runs. All (λ flag. flag ≡ true) runs.flags) }
+    ensures few { asked.new.asks ≤ length (ends_of left.now.ends) + length (ends_of right.now.ends) - 1 }
+    ensures had { IfOk result (λ runs. AllHave (O.has asked.old.operation)
+        (zip_rows (O.answer_of asked.old.operation)
+        (rows_in left.now.ends left.now.offset (leaf_of left.now.values) count)
+        (rows_in right.now.ends right.now.offset (leaf_of right.now.values) count))) }
+    ensures refused { IfErr result (IsZipRefusal (O.has asked.old.operation)
+        (zip_rows (O.answer_of asked.old.operation)
         (rows_in left.now.ends left.now.offset (leaf_of left.now.values) count)
         (rows_in right.now.ends right.now.offset (leaf_of right.now.values) count))) }
 {
@@ -83,7 +118,8 @@ pub(crate) fn zip_runs<Z: Copy + Drop, K: Stored<Z>, O: Pairwise<Z, K>, A: Alloc
         let left_stop = left.stop(left_run);
         let right_stop = right.stop(right_run);
         let stop = left_stop.min(right_stop).min(count);
-        let Some(answer) = operation.answer(
+        let Some(answer) = ask::<Z, K, O, A>(
+            asked,
             &left.values.get(left_run),
             &right.values.get(right_run),
         ) else {
