@@ -80,15 +80,17 @@ class Comparisons:
 def with_value(column: Column, sign: str, value: Any) -> Column:
     """Row by row whether `row sign value`; null where the row or the value is null."""
     operator_of(sign)
-    if _floats.is_float(column._logical) and not is_missing(value) and not _has_rows(value):
+    if _has_rows(value):
+        made = f"Column.of(..) makes one of {in_words(value)}"
+        raise TypeError(f"a column is compared with a column or one value: {made}")
+    if is_number(value) and is_whole(value):
+        value = operator.index(value)  # those of NumPy have no absolute of their least one
+    if _floats.is_float(column._logical) and not is_missing(value):
         return _float_columns.with_value(column, sign, _float_columns.checked_number(column._logical, value))
     if column._logical is not None:
         if not is_missing(value):
             value = _times.exact(column._logical, value)
         return with_value(column.storage(), sign, value)
-    if _has_rows(value):
-        made = f"Column.of(..) makes one of {in_words(value)}"
-        raise TypeError(f"a column is compared with a column or one value: {made}")
     name, number = TYPES[column._kind.number], None
     if is_number(value) and (name in WHOLE_NUMBERS or name == "decimal"):
         fits = _WIDE if name == "decimal" else range_of(name)

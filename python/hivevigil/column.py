@@ -9,7 +9,7 @@ from typing import Any, Optional
 
 from . import (
     _arrow, _casting, _comparing, _copying, _files, _float_columns, _floats, _indexing, _lists, _making, _pairs,
-    _questions, _reading, _rows, _runs, _showing, _sorting, _statistics, _times, _totals,
+    _questions, _reading, _rows, _runs, _showing, _sorting, _statistics, _times, _totals, _ufuncs,
 )
 from ._library import Handle, Kind, ask, calls, session
 from ._runs import Run
@@ -20,7 +20,7 @@ from .groups import Groups
 from .logical import LogicalType, asked_type, storage_of
 
 
-class Column(_comparing.Comparisons, _pairs.Pairs):
+class Column(_comparing.Comparisons, _pairs.Pairs, _ufuncs.Ufuncs):
     """Rows of one type, each a value or null. What a command makes is a new column; the old one stays as it was.
 
     A column is freed by `with`, by `free()`, or when nothing refers to it; each call on one that was freed is refused
