@@ -1,6 +1,6 @@
 """python -m hivevigil FILE.csv: for each column its type, rows, nulls, runs, and bytes before and after; or, with
 --to FILE.hv, all columns in runs kept as a table; with --differences those of integers and times as differences, each
-where that is shorter."""
+where that is shorter. The file of a table or of a column is read as what it is, whatever its name."""
 from __future__ import annotations
 
 import argparse
@@ -8,7 +8,8 @@ import csv
 import sys
 from collections.abc import Callable
 
-from . import report
+from . import _files, report
+from .column import Column
 from .csv_files import BadFile
 from .errors import HivevigilError
 from .functions import version
@@ -17,7 +18,8 @@ from .table import Table
 
 def _arguments() -> argparse.Namespace:
     parser = argparse.ArgumentParser(prog="python -m hivevigil", description="What a CSV's columns take in runs.")
-    parser.add_argument("file", metavar="FILE.csv", help="the first line has the names; an empty field is null")
+    file_help = "the first line has the names; an empty field is null; or a file of a table or a column"
+    parser.add_argument("file", metavar="FILE.csv", help=file_help)
     parser.add_argument("--to", metavar="FILE.hv", help="keeps the columns in runs as a table, and prints nothing")
     parser.add_argument("--differences", action="store_true", help="keeps them as differences where that is shorter")
     parser.add_argument("--plot", metavar="FILE.svg", help="draws how long the runs are (needs Matplotlib)")
@@ -44,12 +46,24 @@ def _plotter(path: str) -> Callable[[report.Report, str], None]:
     return plot.save
 
 
+def _convert(chosen: argparse.Namespace) -> None:
+    """Writes the table of a file, or its column, in place of the file that is meant, when all is written."""
+    kind = _files.kind_of(chosen.file)
+    if kind == "column":
+        if chosen.differences:
+            raise ValueError(f"{chosen.file}: the file of a column, and only tables have columns as differences")
+        Column.load(chosen.file).save(chosen.to)
+        return
+    table = Table.load(chosen.file) if kind else Table.from_csv(chosen.file, chosen.batch)
+    table.save(chosen.to, chosen.differences)
+
+
 def main() -> int:
     """The status: 0, or 1 where the file could not be read or drawn, which one line says."""
     chosen = _arguments()
     try:
         if chosen.to:
-            Table.from_csv(chosen.file, chosen.batch).save(chosen.to, chosen.differences)
+            _convert(chosen)
             return 0
         save = _plotter(chosen.plot) if chosen.plot else None
         found = report.read(chosen.file, chosen.batch, chosen.reader)

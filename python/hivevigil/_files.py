@@ -23,6 +23,7 @@ if TYPE_CHECKING:
 
 # how the bytes of a column begin: a message without and with a logical type, and the line of earlier versions
 _PLAIN, _TYPED, _LINE = b"\x08\x01", b"\x08\x02", b"hivevigil type 1 "
+_TABLE = b"\x0a\x09hivevigil"
 
 
 def load(kind: type[Column], path: Any) -> Column:
@@ -32,7 +33,7 @@ def load(kind: type[Column], path: Any) -> Column:
     try:
         return of_bytes(kind, message)
     except BadMetadata as refused:
-        hint = ": Table.load reads the file of a table" if message.startswith(b"\x0a\x09hivevigil") else ""
+        hint = ": Table.load reads the file of a table" if kind_of_bytes(message) == "table" else ""
         raise refused.saying(f"load: {name}, of {len(message):,} bytes, is not a file that save wrote{hint}") from None
 
 
@@ -58,9 +59,15 @@ def is_message(data: bytes) -> bool:
     return _logical_of(format, TYPES[fields.number(2) - 1]) is not None  # messages count from 1
 
 
-def is_begun(data: bytes) -> bool:
-    """Whether the bytes begin as those of columns do."""
-    return data.startswith((_PLAIN, _TYPED, _LINE))
+def kind_of_bytes(data: bytes) -> str:
+    """What the first bytes of a file say that it is: 'column', 'table', or nothing of the two."""
+    return "table" if data.startswith(_TABLE) else "column" if data.startswith((_PLAIN, _TYPED, _LINE)) else ""
+
+
+def kind_of(path: Any) -> str:
+    """The same of a file. Nothing of what cannot be read twice, as a pipe."""
+    with open(name_of(path), "rb") as file:
+        return kind_of_bytes(file.read(len(_LINE))) if file.seekable() else ""
 
 
 def _without_line(data: bytes) -> tuple[Optional[str], bytes]:

@@ -318,7 +318,7 @@ class _refused:
         if kind is Damaged:
             size = self._file.seek(0, os.SEEK_END)
             self._file.seek(0)
-            is_column = _files.is_begun(self._file.read(_HEAD_SIZE + _TAIL))
+            is_column = _files.kind_of_bytes(self._file.read(_HEAD_SIZE + _TAIL)) == "column"
             hint = ": Column.load reads the file of a column" if is_column else ""
             said = f"load: {self._name}, of {size:,} bytes, is not a file that Table.save wrote{hint}"
             raise BadMetadata().saying(said) from None

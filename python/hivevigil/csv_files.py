@@ -7,12 +7,13 @@ from __future__ import annotations
 
 import csv
 import re
+import threading
 from collections.abc import Callable, Iterator, Mapping
 from itertools import chain, compress, count, islice, repeat
 from operator import ne
 from typing import Any, Optional
 
-from . import _runs
+from . import _files, _runs
 from ._csv_fields import FieldType, Guess
 from ._lists import is_list
 from .column import Column
@@ -29,11 +30,15 @@ class BadFile(Exception):
 
 def lines_of(path: str) -> Iterator[list[str]]:
     """The names, then the fields of each row, as many as there are names; lines without a field are skipped."""
-    with open(path, newline="", encoding="utf-8-sig") as file:
+    kind = _files.kind_of(path)
+    if kind:
+        raise BadFile(f"{path}: the file of a {kind}, which {kind.title()}.load reads, and not a CSV file")
+    with open(path, newline="", encoding="utf-8-sig") as file, _AnyLength():
         try:
-            reader = csv.reader(file, delimiter=_separator(file.readline()), strict=True)
+            first = next((line for line in file if line.strip("\r\n")), "")
             file.seek(0)
-            names: list[str] = next(reader, [])
+            reader = csv.reader(file, delimiter=_separator(first), strict=True)
+            names: list[str] = next(filter(None, reader), [])
             if not names:
                 raise BadFile(f"{path}: no line of names")
             if len(set(names)) < len(names):
@@ -47,6 +52,26 @@ def lines_of(path: str) -> Iterator[list[str]]:
             raise BadFile(f"{path}: line {reader.line_num}: {error}") from None
         except UnicodeDecodeError:
             raise BadFile(f"{path}: {_not_utf8(path)}") from None
+
+
+class _AnyLength:
+    """Fields of any length, where csv takes 131,072 characters of each, while a file is read. There is one limit for a
+    whole process, and it is as it was when no file is read any more."""
+
+    _lock = threading.Lock()
+    _files, _before = 0, 0
+
+    def __enter__(self) -> None:
+        with self._lock:
+            if not _AnyLength._files:
+                _AnyLength._before = csv.field_size_limit(2**31 - 1)
+            _AnyLength._files += 1
+
+    def __exit__(self, *_: object) -> None:
+        with self._lock:
+            _AnyLength._files -= 1
+            if not _AnyLength._files:
+                csv.field_size_limit(_AnyLength._before)
 
 
 def _not_utf8(path: str) -> str:

@@ -1,19 +1,23 @@
-"""What the columns of a CSV file take in runs: a line for each column."""
+"""What the columns of a CSV file, or of a file of columns, take in runs: a line for each column."""
 from __future__ import annotations
 
 from collections import Counter
-from collections.abc import Iterator
+from collections.abc import Iterator, Mapping
 from dataclasses import dataclass, field
 from pathlib import Path
 from typing import Optional, Union
 
-from . import gdal_files
+from . import _files, gdal_files
+from ._common_types import written_type
+from ._lists import is_list
 from ._runs import lengths, visible
+from ._types import TYPES, WIDTHS
 from ._values import Scalar
 from .column import Column
 from .csv_files import CsvFile, lines_of
 from .gdal_files import GdalFile, Inexact
 from .progress import Progress
+from .table import Table
 
 PATIENCE = 1.0  # seconds before a progress bar is drawn
 
@@ -35,11 +39,11 @@ class Summary:
     def runs(self) -> int:
         return sum(self.run_lengths.values())
 
-    def add(self, flat: Column) -> None:
-        """One batch, as it came."""
-        if len(flat) == 0:
+    def add(self, column: Column) -> None:
+        """One batch, in whichever form it came."""
+        if column._length == 0:
             return
-        with flat.storage().to_runs() as runs:
+        with column.storage().to_runs() as runs:
             found = lengths(visible(runs).stops)
             if self.open_rows and runs[0] == self.last:
                 found[0] += self.open_rows
@@ -47,9 +51,9 @@ class Summary:
                 self.close()
             self.open_rows, self.last = found.pop(), runs[-1]
             self.run_lengths.update(found)
-            self.rows += len(flat)
+            self.rows += column._length
             self.nulls += runs.null_count
-            self.before += flat.nbytes
+            self.before += flat_nbytes(runs)
             self.after += runs.nbytes
 
     def close(self) -> None:
@@ -57,6 +61,18 @@ class Summary:
         if self.open_rows:
             self.run_lengths[self.open_rows] += 1
             self.open_rows = 0
+
+
+def flat_nbytes(column: Column) -> int:
+    """How many bytes the rows take in a flat form, whatever the form: it is not made, since there may be many rows."""
+    rows, name = column._length, TYPES[column._kind.number]
+    bits = -(-rows // 8)
+    if name in ("utf8", "binary"):
+        parts = ((stop - start, value) for start, stop, value in column.runs() if value)
+        size = 24 * rows + sum(count * len(value.encode() if isinstance(value, str) else value) for count, value in parts)
+    else:
+        size = bits if name == "bool" else rows * WIDTHS[name]
+    return size + bits * (column.null_count > 0)
 
 
 @dataclass
@@ -72,6 +88,9 @@ def read(path: str, batch_rows: int, reader: Optional[str] = None) -> Report:
     """Reads a file by GDAL where it is there, else by Python's csv module. Columns in which GDAL sees floating-point
     numbers, or times, are read by the csv module; so is all of a file that GDAL does not read, or of which it changes a
     value or a name."""
+    kind = _files.kind_of(path)
+    if kind:
+        return _of_columns({"": Column.load(path)} if kind == "column" else Table.load(path), f"{kind.title()}.load")
     by_gdal = gdal_files.available() if reader is None else reader == "gdal"
     # a broken file is refused here, where GDAL would guess
     rows = sum(1 for _ in lines_of(path)) - 1 if by_gdal else _rows_about(path)
@@ -79,6 +98,16 @@ def read(path: str, batch_rows: int, reader: Optional[str] = None) -> Report:
     report = _by_gdal(path, batch_rows, progress) if by_gdal else _by_csv(path, batch_rows, progress, "the csv module")
     progress.end()
     return report
+
+
+def _of_columns(columns: Mapping[str, Column], reader: str) -> Report:
+    """Those of columns by name, but lists, which are not in runs."""
+    summaries = [Summary(name) for name, column in columns.items() if not is_list(column)]
+    for summary in summaries:
+        summary.add(columns[summary.name])
+        summary.close()
+    types = {name: written_type(column) for name, column in columns.items()}
+    return Report(summaries, types, reader)
 
 
 def _by_gdal(path: str, batch_rows: int, progress: Progress) -> Report:

@@ -1,16 +1,23 @@
 """python -m hivevigil over CSV files: tables worked out by hand, both readers, bad files, the figure."""
+import csv
 import os
 import subprocess
 import sys
+import tempfile
 from datetime import date, datetime, time, timezone
 from pathlib import Path
+from unittest import mock
 from xml.etree import ElementTree
 
 import hivevigil
 import pytest
-from hivevigil import gdal_files, report
+from hivevigil import Column, Table, __main__, gdal_files, report
 from hivevigil.csv_files import BadFile, CsvFile
 from hivevigil.progress import Progress
+from hypothesis import given
+from hypothesis import strategies as st
+from rows import samples
+from tables import tables as table_samples
 
 FINDS = {**os.environ, "PYTHONPATH": str(Path(hivevigil.__file__).parents[1])}
 READERS = ["csv", pytest.param("gdal", marks=pytest.mark.skipif(not gdal_files.available(), reason="no GDAL 3.6"))]
@@ -248,6 +255,75 @@ def test_without_matplotlib(file, tmp_path):
     command = [sys.executable, "-m", "hivevigil", file, "--plot", tmp_path / "figure.svg"]
     ended = subprocess.run(command, env=finds, capture_output=True, text=True)
     assert (ended.returncode, ended.stdout) == (1, "") and "Matplotlib" in ended.stderr
+
+
+@given(samples())
+def test_bytes_before_are_those_of_flat_rows(sample):
+    """Whatever the form, of which no row is written out."""
+    flat = Column.of(sample.rows, sample.column.type)
+    assert report.flat_nbytes(sample.column) == report.flat_nbytes(flat) == flat.nbytes
+
+
+def test_bytes_before_of_more_rows_than_there_is_memory_for():
+    assert report.flat_nbytes(Column.constant(7, 2**60, "i32")) == 2**62
+    assert report.flat_nbytes(Column.constant("ab", 2**60, "utf8")) == 26 * 2**60
+    assert report.flat_nbytes(Column.constant(None, 2**60, "bool?")) == 2**58
+
+
+@given(st.integers(1, 50), st.integers(1, 9), st.sampled_from([1, 7, 100]))
+def test_bytes_before_of_batches_in_runs(repeats, values, batch):
+    """A text of which each comes often: its batches are runs. 24 bytes for each row, and its letters."""
+    texts = [str(value) * 3 for value in range(1, values + 1) for _ in range(repeats)]
+    with tempfile.TemporaryDirectory() as folder:
+        path = Path(folder) / "texts.csv"
+        path.write_text("text,number\n" + "".join(f"a{text},{text}\n" for text in texts))
+        found = {summary.name: summary for summary in report.read(str(path), batch, "csv").summaries}
+    assert found["text"].before == (24 + 4) * len(texts)
+    assert found["number"].before == 4 * len(texts) and found["number"].rows == len(texts)
+
+
+@given(table_samples(least_columns=1), st.booleans())
+def test_files_of_tables_and_columns_are_never_read_as_csv(sample, has_differences):
+    with tempfile.TemporaryDirectory() as folder:
+        path, to = Path(folder) / "any.csv", Path(folder) / "to.hv"
+        sample.table.save(path, differences=has_differences)
+        kept = path.read_bytes()
+        for call in (Table.from_csv, lambda path: CsvFile(str(path), 9)):
+            with pytest.raises(BadFile, match="the file of a table, which Table.load reads, and not a CSV file"):
+                call(path)
+        assert [each.name for each in report.read(str(path), 9).summaries] == sample.names
+        assert path.read_bytes() == kept
+        for target in (to, path):  # the last one is read and written
+            assert _convert(path, "--to", target) == 0 and Table.load(target).equals(sample.table)
+        column = sample.table[sample.names[0]]
+        column.save(path)
+        with pytest.raises(BadFile, match="the file of a column, which Column.load reads, and not a CSV file"):
+            Table.from_csv(path)
+        assert _convert(path, "--to", path) == 0 and Column.load(path).equals(column)
+        assert _convert(path, "--to", path, "--differences") == 1 and Column.load(path).equals(column)
+
+
+def _convert(*arguments):
+    """The status of the program, within this process."""
+    with mock.patch.object(sys, "argv", ["hivevigil", *map(str, arguments)]):
+        return __main__.main()
+
+
+def test_a_file_that_is_not_written_whole_stays(file, tmp_path):
+    kept = file.read_bytes()
+    with mock.patch.object(os, "fsync", side_effect=OSError(28, "No space left on device")):
+        assert _convert(file, "--to", file) == 1
+    assert file.read_bytes() == kept and [path.name for path in tmp_path.iterdir()] == [file.name]
+    assert _convert(file, "--to", file) == 0 and Table.load(file).names == ["place", "day", "count", "open", "price"]
+
+
+@given(st.integers(0, 3), st.sampled_from(["\n", "\r\n"]), st.integers(131_000, 300_000), st.sampled_from(",;\t|"))
+def test_empty_first_lines_and_long_fields(lines, end, letters, mark):
+    with tempfile.TemporaryDirectory() as folder:
+        path = Path(folder) / "long.csv"
+        path.write_text(end * lines + f"a{mark}b{end}{end}x{mark}{'y' * letters}{end}", newline="")
+        assert Table.from_csv(path).to_dict() == {"a": ["x"], "b": ["y" * letters]}
+    assert csv.field_size_limit() == 131_072  # of the other readers of this process
 
 
 def test_figure(file, tmp_path):
