@@ -13,10 +13,10 @@ if TYPE_CHECKING:
     from .column import Column
 
 
-def converted(column: Column, kind: Kind) -> Column:
+def converted(column: Column, kind: Kind, call: Optional[str] = None) -> Column:
     """The rows as the same values of a type: also integers and decimals of any scale as one another, texts as integers
-    and integers as texts, and booleans as integers."""
-    call = f"cast to {text_of(kind)}"
+    and integers as texts, and booleans as integers. A refusal names the call."""
+    call = call or f"cast to {text_of(kind)}"
     if _decimals.is_scaled(column._kind, kind):
         column = _decimals.rescaled(column, kind, call)
     elif _value_casts.is_served(column._kind, kind):

@@ -2,17 +2,20 @@
 keys are equal."""
 from __future__ import annotations
 
-from collections.abc import Iterable, Mapping
+from collections.abc import Iterable, Mapping, Sequence
 from dataclasses import dataclass, replace
 from fractions import Fraction
 from typing import TYPE_CHECKING, Any, NamedTuple, Optional
 
 from . import _float_columns, _floats, _runs
-from ._types import TYPES
+from ._common_types import NOTHING, Sources, common, merged, name_of, widened, written_type
+from ._table_making import about
+from ._types import TYPES, text_of
 from ._values import decimal_of
 from .chunks import FloatSums, Partial
 from .column import Column
 from .errors import in_words
+from .logical import LogicalType, asked_type
 from .table_groups import TableGroups, parts_of
 
 if TYPE_CHECKING:
@@ -51,6 +54,23 @@ class Values(NamedTuple):
     def _total_with(self, after: Values) -> Any:
         """The sum of both."""
         return self.total.then(after.total) if isinstance(self.total, FloatSums) else self.total + after.total
+
+    def widened(self, before: str, after: str, call: str) -> Values:
+        """The same values, of a type, as those of another one that has them."""
+        if not self.valid or before.rstrip("?") == after.rstrip("?"):
+            return self
+        (kind, logical), meant = asked_type(before), asked_type(after)[1]
+        stored = Column.of([self.least, self.greatest, self.first, self.last], text_of(kind))._meaning(logical)
+        rows = widened(stored, after, call).storage().to_list()
+        return Values(self.valid, self._total_in(logical, meant, after), *rows)
+
+    def _total_in(self, before: Optional[LogicalType], after: Optional[LogicalType], name: str) -> Any:
+        """The sum as that of another type."""
+        if _floats.is_float(after):
+            return self.total if isinstance(self.total, FloatSums) else FloatSums.of_whole(self.total, self.valid)
+        if before is not None and after is not None:
+            return self.total * (before.nanoseconds // after.nanoseconds)
+        return Fraction(self.total) if name.startswith("decimal") else self.total
 
     def answer(self, fold: str) -> Any:
         """What is asked of the values."""
@@ -104,14 +124,22 @@ class Edge:
         values = {name: part.then(after.values[name]) for name, part in self.values.items()}
         return Edge(self.key, self.rows + after.rows, values)
 
+    def widened(self, name: str, before: Mapping[str, str], after: Mapping[str, str], call: str) -> Edge:
+        """The same group by a key of this name, of other types of the columns, which have its rows."""
+        values = {column: part.widened(before[column], after[column], call) for column, part in self.values.items()}
+        return Edge(widened(self.key, after[name], call), self.rows, values)
+
 
 @dataclass(frozen=True)
 class Groups:
-    """The groups of a part. `none` is the answer of no rows, `whole` are the answers of groups that are known to be
-    whole; a part of one group has only `first`."""
+    """The groups of a part. `sources` are the types of the columns that are used, and where a refusal says that they are
+    from; `empty` are these columns without rows; `none` is the answer of no rows, `whole` are the answers of groups that
+    are known to be whole; a part of one group has only `first`."""
 
     name: str
     asked: dict[str, Any]
+    sources: dict[str, Sources]
+    empty: Table
     none: Table
     first: Optional[Edge]
     whole: tuple[Table, ...]
@@ -120,21 +148,37 @@ class Groups:
     @classmethod
     def of(cls, table: Table, name: str, asked: Mapping[str, Any]) -> Groups:
         """Those of a table, by equal neighbouring rows of the column of a name."""
-        none = TableGroups(table.slice(0, 0), name).agg(asked)
-        found = cls(name, dict(asked), none, None, (), None)
-        if not table.rows:
+        columns = list(dict.fromkeys(column for column, _ in map(parts_of, asked, asked.values()) if column is not None))
+        used = table.select(*dict.fromkeys([name, *columns]))
+        sources = {column: ((name_of(rows), ""),) for column, rows in used.items()}
+        for column in used:
+            if _says_nothing(sources[column]):
+                used = used.with_column(column, Column.constant(None, used.rows, "i64?"))
+        empty = used.slice(0, 0)
+        found = cls(name, dict(asked), sources, empty, TableGroups(empty, name).agg(asked), None, (), None)
+        if not used.rows:
             return found
-        columns = {column for column, _ in map(parts_of, asked, asked.values()) if column is not None}
-        keys = table._column(name).storage().to_runs()
+        keys = used._column(name).storage().to_runs()
         stop, start = _runs.run_at(keys, 0).stop, _runs.run_at(keys, -1).start
-        first = Edge.of(table.slice(0, stop), name, columns)
-        if stop == table.rows:
+        first = Edge.of(used.slice(0, stop), name, columns)
+        if stop == used.rows:
             return replace(found, first=first)
-        whole = (_answered(table.slice(stop, start), name, asked),)
-        return replace(found, first=first, whole=whole, last=Edge.of(table.slice(start, table.rows), name, columns))
+        whole = (_answered(used.slice(stop, start), name, asked),)
+        return replace(found, first=first, whole=whole, last=Edge.of(used.slice(start, used.rows), name, columns))
+
+    def of_part(self, part: str) -> Groups:
+        """The same, of rows that are from a part of this name."""
+        sources = {name: tuple((type, part) for type, _ in found) for name, found in self.sources.items()}
+        return replace(self, sources=sources)
 
     def then(self, after: Groups) -> Groups:
-        """The groups of this part and of the part after it."""
+        """The groups of this part and of the part after it, in the types that have the rows of both."""
+        sources = {name: merged(found, after.sources[name]) for name, found in self.sources.items()}
+        types = _types_of(sources)
+        return replace(self._in_types(types)._then(after._in_types(types)), sources=sources)
+
+    def _then(self, after: Groups) -> Groups:
+        """The same of two parts of the same types."""
         if self.first is None or after.first is None:
             return after if self.first is None else self
         left = [self.first] if self.last is None else [self.first, self.last]
@@ -147,8 +191,37 @@ class Groups:
         closed = tuple(map(self._row, edges[1:-1]))
         return replace(self, first=edges[0], whole=(*self.whole, *closed, *after.whole), last=edges[-1])
 
+    def _in_types(self, types: dict[str, str]) -> Groups:
+        """These groups with the columns of types that have all rows of theirs."""
+        before = _types_of(self.sources)
+        if all(type.rstrip("?") == types[name].rstrip("?") for name, type in before.items()):
+            return self
+        call = ": ".join(["group_by", *(part for _, part in self.sources[self.name][:1] if part)])
+        empty = self.empty._of({name: widened(column, types[name], call) for name, column in self.empty.items()}, 0, {})
+        none = TableGroups(empty, self.name).agg(self.asked)
+        first, last = (edge and edge.widened(self.name, before, types, call) for edge in (self.first, self.last))
+        whole = tuple(self._answers(part, none, call) for part in self.whole)
+        return replace(self, empty=empty, none=none, first=first, whole=whole, last=last)
+
+    def _answers(self, part: Table, none: Table, call: str) -> Table:
+        """Answers as those of other types of the columns. Only sums of floats are rounded."""
+        made = {}
+        for name, column in part.items():
+            type = written_type(none._column(name))
+            is_sum = name in self.asked and parts_of(name, self.asked[name])[1] == "sum"
+            with about(name):
+                if is_sum and column.null_count < column._length:
+                    made[name] = column.cast(type, rounded=type == "float64?")
+                else:
+                    made[name] = widened(column, type, call)
+        return part._of(made, part.rows, {})
+
     def table(self) -> Table:
         """The answers: a row for each group."""
+        unknown = {name: (("utf8?", ""),) for name, found in self.sources.items() if _says_nothing(found)}
+        if unknown:
+            sources = {**self.sources, **unknown}
+            return replace(self._in_types(_types_of(sources)), sources=sources).table()
         ends = [None if edge is None else self._row(edge) for edge in (self.first, self.last)]
         parts = [self.none, ends[0], *self.whole, ends[1]]
         return self.none.append(*(part for part in parts[1:] if part is not None))
@@ -178,6 +251,20 @@ class Groups:
         return row._meaning(logical)
 
 
+def _says_nothing(sources: Sources) -> bool:
+    """Whether no part has a value that says of which type a column is."""
+    return all(type == f"{NOTHING}?" for type, _ in sources)
+
+
+def _types_of(sources: Mapping[str, Sources]) -> dict[str, str]:
+    """The types that have the rows of all parts, by the names of the columns."""
+    types = {}
+    for name, found in sources.items():
+        with about(name):
+            types[name] = common(found, "group_by")
+    return types
+
+
 def joined(parts: Iterable[Groups]) -> Groups:
     """The groups of parts in their order, of which there is at least one."""
     whole, *others = parts
@@ -202,8 +289,8 @@ def _each(table: Table, name: str) -> Iterable[Table]:
         yield table.slice(start, stop)
 
 
-def concatenated(tables: Iterable[Table]) -> Table:
-    """Tables one after the other, of which there is at least one."""
-    first, *others = tables
-    return first.append(*others) if others else first
-
+def concatenated(tables: Iterable[Table], parts: Sequence[str] = ()) -> Table:
+    """Tables one after the other, of which there is at least one; `parts` say in a refusal where each is from."""
+    given = list(tables)
+    whole: Table = given[0]._joined(given, "append", parts or [f"table {number}" for number in range(len(given))])
+    return whole if len(given) > 1 else given[0]

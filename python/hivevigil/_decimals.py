@@ -3,7 +3,7 @@ from __future__ import annotations
 
 import ctypes
 import operator
-from collections.abc import Iterable
+from collections.abc import Sequence
 from decimal import Decimal
 from typing import TYPE_CHECKING, Any, Callable, Optional
 
@@ -63,9 +63,8 @@ def _cast(column: Column, kind: Kind) -> Column:
     return column._made(calls.hv_decimal_to_integers, column, kind.number)
 
 
-def common_kind(columns: Iterable[Column]) -> Kind:
-    """The decimals that have the digits of each column before the point, and after it, as far as a type has as many."""
-    kinds = [column._kind for column in columns]
+def common_kind(kinds: Sequence[Kind]) -> Kind:
+    """The decimals that have the digits of each type before the point, and after it, as far as a type has as many."""
     scale = max(kind.scale for kind in kinds)
     before = max(kind.precision - kind.scale for kind in kinds)
     precision = min(max(1, before + scale), GREATEST_PRECISION)
@@ -76,7 +75,7 @@ def at_one_scale(columns: list[Column], call: str) -> list[Column]:
     """The same columns of decimals, those of different scales as decimals of one type."""
     if len({(column._kind.precision, column._kind.scale) for column in columns}) <= 1:
         return columns
-    kind = common_kind(columns)
+    kind = common_kind([column._kind for column in columns])
     return [rescaled(column, kind, call) if is_scaled(column._kind, kind) else column for column in columns]
 
 

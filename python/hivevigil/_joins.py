@@ -16,6 +16,7 @@ from ._lists import is_list
 from ._rows import named
 from ._table_making import about, checked_name
 from ._types import WHOLE_NUMBERS
+from ._values import MOST_ROWS
 from .column import Column
 from .errors import TypeMismatch, Unsupported, in_words
 
@@ -23,7 +24,6 @@ if TYPE_CHECKING:
     from .table import Table
 
 HOW = ("inner", "left")
-_MOST_ROWS = 2**64 - 1
 _NUMBERS = {*WHOLE_NUMBERS, "decimal"}
 _OFTEN = 4  # times that a row comes on average: a flat column of which rows come more often comes in runs
 
@@ -54,7 +54,7 @@ def joined(left: Table, right: Table, on: str, how: Any) -> tuple[dict[str, Colu
             raise ValueError(f"join: both tables have a column {in_words(name)}: rename or drop it in one of them")
     pieces = list(_pieces(_stretches(keys[0]), _stretches(keys[1]), how == "left"))
     rows = sum(mine.rows for mine, _ in pieces)
-    if rows > _MOST_ROWS:
+    if rows > MOST_ROWS:
         raise OverflowError(f"join: the answer has {rows} rows, and a column has less than 2**64")
     mine, theirs = [each[0] for each in pieces], [each[1] for each in pieces]
     found = {name: _taken(left._column(name), mine, rows, False) for name in left}

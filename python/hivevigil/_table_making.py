@@ -12,7 +12,7 @@ from ._values import checked_text, size_of
 from .builder import Builder
 from .column import Column
 from .csv_files import CsvFile
-from .errors import HivevigilError, TypeMismatch, in_words
+from .errors import HivevigilError, in_words
 
 if TYPE_CHECKING:
     from .table import Table
@@ -115,19 +115,14 @@ def meanings(columns: Mapping[str, Column], formats: Mapping[str, str]) -> dict[
     return found
 
 
-def check_alike(table: Table, other: Any) -> None:
-    """Refuses a table that cannot be appended: it has other names, or other logical types."""
+def check_names(table: Table, other: Any) -> None:
+    """Refuses a table that cannot be appended, since it has other names."""
     if type(other) is not type(table):
         raise TypeError(f"a table is appended to a table, not {in_words(other)}")
     if set(table) != set(other):
         only = [f"{'only the first' if name in table else 'only the other'} has {in_words(name)}"
                 for name in [*table, *other] if (name in table) != (name in other)]
         raise ValueError(f"append: the tables have columns of different names: {only[0]}")
-    for name in table:
-        left, right = (each.logical_types.get(name, "none") for each in (table, other))
-        if left != right:
-            said = f"append: the logical types of column {in_words(name)} are {left} and {right}"
-            raise TypeMismatch().saying(said)
 
 
 # ---- Frames of pandas ----

@@ -14,7 +14,7 @@ from .errors import OutOfBounds, in_words
 
 Scalar = Union[int, float, bool, Decimal, str, bytes, date, time, timedelta, None]
 _UNSIGNED, _SIGNED, _TRUTH, _DECIMAL, _TEXT, _BYTES = range(1, 7)
-_LOW = 2**64 - 1
+MOST_ROWS = _LOW = 2**64 - 1
 _SORTS = {
     **dict.fromkeys(WHOLE_NUMBERS, "an integer"), "bool": "a boolean", "utf8": "a text", "binary": "bytes",
     "list": "a list, which no call takes",

@@ -16,23 +16,26 @@ import functools
 import math
 import operator
 from collections.abc import Iterable
-from dataclasses import dataclass, replace
+from dataclasses import dataclass, field, replace
 from datetime import datetime, timezone
 from fractions import Fraction
+from itertools import accumulate
 from typing import Any, NamedTuple, Optional
 
 from . import _floats, _runs, _statistics, _times
+from ._common_types import NOTHING, Sources, common, merged, widened
 from ._library import Pair, ask, calls
-from ._types import WHOLE_NUMBERS, range_of, text_of
-from ._values import Scalar
+from ._types import GREATEST_PRECISION, WHOLE_NUMBERS, range_of, text_of
+from ._values import Scalar, decimal_of, unscaled
 from .column import Column
-from .errors import TypeMismatch, Unsupported, in_words
+from .errors import Unsupported, in_words
 from .logical import LogicalType, asked_type
 
 __all__ = ["FloatSums", "Partial", "Stretch", "Sums", "join", "joined"]
 
 
 _WIDE = LogicalType("float", "64")
+_DECIMALS = range(-(10**GREATEST_PRECISION) + 1, 10**GREATEST_PRECISION)  # sums of decimals, in units of their least place
 
 
 class Stretch(NamedTuple):
@@ -76,6 +79,11 @@ class FloatSums(NamedTuple):
         others = (0.0 if number and math.isfinite(number) else number for number, _ in runs)
         return cls(Fraction(total, parts), functools.reduce(operator.add, others, -0.0))
 
+    @classmethod
+    def of_whole(cls, total: int, count: int) -> FloatSums:
+        """That of this many integers, by their sum."""
+        return cls(Fraction(total), 0.0) if count else cls()
+
     def then(self, after: FloatSums) -> FloatSums:
         """That of the rows of both."""
         return FloatSums(self.finite + after.finite, self.others + after.others)
@@ -95,10 +103,12 @@ class Partial:
     """What is known of a part of a column.
 
     `type` is the column's, with its '?'. `runs` counts the stretches of equal rows, as few as there can be. `sums` is
-    None unless the rows are integers or durations, `float_sums` unless they are floats. `least` and `greatest` leave
+    None unless the rows are integers, decimals (in units of their least place) or durations, `float_sums` unless they
+    are floats. `least` and `greatest` leave
     nulls out, and NaN, and are None where there is nothing else; null is below all else in `is_sorted` (no row above the
     next) and `is_strictly_sorted` (each row below the next). `first` and `last` are the outermost runs, None of no rows.
-    Floats are equal, and in order, as in runs: 0.0 is above -0.0, and a NaN equals itself.
+    Floats are equal, and in order, as in runs: 0.0 is above -0.0, and a NaN equals itself. `sources` are
+    the types of the parts that were joined, and where a refusal says that they are from; they are not compared.
     """
 
     type: str
@@ -113,6 +123,7 @@ class Partial:
     first: Optional[Stretch]
     last: Optional[Stretch]
     float_sums: Optional[FloatSums] = None
+    sources: Sources = field(default=(), compare=False, repr=False)
 
     @classmethod
     def empty(cls, type: Any) -> Partial:
@@ -164,19 +175,32 @@ class Partial:
             return self.float_sums.rounded() if self.count else 0.0
         if self.sums is None:
             raise Unsupported().saying(f"sum does not serve parts of type {self.type}")
-        logical = asked_type(self.type)[1]
-        name = "u64" if self.type.startswith("u") else "i64"
-        fits = range_of(name)
+        kind, logical = asked_type(self.type)
+        is_decimal = self.type.startswith("decimal")
+        name = f"{GREATEST_PRECISION} digits" if is_decimal else "u64" if self.type.startswith("u") else "i64"
+        fits = _DECIMALS if is_decimal else range_of(name)
         if self.sums.least not in fits or self.sums.greatest not in fits:
             past = self.sums.least if self.sums.least not in fits else self.sums.greatest
-            raise OverflowError(f"sum: it leaves {name} on the way from row to row, where it is {in_words(past)}")
-        return _times.value_of(logical, self.sums.total)
+            where = decimal_of(past, kind.scale) if is_decimal else in_words(past)
+            raise OverflowError(f"sum: it leaves {name} on the way from row to row, where it is {where}")
+        total = self.sums.total
+        return decimal_of(total, kind.scale) if is_decimal else _times.value_of(logical, total)
 
     def join(self, after: Partial) -> Partial:
         """What is known of the rows of this part and of those of the part after it."""
         if not isinstance(after, Partial):
             raise TypeError(f"a Partial is joined with a Partial, not with {in_words(after)}")
-        name = _joined_type(self.type, after.type)
+        sources = merged(self._sources(), after._sources())
+        name = common(sources, "join").replace(NOTHING, "utf8")
+        return replace(_widened(self, name)._then(_widened(after, name), name), sources=sources)
+
+    def _sources(self) -> Sources:
+        """The types of the parts; texts of which each is null say nothing of one."""
+        says_nothing = self.type == "utf8?" and not self.count
+        return self.sources or ((f"{NOTHING}?" if says_nothing else self.type, ""),)
+
+    def _then(self, after: Partial, name: str) -> Partial:
+        """What is known of the rows of both, which are of this type."""
         if self.first is None or self.last is None:
             return replace(after, type=name)
         if after.first is None or after.last is None:
@@ -191,6 +215,10 @@ class Partial:
             _grown(self.first, after.first, self.runs), _grown(after.last, self.last, after.runs),
             _joined_sums(self.float_sums, after.float_sums),
         )
+
+    def of_part(self, part: str) -> Partial:
+        """The same, of rows that are from a part of this name."""
+        return replace(self, sources=tuple((type, part) for type, _ in self._sources()))
 
 
 def join(left: Partial, right: Partial) -> Partial:
@@ -207,25 +235,55 @@ def joined(parts: Iterable[Partial]) -> Partial:
 
 
 def _is_summed(name: str) -> bool:
-    """Whether rows of a type are added: integers, and durations."""
-    return name.rstrip("?") in WHOLE_NUMBERS or name.startswith("duration")
+    """Whether rows of a type are added: integers, decimals, and durations."""
+    return name.rstrip("?") in WHOLE_NUMBERS or name.startswith(("decimal", "duration"))
 
 
 def _sums_of(runs: Column) -> Sums:
-    """The three numbers of runs of integers: each is high * 2^64 + low, of unsigned ones with the bits of high."""
+    """The three numbers of runs of integers: each is high * 2^64 + low, of unsigned ones with the bits of high; and of
+    decimals, in units of their least place."""
+    if runs.type.startswith("decimal"):
+        scale, parts = runs._kind.scale, runs.runs()
+        steps = ((stop - start) * unscaled(value or 0, GREATEST_PRECISION, scale) for start, stop, value in parts)
+        ends = list(accumulate(steps, initial=0))
+        return Sums(ends[-1], min(ends), max(ends))
     pairs = Pair(), Pair(), Pair()
     ask(calls.hv_sum_parts, runs, *pairs)
     turns = 2**64 if runs.type.startswith("u") else 0
     return Sums(*((pair.high % turns if turns else pair.high) * 2**64 + pair.low for pair in pairs))
 
 
-def _joined_type(left: str, right: str) -> str:
-    """The type of joined rows, which has null where one of the two has."""
-    if left.rstrip("?") != right.rstrip("?"):
-        raise TypeMismatch().saying(
-            f"join: {left.rstrip('?')} and {right.rstrip('?')} are two types; parts of one column are joined"
-        )
-    return left if left.endswith("?") else right
+def _widened(part: Partial, type: str) -> Partial:
+    """What is known of the same rows as those of a type that has them."""
+    before, name = part.type.rstrip("?"), type.rstrip("?")
+    if name in (before, NOTHING):
+        return part
+    first, last = part.first, part.last
+    rows = [part.least, part.greatest, first and first.value, last and last.value]
+    call = ": ".join(["join", *(place for _, place in part.sources[:1] if place)])
+    least, greatest, *ends = widened(Column.of(rows, part.type), name, call).to_list()
+    empty = Partial.empty(name)
+    return replace(
+        part, type=name + "?" * part.type.endswith("?"), least=least, greatest=greatest,
+        sums=_widened_sums(part, empty),
+        first=first and Stretch(ends[0], first.rows), last=last and Stretch(ends[1], last.rows),
+        float_sums=None if empty.float_sums is None else _float_sums_of(part),
+    )
+
+
+def _widened_sums(part: Partial, empty: Partial) -> Optional[Sums]:
+    """The sums of a part in the least places, or the unit, of another type; None where that has none."""
+    if empty.sums is None or part.sums is None:
+        return empty.sums
+    (kind, logical), (other, meant) = asked_type(part.type), asked_type(empty.type)
+    ratio: int = logical.nanoseconds // meant.nanoseconds if logical and meant else 10 ** (other.scale - kind.scale)
+    return Sums(*(number * ratio for number in part.sums))
+
+
+def _float_sums_of(part: Partial) -> FloatSums:
+    if part.float_sums is not None:
+        return part.float_sums
+    return FloatSums.of_whole(part.sums.total if part.sums else 0, part.count)
 
 
 def _chosen(choose: Any, left: Any, right: Any) -> Any:

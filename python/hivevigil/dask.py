@@ -16,19 +16,20 @@ from __future__ import annotations
 
 import operator
 import os
-from collections.abc import Callable, Iterable
+from collections.abc import Callable, Iterable, Sequence
 from typing import Any, Optional
 
 from dask import base, highlevelgraph, optimization, threaded, utils
 
 from . import _runs
 from . import chunks as _chunks
+from ._chunk_groups import Groups
 from ._types import kind_of, text_of
 from ._values import Scalar, size_of
 from .chunks import Partial
 from .column import Column
 from .errors import HivevigilError, in_words
-from .functions import concat
+from .functions import joined
 from .table import Table
 
 __all__ = ["Answer", "ChunkedColumn"]
@@ -61,8 +62,19 @@ class _Lazy(base.DaskMethodsMixin):
     __dask_scheduler__ = staticmethod(threaded.get)
     __dask_optimize__ = staticmethod(_optimized)
 
+    _sources: Sequence[str] = ()  # of each chunk the file that it is from, and the column, where they are known
+
     def __init__(self, graph: Any, name: str, count: int) -> None:
         self._graph, self._name, self._count = graph, name, count
+
+    def _from(self, sources: Sequence[str]) -> Any:
+        """The same chunks, which are from these sources."""
+        self._sources = tuple(sources)
+        return self
+
+    def _parts(self) -> list[str]:
+        """What refusals call the chunks."""
+        return [_part_name(number, self._count, self._sources[number : number + 1]) for number in range(self._count)]
 
     def __dask_graph__(self) -> Any:
         return self._graph
@@ -77,12 +89,14 @@ class _Lazy(base.DaskMethodsMixin):
         return self._name, self._count
 
     def __dask_postpersist__(self) -> Any:
-        return _rebuilt, (type(self), self._name, self._count)
+        return _rebuilt, (type(self), self._name, self._count, self._sources)
 
 
-def _rebuilt(graph: Any, kind: Any, name: str, count: int, rename: Optional[dict[str, str]] = None) -> Any:
+def _rebuilt(
+    graph: Any, kind: Any, name: str, count: int, sources: Sequence[str], rename: Optional[dict[str, str]] = None
+) -> Any:
     name = (rename or {}).get(name, name)
-    return kind(_graph(name, dict(graph)), name, count)
+    return kind(_graph(name, dict(graph)), name, count)._from(sources)
 
 
 class Answer(_Lazy):
@@ -122,7 +136,8 @@ class Chunked(_Lazy):
     def _chunk(self, number: int) -> Any:
         if not 0 <= number < self._count:
             raise IndexError(f"chunk {in_words(number)} is not among {self._count} chunks")
-        return self._made("chunk", [(_same, (self._name, number))], self, number, after=[self])
+        made = self._made("chunk", [(_same, (self._name, number))], self, number, after=[self])
+        return made._from(self._sources[number : number + 1])
 
     def _mapped(self, kind: Any, function: Callable[..., Any], *others: Any) -> Any:
         for other in others:
@@ -132,11 +147,11 @@ class Chunked(_Lazy):
         layer: dict[Any, Any] = {
             f"{name}-with-{at}": (_same, other) for at, other in enumerate(others) if isinstance(other, Column)
         }
-        for number in range(self._count):
+        for number, part in enumerate(self._parts()):
             passed = [_argument(name, at, other, number) for at, other in enumerate(others)]
-            layer[name, number] = (_on_chunk, number, self._count, function, (self._name, number), passed)
+            layer[name, number] = (_on_chunk, part, function, (self._name, number), passed)
         after = [self, *(other for other in others if isinstance(other, Chunked))]
-        return kind(_graph(name, layer, after), name, self._count)
+        return kind(_graph(name, layer, after), name, self._count)._from(self._sources)
 
     def _aggregated(self, function: Callable[..., Any], join: Callable[[list[Any]], Any], *others: Any) -> Answer:
         """What a function says of each chunk, joined as a tree, neighbours in their order."""
@@ -189,6 +204,7 @@ class ChunkedColumn(Chunked):
             raise TypeError(f"from_files takes the names of several files, not {in_words(paths)}")
         names = [os.path.abspath(os.fsdecode(path)) for path in paths]
         made: ChunkedColumn = cls._made("files", [(Column.load, name) for name in names], *map(_stamp, names))
+        made._from(names)
         return made
 
     @classmethod
@@ -206,6 +222,7 @@ class ChunkedColumn(Chunked):
         kept = [name for name in names if where is None or Table.footer(name).may_have(*where)]
         tasks = [(_column_of_table, name, column, (_same, where)) for name in kept or names[:1]]
         made: ChunkedColumn = cls._made("tables", tasks, column, where, *map(_stamp, kept or names[:1]))
+        made._from([_of_column(name, column) for name in kept or names[:1]])
         return made
 
     @classmethod
@@ -225,10 +242,10 @@ class ChunkedColumn(Chunked):
         return cls.from_delayed(array.to_delayed().ravel(), type)
 
     def __dask_postcompute__(self) -> Any:
-        return _whole, ()
+        return _whole, (self._parts(),)
 
     def compute(self, **options: Any) -> Column:
-        """All rows as one column here, in runs where the chunks are."""
+        """All rows as one column here, in runs where the chunks are, of the type that has the rows of each chunk."""
         whole: Column = _asked(self, **options)[0]
         return whole
 
@@ -259,16 +276,16 @@ class ChunkedColumn(Chunked):
             raise ValueError("a chunk has at least one run")
         counts = self._counted(_run_count)
         total = sum(counts)
-        parts = max(1, -(-total // most))
-        bounds = [total * part // parts for part in range(parts + 1)]
+        parts, count = self._parts(), max(1, -(-total // most))
+        bounds = [total * part // count for part in range(count + 1)]
         name = f"hivevigil-rechunk-{_token(self, most)}"
         layer = {
             (name, number): (_joined_pieces, [
                 (_runs_between, (self._name, chunk), first, last) for chunk, first, last in _cut(counts, start, stop)
-            ])
+            ], [parts[chunk] for chunk, _, _ in _cut(counts, start, stop)])
             for number, (start, stop) in enumerate(zip(bounds, bounds[1:]))
         }
-        return ChunkedColumn(_graph(name, layer, [self]), name, parts)
+        return ChunkedColumn(_graph(name, layer, [self]), name, count)
 
     # ---- Commands, chunk by chunk ----
 
@@ -414,12 +431,13 @@ def _run_count(column: Column) -> int:
     return column.to_runs().run_count()
 
 
-def _whole(columns: Any) -> Column:
-    """The columns one after the other, in runs where they are in runs or constants."""
-    parts = list(columns)
-    if len(parts) == 1:
-        return parts[0]  # type: ignore[no-any-return]
-    whole = concat(parts)
+def _whole(columns: Any, parts: Sequence[str] = ()) -> Column:
+    """The columns one after the other, in runs where they are in runs or constants; `parts` say in a refusal where each
+    is from."""
+    given = list(columns)
+    if len(given) == 1:
+        return given[0]  # type: ignore[no-any-return]
+    whole = joined(given, "compute", parts)
     return whole.to_runs() if whole.form == "runs" else whole
 
 
@@ -438,16 +456,27 @@ def _column_of_table(path: str, name: str, where: Optional[tuple[str, str, Any]]
     return chosen
 
 
-def _on_chunk(number: int, count: int, function: Callable[..., Any], chunk: Column, others: list[Any]) -> Any:
-    """What a function makes of a chunk; a refusal says of which chunk."""
+def _on_chunk(part: str, function: Callable[..., Any], chunk: Column, others: list[Any]) -> Any:
+    """What a function makes of a chunk; a refusal says of which chunk, and so does one of what is known of it."""
     try:
-        return function(chunk, *others)
+        found = function(chunk, *others)
     except HivevigilError as refused:
-        raise refused.saying(f"chunk {number} of {count}: {refused}") from None
+        raise refused.saying(f"{part}: {refused}") from None
+    return found.of_part(part) if isinstance(found, (Partial, Groups)) else found
 
 
-def _joined_pieces(pieces: list[Column]) -> Column:
-    return _whole(pieces).to_runs()
+def _part_name(number: int, count: int, source: Sequence[str]) -> str:
+    """What a refusal calls a chunk."""
+    return ", ".join([f"chunk {number} of {count}", *source])
+
+
+def _of_column(source: str, name: str) -> str:
+    """The source of a column of a table from a source."""
+    return f"column {in_words(name)} of {source}" if source else f"column {in_words(name)}"
+
+
+def _joined_pieces(pieces: list[Column], parts: Sequence[str]) -> Column:
+    return _whole(pieces, parts).to_runs()
 
 
 def _runs_between(column: Column, first: int, last: int) -> Column:

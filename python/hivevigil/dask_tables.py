@@ -7,7 +7,8 @@
     north["level"].max().compute()                                  # of the others two columns are read
     readings.group_by("station").agg(rows="size", highest=("level", "max")).compute()
 
-Chunks are tables one after the other, of the same names, types and logical types. Workers need this package and Dask.
+Chunks are tables one after the other, of the same names. Columns of several types of numbers, or of times in several
+units, are joined in the type that has the rows of all (docs/TYPES.md). Workers need this package and Dask.
 """
 from __future__ import annotations
 
@@ -19,7 +20,7 @@ from typing import Any, Optional
 from . import _chunk_groups
 from ._values import size_of
 from .column import Column
-from .dask import Answer, Chunked, ChunkedColumn, _asked, _dask, _same, _stamp
+from .dask import Answer, Chunked, ChunkedColumn, _asked, _dask, _of_column, _same, _stamp
 from .errors import in_words
 from .table import Table
 from .table_groups import parts_of
@@ -44,6 +45,10 @@ class _Files:
         kept = [stamp for stamp in self.stamps if Table.footer(stamp[0]).may_have(*condition)] or self.stamps[:1]
         skipped = self.skipped + len(self.stamps) - len(kept)
         return replace(self, stamps=tuple(kept), conditions=(*self.conditions, condition), skipped=skipped)
+
+    @property
+    def names(self) -> list[str]:
+        return [name for name, _, _ in self.stamps]
 
     def tasks(self, function: Callable[..., Any], *arguments: Any) -> list[Any]:
         quoted = [(_same, argument) for argument in arguments]
@@ -93,16 +98,16 @@ class ChunkedTable(Chunked):
     @classmethod
     def _of_files(cls, files: _Files) -> ChunkedTable:
         made: ChunkedTable = cls._made("files", files.tasks(_table_of_file, files.columns), files)
-        made._files = files
+        made._from(files.names)._files = files
         return made
 
     # ---- All of it ----
 
     def __dask_postcompute__(self) -> Any:
-        return _chunk_groups.concatenated, ()
+        return _chunk_groups.concatenated, (self._parts(),)
 
     def compute(self, **options: Any) -> Table:
-        """All rows as one table here."""
+        """All rows as one table here, each column of the type that has the rows of each chunk."""
         whole: Table = _asked(self, **options)[0]
         return whole
 
@@ -163,9 +168,10 @@ class ChunkedTable(Chunked):
         files = self._files
         if files is not None and (files.columns is None or name in files.columns):
             column: ChunkedColumn = ChunkedColumn._made("column", files.tasks(_column_of_file, name), files, name)
-            return column
-        named: ChunkedColumn = self._mapped(ChunkedColumn, Table._column, name)
-        return named
+        else:
+            column = self._mapped(ChunkedColumn, Table._column, name)
+        column._from([_of_column(source, name) for source in self._sources or [""] * self._count])
+        return column
 
     def rechunk(self, runs: int) -> ChunkedTable:
         """The same rows in fewer chunks: neighbours are joined up to as many runs in all columns together, since small
@@ -179,7 +185,11 @@ class ChunkedTable(Chunked):
                 room = most
             groups[-1].append(number)
             room -= count
-        tasks = [(_chunk_groups.concatenated, [(self._name, number) for number in group]) for group in groups]
+        parts = self._parts()
+        tasks = [
+            (_chunk_groups.concatenated, [(self._name, number) for number in group], [parts[at] for at in group])
+            for group in groups
+        ]
         joined: ChunkedTable = self._made("rechunk", tasks, self, most, after=[self])
         return joined
 

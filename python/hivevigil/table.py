@@ -3,16 +3,16 @@ from __future__ import annotations
 
 import functools
 import operator
-from collections.abc import Callable, Iterable, Iterator, Mapping
+from collections.abc import Callable, Iterable, Iterator, Mapping, Sequence
 from typing import TYPE_CHECKING, Any, Optional
 
 from . import _arrow, _files, _indexing, _joins, _sorting, _table_files, _table_making, _table_showing, csv_files
 from ._table_files import TableFooter
 from ._table_making import Names, about, checked_name, each_of, refuse_twice
-from ._values import Scalar, is_whole, row_of, size_of
+from ._values import MOST_ROWS, Scalar, is_whole, row_of, size_of
 from .column import Column
-from .errors import ColumnLength, NoName, in_words
-from .functions import concat
+from .errors import ColumnLength, NoName, WindowOverflow, in_words
+from .functions import joined
 
 if TYPE_CHECKING:
     from .table_groups import TableGroups
@@ -241,15 +241,25 @@ class Table(Mapping[str, Column]):
         return self._of(columns, rows, {**other._logical, **self._logical})
 
     def append(self, *tables: Table) -> Table:
-        """The rows of this table, then those of others, which have columns of the same names, types and logical types;
-        a type has null where it has in one of them."""
+        """The rows of this table, then those of others, which have columns of the same names. Columns of several types
+        of numbers, or of times in several units, are joined in the type that has the rows of all (`docs/TYPES.md`), and
+        else refused; a type has null where it has in one of them."""
+        return self._joined([self, *tables], "append", [f"table {number}" for number in range(len(tables) + 1)])
+
+    @classmethod
+    def _joined(cls, tables: Sequence[Table], call: str, parts: Sequence[str]) -> Table:
+        """The rows of tables, one after the other, for a call that a refusal names, and where the tables are from."""
+        first = tables[0]
         for table in tables:
-            _table_making.check_alike(self, table)
-        joined = {}
-        for name in self._columns:
+            _table_making.check_names(first, table)
+        rows = sum(table._rows for table in tables)
+        if rows > MOST_ROWS:
+            raise WindowOverflow().saying(f"{call}: {rows} rows are past 2**64 - 1")
+        made = {}
+        for name in first._columns:
             with about(name):
-                joined[name] = concat([table._columns[name] for table in (self, *tables)])
-        return self._of(joined, sum(table._rows for table in (self, *tables)), self._logical)
+                made[name] = joined([table._columns[name] for table in tables], call, parts)
+        return cls._of(made, rows, {})
 
     def to_runs(self) -> Table:
         """Each column in as few runs as possible; lists as they are."""

@@ -193,7 +193,7 @@ def test_a_type_that_has_null_in_one_part():
 
 def test_refusals():
     numbers, texts = Partial.of(Column.of([1])), Partial.of(Column.of(["a"]))
-    with pytest.raises(TypeError, match="join: i64 and utf8 are two types; parts of one column are joined"):
+    with pytest.raises(TypeError, match="join: i64 and utf8 are two types, and none has the rows of both"):
         numbers.join(texts)
     with pytest.raises(TypeError, match="sum does not serve parts of type utf8"):
         texts.sum()
@@ -214,9 +214,28 @@ def test_many_rows_cost_runs():
     assert part.join(part).last == Stretch(7, 2**56)
 
 
-def test_decimals_have_no_sum():
-    part = Partial.of(Column.of([Decimal("1.5"), None, Decimal("0.25")]))
-    assert part.sums is None and (part.least, part.greatest) == (Decimal("0.25"), Decimal("1.5"))
+@given(st.data(), st.lists(st.none() | st.integers(-(10**20) + 1, 10**20 - 1) | st.just(10**20 - 1)))
+def test_sums_of_decimals(data, numbers):
+    rows = [None if number is None else Decimal(number).scaleb(-3) for number in numbers]
+    column = Column.of(rows, "decimal(20, 3)?")
+    parts = [Partial.of(column.slice(start, stop)) for start, stop in cuts(data, len(rows))]
+    due = Fraction(sum(number or 0 for number in numbers), 1000)
+    assert Fraction(joined(parts).sum()) == Fraction(column.sum()) == due
+    assert joined(parts).sum().as_tuple().exponent == -3
+
+
+def test_a_sum_of_decimals_leaves_38_digits():
+    top = Decimal(10**38 - 1)
+    parts = [Partial.of(Column.of([Decimal(number)], "decimal(38, 0)")) for number in (top, 1, -1)]
+    for some in (parts, parts[1:] + parts[:1]):
+        rows = [part.least for part in some]
+        column = Column.of(rows, "decimal(38, 0)")
+        if rows[0] == top:
+            for call in (column.sum, joined(some).sum):
+                with pytest.raises(OverflowError, match="sum: it leaves 38 digits"):
+                    call()
+        else:
+            assert joined(some).sum() == column.sum() == top
 
 
 def test_pickle():

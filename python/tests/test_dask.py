@@ -218,7 +218,7 @@ CHUNKS = ChunkedColumn.from_columns([Column.of([1, 2]), Column.of([3, 300])])
     (lambda: ChunkedColumn.from_columns([]), ValueError, "a chunked column has at least one chunk"),
     (lambda: ChunkedColumn.from_columns([Column.of([1]), [2]]), TypeError, r"chunk 1 is \[2\], not a Column"),
     (lambda: ChunkedColumn.from_columns([Column.of([1]), Column.of(["a"])]).aggregate().compute(), TypeError,
-     "join: i64 and utf8 are two types"),
+     r"join: i64 \(chunk 0 of 2\) and utf8 \(chunk 1 of 2\) are two types"),
 ])
 def test_refusals(call, kind, said):
     with pytest.raises(kind, match=said):

@@ -123,5 +123,5 @@ def test_decimals_of_two_scales_are_joined(lefts, rights, scale, other):
 
 
 def test_a_row_without_a_place_is_not_joined():
-    with pytest.raises(errors.CastOutOfRange, match=r"concat: row 0 is 10{30}, which does not fit decimal\(38, 20\)"):
+    with pytest.raises(errors.CastOutOfRange, match=r"concat: column 0: row 0 is 10{30}, which does not fit decimal\(38, 20\)"):
         concat([Column.of([Decimal(10**30)], "decimal(38, 0)"), Column.of([Decimal(1)], "decimal(38, 20)")])

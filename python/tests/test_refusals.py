@@ -156,7 +156,7 @@ def test_refusals_name_the_call_and_its_columns():
         (lambda: Column.of(["a"] * 4).eq(numbers),
          "compare: utf8 and i64 are two types; rows of one type are compared"),
         (lambda: concat([numbers, numbers.encode(), texts]),
-         "concat: i64 and utf8 are two types; columns of one type are joined"),
+         "concat: i64 (column 0) and utf8 (column 2) are two types, and none has the rows of both: cast one to the other"),
     ]
     for call, sentence in due:
         with pytest.raises(HivevigilError) as caught:

@@ -321,9 +321,11 @@ T = Table({"a": [1, 2, None], "b": ["x", "y", "z"]}, {"a": "tiM"})
         (lambda: T.drop("b").append(T), ValueError,
          "append: the tables have columns of different names: only the other has 'b'"),
         (lambda: T.append(Table({"a": T["a"].storage(), "b": T["b"]})), errors.TypeMismatch,
-         "append: the logical types of column 'a' are tiM and none"),
+         "column 'a': append: i32 tiM (table 0) and i32 (table 1) are two types, and none has the rows of both: cast one "
+         "to the other"),
         (lambda: T.append(T.with_column("b", [1, 2, 3])), errors.TypeMismatch,
-         "column 'b': concat: utf8 and i64 are two types; columns of one type are joined"),
+         "column 'b': append: utf8 (table 0) and i64 (table 1) are two types, and none has the rows of both: cast one to "
+         "the other"),
         (lambda: T.group_by("b").agg(b="size"), ValueError, "two columns have the name 'b': it is that of the keys"),
         (lambda: T.group_by("b").agg(c=("a", "median")), TypeError,
          "agg: 'c' is asked by 'size', or a column and one of sum, mean, size, count, min, max, first, last, not by ('a', "),
