@@ -79,6 +79,8 @@ class Prover:
 
     def __init__(self, libraries: Path) -> None:
         self.rtlib: Any = toolchain()
+        # What ends the checks when this program ends, however it does; it is to be made before threads are.
+        self.guard = self.rtlib.guarded()
         self.crates = {each.name: each for each in self.rtlib.crates_below(str(wrong_bodies.ROOT))}
         for each in self.crates.values():
             each.rlib = str(libraries / "crates" / each.name / "out/rlib" / f"{each.name}.rlib")
@@ -105,7 +107,7 @@ class Prover:
                 (Path(room) / path.relative_to(each.folder)).write_text(text, encoding="utf-8")
             flags = ["--jobs", "1", "--allow-holes"]
             flags += [word for name in functions for word in ("--only", name)]
-            return run([*self.rtlib.guarded(), self.rtlib.RATTLE, "check", *each.words(flags, keeps=False)], room)
+            return run([*self.guard, self.rtlib.RATTLE, "check", *each.words(flags, keeps=False)], room)
 
 
 def run(command: list[str], folder: str) -> Run:
