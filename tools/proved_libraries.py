@@ -7,8 +7,8 @@
 `rt ci` proves each library over those of the same run and leaves it in `crates/NAME/out/rlib`, without the stamp by
 which other commands know it, since by itself one of them does not fit libraries of another run. This writes the stamps,
 so that only the static library is left to prove, in minutes. Run it right after an `rt ci` that passed, in its tree,
-with the time at which that began, in seconds: a library that was written before, which `rt ci` puts back into a tree
-where it had been, gets no stamp. The last line counts the stamps.
+with the time at which that began, in seconds: a library that was there before, which `rt ci` puts back by a rename,
+gets no stamp. The last line counts the stamps.
 """
 
 import importlib.util
@@ -46,9 +46,9 @@ def toolchain() -> ModuleType:
 
 
 def is_written_since(library: Path, begin: float) -> bool:
-    """Whether a library is there, and was written at this time or later."""
-    form = library / "format"
-    return form.is_file() and form.stat().st_mtime >= begin
+    """Whether a library is there, and was put there at this time or later: by a build, or by links to what a run of
+    `rt ci` kept, whose files are older than their folder."""
+    return (library / "format").is_file() and library.stat().st_mtime >= begin
 
 
 def write_stamps(crates: Iterable[Crate], begin: float) -> int:

@@ -48,7 +48,7 @@ class Stamps(unittest.TestCase):
         for crate in crates:
             Path(crate.rlib).mkdir(parents=True)
             (Path(crate.rlib) / "format").write_text("", encoding="utf-8")
-            os.utime(Path(crate.rlib) / "format", (1000, 1000))
+            os.utime(crate.rlib, (1000, 1000))
 
     def stamps(self) -> list[str]:
         return sorted(path.read_text(encoding="utf-8") for path in self.folder.glob("*/out/rlib/stamp"))
@@ -68,9 +68,14 @@ class Stamps(unittest.TestCase):
         self.assertEqual(write_stamps(self.crates, 1000), 0)
         self.assertEqual(self.stamps(), [])
 
+    def test_one_of_links_to_what_was_kept_gets_one(self) -> None:
+        self.make(*self.crates)
+        os.utime(Path(self.low.rlib) / "format", (5, 5))
+        self.assertEqual(write_stamps(self.crates, 1000), 2)
+
     def test_nor_one_of_an_earlier_run(self) -> None:
         self.make(*self.crates)
-        os.utime(Path(self.low.rlib) / "format", (999, 999))
+        os.utime(self.low.rlib, (999, 999))
         self.assertEqual(write_stamps(self.crates, 1000), 0)
         self.assertEqual(self.stamps(), [])
 
