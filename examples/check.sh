@@ -1,9 +1,13 @@
 #!/bin/sh
 # Runs every example and test over lib/libhivevigil.a and .so, which build.sh makes. From any folder:
 #     sh examples/check.sh
-# Needs a C compiler. What a machine lacks (a C++ compiler, the sanitizers, valgrind, cargo, python3, NumPy, GDAL, Dask)
-# is named and skipped; nothing is installed. The status is 0 where all that ran ended well.
+#     sh examples/check.sh --quick      only what takes seconds
+# Needs compilers of C and C++: the vectors, which come first, are never skipped. What else a machine lacks (the
+# sanitizers, valgrind, cargo, python3, NumPy, GDAL, Dask) is named and skipped; nothing is installed. The status is 0
+# where all that ran ended well.
 set -u
+quick=
+[ "${1:-}" = --quick ] && quick=1
 top=$(cd "$(dirname "$0")/.." && pwd)
 cd "$top" || exit 1
 cc=${CC:-cc} cxx=${CXX:-c++} python=${PYTHON:-python3}
@@ -40,9 +44,19 @@ built() {
     $1 $2 "$3" lib/libhivevigil.a -o "$work/program" && timeout 60 "$work/program"
 }
 
+# The end: what passed, failed and was skipped.
+finish() {
+    echo "$passed passed, $failed failed, $skipped skipped"
+    [ "$failed" = 0 ]
+    exit
+}
+
 for library in lib/libhivevigil.a lib/libhivevigil.so; do
     [ -e "$library" ] || { echo "no $library: sh examples/build.sh makes it"; exit 1; }
 done
+
+# every line of vectors over the library as it ships; without a C++ compiler this fails
+run "vectors, the stored lines" sh examples/vectors/run.sh --test
 
 # the header's names are the library's, and the other way round, but for the calls over Arrow for callers without a C
 # header
@@ -79,9 +93,17 @@ done
 wraps="-Wl,--wrap=malloc,--wrap=calloc,--wrap=realloc,--wrap=free"
 run "c/refused_memory.c" built "$cc" "$c_flags -O2 $wraps" examples/c/refused_memory.c
 run "c/helpers.c" built "$cc" "$c_flags -O2" examples/c/helpers.c
+if [ "$quick" ]; then
+    has "$cxx" && run "cpp/demo.cpp" built "$cxx" "$cxx_flags -O0" examples/cpp/demo.cpp
+    has "$python" && run "python/demo.py" timeout 60 "$python" examples/python/demo.py
+    skip "all but these, which take seconds: sh examples/check.sh runs sanitizers, Arrow, Rust, databases, packages" "time"
+    finish
+fi
+run "c/many_runs.c" built "$cc" "$c_flags -O2 ${wraps%,*}" examples/c/many_runs.c
 
 echo 'int main(void) { return 0; }' >"$work/empty.c"
 if $cc $watched "$work/empty.c" -o "$work/empty" 2>/dev/null && "$work/empty"; then
+    run "vectors, the stored lines under sanitizers" sh examples/vectors/run.sh --sanitize
     for test in errors answers refusals levels forms constants lists groups pairs sorts sums totals floats float_casts float_pairs decimals decimal_casts builders messages typed_messages arrow_arrays; do
         run "c/$test.c under sanitizers" built "$cc" "$c_flags $watched" "examples/c/$test.c"
     done
@@ -368,7 +390,7 @@ tables_agree() {
     $cc $c_flags -O2 examples/bytes/table_reader.c lib/libhivevigil.a -o "$work/table_reader" &&
         timeout 200 "$1" -B examples/bytes/tables.py "$work/table_reader" 2000 1
 }
-vectors_agree() { timeout 100 "$1" examples/bytes/vectors.py <crates/vectors/stdin; }
+vectors_agree() { timeout 100 "$1" examples/bytes/vectors.py <examples/vectors/lines.txt; }
 if has protoc && found=$(python_with google.protobuf); then
     run "bytes/messages.py" messages_agree "$found"
     run "bytes/tables.py" tables_agree "$found"
@@ -434,5 +456,4 @@ else
     skip "the wheel, Python" "venv for $python"
 fi
 
-echo "$passed passed, $failed failed, $skipped skipped"
-[ "$failed" = 0 ]
+finish

@@ -37,7 +37,7 @@ from typed_lines import SMALL, changed, damages, format_of
 from words import Type, encoded_form, flat_form, order, runs_of, shown, stored, word
 from writer import Refusal, Writer
 
-VECTORS = Path(__file__).resolve().parents[2] / "crates/vectors/stdin"
+VECTORS = Path(__file__).resolve().parent / "lines.txt"
 try:
     import numpy
 except ImportError:

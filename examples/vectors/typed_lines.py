@@ -82,14 +82,14 @@ def takes_memory(made: Made) -> bool:
 
 
 def kept(writer: Writer, name: str, made: Made, format: str) -> None:
-    """Writes lines that write a column with a logical type, read it, and ask for the type."""
+    """Writes lines that write a column with a logical type, which takes no memory, read it, and ask for the type."""
     data = hexadecimal(typed(format, made.message()))
     refuse = writer.happens(0.15) and takes_memory(made)
-    before, after = ("refuse ", " memory") if refuse else ("", "")
-    writer.say(f"{before}{name} typed_bytes {word(format)}", data + after)
-    writer.say(f"{before}z = from typed_bytes {data}", "ok" + after)
+    before, written, read = ("refuse ", " none", " memory") if refuse else ("", "", "")
+    writer.say(f"{before}{name} typed_bytes {word(format)}", data + written)
+    writer.say(f"{before}z = from typed_bytes {data}", "ok" + read)
     writer.say("z form", made.form)
-    writer.say(f"{before}read typed_bytes {data}", word(format) + after)
+    writer.say(f"{before}read typed_bytes {data}", word(format) + read)
 
 
 def names_case(writer: Writer) -> None:

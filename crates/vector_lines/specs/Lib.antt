@@ -1,4 +1,0 @@
-pub mod Outcomes
-pub mod Lines
-pub mod Counts
-pub mod TypedAnswers
