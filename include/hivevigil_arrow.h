@@ -23,8 +23,8 @@
  *
  * Columns that are lent in an array may be lent by copies of their handles, which are not used after the call.
  *
- * A call answers 0, a number of hivevigil.h, or one of those below, and then `*error` has the fields; what the number
- * has no field for is 0. 12 (row) says which text that comes in is not UTF-8, as a row of the array that has the texts,
+ * A call answers 0, a number of hivevigil.h, or one of those below, and then `*error` has the fields, unless `error` is
+ * null; what the number has no field for is 0. 12 (row) says which text that comes in is not UTF-8, as a row of the array that has the texts,
  * which may be that of the values of runs, a dictionary or the items of lists. On a refusal every column is as it was,
  * and nothing is left to release. */
 #ifndef HIVEVIGIL_ARROW_H

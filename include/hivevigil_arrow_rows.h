@@ -16,10 +16,9 @@ static inline const uint8_t *hv_arrow_nothing(void) {
     return (const uint8_t *)&nothing;
 }
 
+/* The number of a refusal, whose fields are written where there is an error to write them to. */
 static inline int32_t hv_arrow_refuse(int32_t number, uint64_t first, uint64_t second, hv_error *error) {
-    error->first = first;
-    error->second = second;
-    error->third = 0;
+    if (error) error->first = first, error->second = second, error->third = 0;
     return number;
 }
 

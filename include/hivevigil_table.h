@@ -9,7 +9,7 @@
  *     hv_table_free(&table);
  *
  * A call answers 0, a number of hivevigil.h, or one of hivevigil_table_errors.h, which has the sentences of all;
- * `error` is not null. After a refusal every table and column is as it was, `out` too. After 0 `out` has the table that
+ * `error` may be null. After a refusal every table and column is as it was, `out` too. After 0 `out` has the table that
  * was made, whose columns share buffers with those of the first, and the one that it had before is freed: `out` may be
  * the table that is lent. Order is in hivevigil_table_order.h, groups in hivevigil_table_groups.h, files in
  * hivevigil_table_file.h. */
@@ -317,7 +317,8 @@ static inline int32_t hv_table_joined(const hv_column *first, const hv_column *s
 
 /* The rows of a table, then those of another, which has columns of the same names, types and logical types; a type has
  * null where it has in one of them, and decimals of two types become decimals of hv_decimal_common_kind. 201 where one
- * has a column that the other has not, 12 for two types, 14 (row, 0) as hv_decimal_aligned has it. */
+ * has a column that the other has not, 12 for two types, 14 (row, 0) as hv_decimal_aligned has it, 5 for 2^64 rows or
+ * more, of columns for 2^63. */
 HV_ANSWER hv_table_append(const hv_session *session, const hv_table *first, const hv_table *second, hv_table *out,
                           hv_error *error) {
     hv_table made;
@@ -327,7 +328,6 @@ HV_ANSWER hv_table_append(const hv_session *session, const hv_table *first, cons
         answer = hv_table_find(first, second->names[i], &place, error);
     if (!answer) answer = hv_table_room(&made, first->count, error);
     if (answer) return answer;
-    made.rows = first->rows + second->rows;
     for (size_t i = 0; !answer && i < first->count; i++) {
         hv_column joined = HV_EMPTY, lent[2] = {HV_EMPTY, HV_EMPTY};
         answer = hv_table_find(second, first->names[i], &place, error);
@@ -340,6 +340,8 @@ HV_ANSWER hv_table_append(const hv_session *session, const hv_table *first, cons
         hv_free(&lent[0]);
         hv_free(&lent[1]);
     }
+    if (!answer && first->rows > SIZE_MAX - second->rows) answer = hv_arrow_refuse(HV_WINDOW_OVERFLOW, 0, 0, error);
+    made.rows = first->rows + second->rows;
     return hv_table_done(answer, &made, out);
 }
 
@@ -373,11 +375,15 @@ static inline int32_t hv_table_bits(const hv_column *column, hv_column *out, hv_
     return answer;
 }
 
-/* The floats of bits: flat where these are flat, else in runs. */
+/* Puts the floats of bits in their place: flat where these are flat, else in runs. */
 static inline int32_t hv_table_of_bits(const hv_session *session, hv_column *bits, hv_error *error) {
-    const uint8_t form = hv_form(bits);
-    int32_t answer = hv_float_encode(bits, 0, bits, error);
-    if (!answer && form == HV_FORM_FLAT) answer = hv_decode(session, bits, bits, error);
+    const bool is_flat = hv_form(bits) == HV_FORM_FLAT;
+    hv_column runs = HV_EMPTY, flat = HV_EMPTY;
+    int32_t answer = hv_float_encode(bits, 0, &runs, error);
+    if (!answer && is_flat) answer = hv_decode(session, &runs, &flat, error);
+    if (!answer) hv_put(bits, is_flat ? &flat : &runs);
+    hv_free(&runs);
+    hv_free(&flat);
     return answer;
 }
 

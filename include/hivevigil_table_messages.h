@@ -162,8 +162,10 @@ static inline int32_t hv_table_bounds(const hv_session *session, const hv_column
                                       hv_error *error) {
     hv_buffer texts[2] = {HV_BUFFER_EMPTY, HV_BUFFER_EMPTY};
     hv_value ends[2];
+    hv_error own;
     int32_t answer = HV_OK;
     size_t room = 64;
+    if (!error) error = &own; /* whose fields are read here */
     for (;;) {
         for (int i = 0; !answer && i < 2; i++) {
             texts[i].size = 0;

@@ -119,7 +119,7 @@ static void break_array(const struct ArrowSchema *schema, struct ArrowArray *arr
     }
 }
 
-/* What came in is read and goes out. */
+/* What came in is read and goes out, also where no error is asked for. */
 static void use_column(void) {
     uint8_t text[64];
     hv_value value;
@@ -130,8 +130,13 @@ static void use_column(void) {
         int32_t answer = hv_at(&column, row, &value, text, sizeof text, &error);
         CHECK(!answer || answer == (hv_kind_of(&column).number == HV_LIST ? HV_UNSUPPORTED : HV_COLUMN_LENGTH));
     }
-    CHECK(!hv_arrow_export(&session, &column, "x", &schema, &array, &error));
+    CHECK(!hv_arrow_export(&session, &column, "x", &schema, &array, one_in(2) ? &error : NULL));
     hv_arrow_release(&schema, &array);
+}
+
+static int32_t import(const struct ArrowSchema *schema, const struct ArrowArray *array, bool batch, hv_error *asked) {
+    return batch ? hv_arrow_import_child(&session, schema, array, 0, &column, asked)
+                 : hv_arrow_import(&session, schema, array, &column, asked);
 }
 
 /* Lays out an array or a batch and breaks it; whether it came in. */
@@ -151,8 +156,8 @@ static bool try_one(void) {
     if (one_in(3)) break_schema(schemas[chosen]);
     else break_array(schemas[chosen], arrays[chosen]);
     error.first = error.second = error.third = 0xa5a5;
-    int32_t answer = batch ? hv_arrow_import_child(&session, &schema, &array, 0, &column, &error)
-                           : hv_arrow_import(&session, &schema, &array, &column, &error);
+    const int32_t answer = import(&schema, &array, batch, &error);
+    CHECK(import(&schema, &array, batch, NULL) == answer); /* without an error the same number */
     CHECK(answer >= 0 && answer <= HV_ARROW_INVALID && answer != HV_OUT_OF_MEMORY);
     if (answer) CHECK(error.first != 0xa5a5 && error.second != 0xa5a5 && error.third != 0xa5a5);
     if (answer == HV_ARROW_INVALID) CHECK(error.first >= HV_ARROW_RELEASED && error.first <= HV_ARROW_VIEW);

@@ -147,7 +147,7 @@ static void check_refusals(void) {
     CHECK(!hv_fold_by(&keys, &values, HV_FOLD_COUNT, &groups, &answers, &error));
 
     FILL(error);
-    CHECK(hv_fold_by(&none, &none, FOLDS, &groups, &answers, &error) == HV_BAD_NUMBER);
+    CHECK(hv_fold_by(&none, &values, FOLDS, &groups, &answers, &error) == HV_BAD_NUMBER);
     CHECK(hv_fold_by(&none, &values, HV_FOLD_SUM, &groups, &answers, &error) == HV_NO_COLUMN);
     CHECK(hv_fold_by(&keys, &none, HV_FOLD_SUM, &groups, &answers, &error) == HV_NO_COLUMN);
     CHECK_KEPT(&lists, &texts, HV_FOLD_SUM, HV_UNSUPPORTED, 0, 0);

@@ -378,7 +378,7 @@ static void check_refusals(void) {
     const uint16_t wide[3] = {1, 2, 3};
     const uint64_t starts[2] = {0, 1}, sizes[2] = {1, 1};
     hv_column a = HV_EMPTY, b = HV_EMPTY, longer = HV_EMPTY, lists = HV_EMPTY, truths = HV_EMPTY, none = HV_EMPTY;
-    hv_column three = HV_EMPTY, texts = HV_EMPTY;
+    hv_column three = HV_EMPTY, texts = HV_EMPTY, nothing = HV_EMPTY;
     const int32_t offsets[3] = {0, 1, 2};
     CHECK(!hv_u8(four, 2, NOT_NULLABLE, &a, &error) && !hv_u8(four, 2, NOT_NULLABLE, &b, &error));
     CHECK(!hv_u16(wide, 3, NOT_NULLABLE, &longer, &error) && !hv_bools(bits, 1, 0, 2, NOT_NULLABLE, &truths, &error));
@@ -388,10 +388,10 @@ static void check_refusals(void) {
     CHECK(!hv_combine(&a, HV_ADD, &b, &answers, &error));
 
     for (int number = OPERATORS; number < 256; number++)
-        CHECK(hv_combine(&none, (uint8_t)number, &none, &answers, &error) == HV_BAD_NUMBER);
+        CHECK(hv_combine(&none, (uint8_t)number, &a, &answers, &error) == HV_BAD_NUMBER);
     CHECK(hv_combine(&none, HV_ADD, &a, &answers, &error) == HV_NO_COLUMN);
     CHECK(hv_combine(&a, HV_ADD, &none, &answers, &error) == HV_NO_COLUMN);
-    CHECK(hv_combine(&none, HV_EQ, &none, &answers, NULL) == HV_NO_COLUMN);
+    CHECK(hv_combine(&none, HV_EQ, &nothing, &answers, NULL) == HV_NO_COLUMN);
     CHECK_ROWS(&answers, "8 8");
     CHECK_KEPT(&lists, HV_EQ, &longer, HV_UNSUPPORTED, 0, 0);
     CHECK_KEPT(&a, HV_EQ, &longer, HV_TYPE_MISMATCH, 0, 0);

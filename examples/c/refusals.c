@@ -381,7 +381,7 @@ static void check_missing_to_make(void) {
     MISSING(hv_constant(&utf8, &text, NULL, 7, 1, &out, &error), 7);
     MISSING(hv_compare_scalar(&session, &texts, HV_EQ, &text, NULL, 7, &out, &error), 7);
     MISSING(hv_fill(&session, &texts, &null, NULL, 7, &out, &error), 7);
-    MISSING(hv_deserialize(&u8, 0, NULL, 2, &numbers, &numbers, &out, &error), 2);
+    MISSING(hv_deserialize(&u8, 0, NULL, 2, &numbers, &truths, &out, &error), 2);
     MISSING(hv_read_column(NULL, 9, &out, &error), 9);
     CHECK(!hv_builder_new(&utf8, &builder, &error));
     MISSING(hv_append_value(&builder, &text, NULL, 7, 1, &error), 7);
@@ -390,13 +390,13 @@ static void check_missing_to_make(void) {
 }
 
 static void check_missing_room(void) {
-    hv_value value;
+    hv_value value, greatest;
     uint8_t text[4];
     size_t size, stop;
-    FILL(value), FILL(text), FILL(size), FILL(stop);
+    FILL(value), FILL(greatest), FILL(text), FILL(size), FILL(stop);
     MISSING(hv_extreme(&session, &texts, 1, &value, NULL, 4, &error), 4);
-    MISSING(hv_min_max(&session, &texts, &value, NULL, 4, &value, text, 4, &error), 4);
-    MISSING(hv_min_max(&session, &texts, &value, text, 4, &value, NULL, 3, &error), 3);
+    MISSING(hv_min_max(&session, &texts, &value, NULL, 4, &greatest, text, 4, &error), 4);
+    MISSING(hv_min_max(&session, &texts, &value, text, 4, &greatest, NULL, 3, &error), 3);
     MISSING(hv_at(&texts, 0, &value, NULL, 4, &error), 4);
     MISSING(hv_run(&runs, 0, &size, &stop, &value, NULL, 4, &error), 4);
     MISSING(hv_read_decimals(&numbers, 0, NULL, 2, &error), 2);
