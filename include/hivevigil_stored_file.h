@@ -61,7 +61,7 @@ static inline void hv_buffer_put(hv_buffer *buffer, const void *bytes, size_t co
 /* 21 where memory was refused. */
 static inline int32_t hv_buffer_answer(const hv_buffer *buffer, hv_error *error) {
     if (!buffer->is_refused) return HV_OK;
-    memset(error, 0, sizeof *error);
+    if (error) memset(error, 0, sizeof *error);
     return HV_OUT_OF_MEMORY;
 }
 
@@ -78,8 +78,8 @@ typedef struct hv_stored_file {
 
 static inline int32_t hv_stored_refused(hv_error *error) {
     const int reason = errno;
-    memset(error, 0, sizeof *error);
-    error->first = (uint64_t)reason;
+    if (error) memset(error, 0, sizeof *error);
+    if (error) error->first = (uint64_t)reason;
     return HV_TABLE_FILE_REFUSED;
 }
 
@@ -181,27 +181,36 @@ static inline int32_t hv_stored_write_to(const uint8_t *bytes, size_t size, cons
     return answer;
 }
 
-static inline mode_t hv_stored_mode_of_new(void) {
-    const mode_t mask = umask(0);
-    umask(mask);
-    return 0666 & ~mask;
+/* Makes a file of a name that none has, whose last 6 letters are given here; -1 as open. The system takes the mode of a
+ * new file from the mask of the process, which nothing reads or changes here: other threads may make files. */
+static inline int hv_stored_create(char *name) {
+    static const char digits[] = "0123456789abcdef";
+    char *const end = name + strlen(name);
+    int descriptor = -1;
+    for (uint32_t tried = 0; tried < 1000; tried++) {
+        uint32_t number = (uint32_t)getpid() * 2654435761u + tried;
+        for (char *at = end - 6; at < end; number >>= 4) *at++ = digits[number % 16];
+        descriptor = open(name, O_WRONLY | O_CREAT | O_EXCL | O_CLOEXEC, 0666);
+        if (descriptor >= 0 || (errno != EEXIST && errno != EINTR)) return descriptor;
+    }
+    return descriptor;
 }
 
-/* Writes a file next to the one that is meant, which takes its place, or is taken away. */
-static inline int32_t hv_stored_replace(const uint8_t *bytes, size_t size, const char *path, mode_t mode,
+/* Writes a file next to the one that is meant, which takes its place, with the mode of `there` if there is one, or is
+ * taken away. */
+static inline int32_t hv_stored_replace(const uint8_t *bytes, size_t size, const char *path, const struct stat *there,
                                         hv_error *error) {
-    const size_t length = strlen(path);
     hv_buffer part = HV_BUFFER_EMPTY;
-    hv_buffer_put(&part, path, length);
+    hv_buffer_put(&part, path, strlen(path));
     hv_buffer_put(&part, ".XXXXXX", 8);
     int32_t answer = hv_buffer_answer(&part, error);
     if (answer) return hv_buffer_free(&part), answer;
     char *const name = (char *)part.at;
-    const int descriptor = mkstemp(name);
+    const int descriptor = hv_stored_create(name);
     if (descriptor < 0) answer = hv_stored_refused(error);
     if (!answer) answer = hv_stored_write(descriptor, bytes, size, error);
-    if (!answer && (fchmod(descriptor, mode) || fsync(descriptor) || rename(name, path)))
-        answer = hv_stored_refused(error);
+    if (!answer && there && fchmod(descriptor, there->st_mode & 07777)) answer = hv_stored_refused(error);
+    if (!answer && (fsync(descriptor) || rename(name, path))) answer = hv_stored_refused(error);
     if (descriptor >= 0) close(descriptor);
     if (answer && descriptor >= 0) unlink(name);
     hv_buffer_free(&part);
@@ -213,9 +222,9 @@ static inline int32_t hv_stored_replace(const uint8_t *bytes, size_t size, const
 HV_ANSWER hv_save_bytes(const uint8_t *bytes, size_t size, const char *path, hv_error *error) {
     char real[PATH_MAX];
     struct stat there;
-    if (stat(path, &there)) return hv_stored_replace(bytes, size, path, hv_stored_mode_of_new(), error);
+    if (stat(path, &there)) return hv_stored_replace(bytes, size, path, NULL, error);
     if (!S_ISREG(there.st_mode)) return hv_stored_write_to(bytes, size, path, error);
-    return hv_stored_replace(bytes, size, realpath(path, real) ? real : path, there.st_mode & 07777, error);
+    return hv_stored_replace(bytes, size, realpath(path, real) ? real : path, &there, error);
 }
 
 #ifdef __cplusplus

@@ -24,6 +24,13 @@ namespace hv {
 class TableGroups;
 struct TableFooter;
 
+// How many bytes the columns of a file that are kept as differences may take in memory, all together; HV_TABLE_LIMIT
+// where no limit is given: hv::Table::load("ticks.hv", hv::Limit(1 << 20)).
+struct Limit {
+    uint64_t bytes;
+    explicit Limit(uint64_t most) : bytes(most) {}
+};
+
 enum class Order { ascending, descending };
 // Where null comes in sorted rows, in either order.
 enum class Nulls { first, last };
@@ -139,7 +146,8 @@ public:
     Table sort(const std::vector<SortKey> &keys, Nulls nulls = Nulls::first) const;
     // The rows of this table, then those of another, which has columns of the same names and types; a type has null
     // where it has in one of them, and decimals of two types become those of hv_decimal_common_kind. Refused as
-    // HV_TABLE_NO_COLUMN and HV_TYPE_MISMATCH, and as HV_CAST_OUT_OF_RANGE for a row that has more digits there.
+    // HV_TABLE_NO_COLUMN and HV_TYPE_MISMATCH, as HV_CAST_OUT_OF_RANGE for a row that has more digits there, and as
+    // HV_WINDOW_OVERFLOW for 2^64 rows or more.
     Table append(const Table &other) const;
     // The rows by runs of neighbours that are equal in these columns (hivevigil_table_groups.hpp).
     TableGroups group_by(const std::vector<std::string> &names) const;
@@ -149,13 +157,17 @@ public:
     // The table as bytes, as docs/BYTES.md has them; with `differences` each column of integers as those of its rows
     // where that is shorter, which readers of version 1 refuse.
     Bytes to_bytes(bool differences = false) const;
-    // The table that to_bytes wrote, each column in its form; refused as HV_BAD_METADATA for other bytes.
+    // The table that to_bytes wrote, each column in its form; refused as HV_BAD_METADATA for other bytes, and, before a
+    // column is read, as HV_TABLE_OVER_LIMIT.
     static Table from_bytes(Bytes bytes);
+    static Table from_bytes(Bytes bytes, Limit limit);
     // Writes the bytes to a file, which is replaced whole or not at all. Refused as HV_TABLE_FILE_REFUSED.
     void save(const std::string &path, bool differences = false) const;
     // The table of a file, or its columns of these names in this order, which are read without the others.
     static Table load(const std::string &path);
+    static Table load(const std::string &path, Limit limit);
     static Table load(const std::string &path, const std::vector<std::string> &names);
+    static Table load(const std::string &path, const std::vector<std::string> &names, Limit limit);
     // What the end of a file says, where no column is read.
     static TableFooter footer(const std::string &path);
 
@@ -194,8 +206,18 @@ inline bool is_utf8(const std::string &text) {
 
 // ---- Refusals ----
 
-inline TableError no_column(const std::string &name) {
-    return {HV_TABLE_NO_COLUMN, {}, "no column has the name '" + name + "'"};
+// What is said where no column has a name: the first of the names that there are.
+inline std::string no_column_words(const std::string &name, const std::vector<std::string> &names) {
+    constexpr size_t shown = 4;
+    std::string said = "no column has the name '" + name + "': ";
+    if (names.empty()) return said + "the table has none";
+    for (size_t at = 0; at < std::min(names.size(), shown); at++)
+        said += (at ? ", '" : "the names are '") + names[at] + "'";
+    return said + (names.size() > shown ? ", ..." : "");
+}
+
+inline TableError no_column(const std::string &name, const std::vector<std::string> &names) {
+    return {HV_TABLE_NO_COLUMN, {}, no_column_words(name, names)};
 }
 
 // A refusal within says of which column it is.
@@ -220,7 +242,9 @@ inline void refuse_twice(const std::vector<std::string> &names) {
 template <class Columns> size_t place_of(const Columns &columns, const std::string &name) {
     for (size_t place = 0; place < columns.size(); place++)
         if (columns[place].name == name) return place;
-    throw no_column(name);
+    std::vector<std::string> names;
+    for (const auto &column : columns) names.push_back(column.name);
+    throw no_column(name, names);
 }
 
 // ---- Comparisons by what rows mean ----
@@ -417,7 +441,7 @@ inline Column joined(const Column &first, const Column &second) {
 
 inline Table Table::append(const Table &other) const {
     for (const NamedColumn &named : other.all)
-        if (!contains(named.name)) throw detail::no_column(named.name);
+        if (!contains(named.name)) throw detail::no_column(named.name, names());
     Table made;
     for (const NamedColumn &named : all) {
         const NamedColumn &second = other.at(named.name);
@@ -428,6 +452,7 @@ inline Table Table::append(const Table &other) const {
                                 return detail::joined(named.column, second.column);
                             }), named.logical_type});
     }
+    if (count > SIZE_MAX - other.count) throw TableError(HV_WINDOW_OVERFLOW, {});
     made.count = count + other.count;
     return made;
 }

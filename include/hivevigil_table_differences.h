@@ -133,18 +133,18 @@ static inline int32_t hv_table_differences_of(const hv_column *column, hv_column
 
 /* ---- Read ---- */
 
-/* Rows of a type, which are added in stretches: the running totals of differences. */
+/* Rows of a type, which are added in stretches: the running totals of differences, at most `most` items. */
 typedef struct hv_table_totals {
     hv_table_items items;
     hv_table_wide total;
-    uint64_t rows;
+    uint64_t rows, most;
     bool by_runs, is_after_value;
 } hv_table_totals;
 
 /* Rows of one number, which are one run; false where there are too many. */
 static inline bool hv_table_put_same(hv_table_totals *totals, hv_table_wide number, uint64_t count, bool is_valid) {
     const uint64_t items = totals->by_runs ? 1 : count;
-    if (items > HV_TABLE_MOST_KEPT - totals->items.count) return false;
+    if (items > totals->most - totals->items.count) return false;
     for (uint64_t item = 0; item < items; item++) hv_table_put_item(&totals->items, number, is_valid);
     totals->rows += count;
     if (totals->by_runs) hv_buffer_put(&totals->items.ends, &totals->rows, sizeof totals->rows);
@@ -153,7 +153,7 @@ static inline bool hv_table_put_same(hv_table_totals *totals, hv_table_wide numb
 
 /* Rows of which each is another. */
 static inline bool hv_table_put_steps(hv_table_totals *totals, hv_table_wide difference, uint64_t count) {
-    if (count > HV_TABLE_MOST_KEPT - totals->items.count) return false;
+    if (count > totals->most - totals->items.count) return false;
     for (uint64_t row = 1; row <= count; row++) {
         const hv_table_wide number = totals->total + difference * (hv_table_wide)row;
         if (totals->by_runs) hv_table_put_run(&totals->items, totals->rows + row, number, true);
@@ -194,14 +194,16 @@ static inline bool hv_table_add_totals(hv_table_totals *totals, const hv_table_r
     return true;
 }
 
-/* The column of a type, in a form, that has these differences; 17 where there is none. */
-static inline int32_t hv_table_totals_of(const hv_column *differences, hv_kind kind, uint8_t kept, hv_column *out,
-                                         hv_error *error) {
+/* The column of a type, in a form, that has these differences, of at most `most` rows, or runs; 17 where there is
+ * none. */
+static inline int32_t hv_table_totals_of(const hv_column *differences, hv_kind kind, uint8_t kept, uint64_t most,
+                                         hv_column *out, hv_error *error) {
     hv_table_totals totals;
     hv_table_runs runs;
     memset(&totals, 0, sizeof totals);
     totals.items.kind = kind;
     totals.by_runs = kept == HV_TABLE_KEPT_RUNS;
+    totals.most = most < HV_TABLE_MOST_KEPT ? most : (uint64_t)HV_TABLE_MOST_KEPT;
     int32_t answer = hv_table_runs_of(differences, &runs, error);
     if (!answer && !hv_table_add_totals(&totals, &runs)) answer = hv_table_damaged(error);
     if (!answer) answer = hv_table_column_of(&totals.items, totals.by_runs, out, error);
@@ -227,7 +229,7 @@ static inline int32_t hv_table_gives_back(const hv_column *differences, hv_kind 
                                           hv_table_span message, bool *truth, hv_error *error) {
     hv_column again = HV_EMPTY;
     *truth = false;
-    int32_t answer = hv_table_totals_of(differences, kind, kept, &again, error);
+    int32_t answer = hv_table_totals_of(differences, kind, kept, HV_TABLE_MOST_KEPT, &again, error);
     if (!answer) answer = hv_table_has_message(&again, message, truth, error);
     hv_free(&again);
     return answer == HV_BAD_METADATA ? HV_OK : answer;
@@ -257,10 +259,10 @@ static inline int32_t hv_table_put_shorter(hv_buffer *out, const hv_column *colu
     return answer;
 }
 
-/* The column of a type, in a form, that has the differences of a message; 17 where there is none, or where they are not
- * as they are written. */
+/* The column of a type, in a form, of at most `most` rows, or runs, that has the differences of a message; 17 where
+ * there is none, or where they are not as they are written. */
 static inline int32_t hv_table_of_differences(const hv_column *differences, hv_table_span message, hv_kind kind,
-                                              uint8_t kept, hv_column *out, hv_error *error) {
+                                              uint8_t kept, uint64_t most, hv_column *out, hv_error *error) {
     const hv_kind own = hv_kind_of(differences);
     hv_column fewest = HV_EMPTY;
     bool is_same = false;
@@ -271,7 +273,7 @@ static inline int32_t hv_table_of_differences(const hv_column *differences, hv_t
     answer = hv_encode_rows(differences, &fewest, error);
     if (!answer) answer = hv_table_has_message(&fewest, message, &is_same, error);
     if (!answer && !is_same) answer = hv_table_damaged(error);
-    if (!answer) answer = hv_table_totals_of(differences, kind, kept, out, error);
+    if (!answer) answer = hv_table_totals_of(differences, kind, kept, most, out, error);
     hv_free(&fewest);
     return answer;
 }

@@ -12,7 +12,9 @@
  *     hv_table_footer_free(&footer);
  *
  * 203 (errno) where the system refuses a file; 17 for bytes that are not those of a table, as of a file that was cut
- * short, or in which a byte was changed. */
+ * short, or in which a byte was changed; 204 (bytes, limit) where the columns that are read and kept as differences
+ * would take more bytes in memory than HV_TABLE_LIMIT, or the limit that is given: a few bytes may say that there are
+ * many rows. That is tested before a column is read. */
 #ifndef HIVEVIGIL_TABLE_FILE_H
 #define HIVEVIGIL_TABLE_FILE_H
 #include "hivevigil_table_footer.h"
@@ -20,13 +22,19 @@
 extern "C" {
 #endif
 
+/* How many bytes the columns of a file that are kept as differences may take in memory, all together. */
+#define HV_TABLE_LIMIT ((uint64_t)1 << 30)
+
 /* Puts the bytes of a table in place of those of a buffer, version 1; where `differences` is not 0, each column of
  * integers as the differences of its rows where that is shorter, and version 2 where one is. 13 for a column of more
  * than 16 levels of runs. */
 HV_ANSWER hv_table_to_bytes(const hv_table *table, uint8_t differences, hv_buffer *out, hv_error *error);
-/* The table that was written so, each column in its form; 17, else 13 for a name or a logical type with a zero byte,
- * which C's texts do not have. */
+/* The table that was written so, each column in its form; 17, 204, else 13 for a name or a logical type with a zero
+ * byte, which C's texts do not have. */
 HV_ANSWER hv_table_from_bytes(const uint8_t *bytes, size_t size, hv_table *out, hv_error *error);
+/* The same within another limit. */
+HV_ANSWER hv_table_from_bytes_within(const uint8_t *bytes, size_t size, uint64_t limit, hv_table *out,
+                                     hv_error *error);
 /* Writes the bytes to a file, which is replaced whole or not at all; 203. */
 HV_ANSWER hv_table_save(const hv_table *table, const char *path, uint8_t differences, hv_error *error);
 /* The table of a file; 203, and as hv_table_from_bytes. */
@@ -34,6 +42,9 @@ HV_ANSWER hv_table_load(const char *path, hv_table *out, hv_error *error);
 /* Its columns of these names, in this order, which are read without the others; also 202 (place, place) and 201. */
 HV_ANSWER hv_table_load_columns(const char *path, const char *const *names, size_t count, hv_table *out,
                                 hv_error *error);
+/* The same within another limit; all columns where `names` is null. */
+HV_ANSWER hv_table_load_within(const char *path, const char *const *names, size_t count, uint64_t limit, hv_table *out,
+                               hv_error *error);
 /* What the end of a file says, where no column is read. */
 HV_ANSWER hv_table_load_footer(const char *path, hv_table_footer *out, hv_error *error);
 /* Whether a condition may hold for a row, as hv_table_filter_by has it: where not (0), the column need not be read.
@@ -159,15 +170,18 @@ static inline int32_t hv_table_check_column(const hv_column *column, const hv_co
 static inline int32_t hv_table_column_at(const hv_stored_file *file, const hv_table_footer *footer, size_t place,
                                          hv_column *out, hv_error *error) {
     const hv_column_footer *const known = &footer->columns[place];
+    const bool is_kept = known->kept != HV_TABLE_KEPT_ROWS;
     hv_buffer message = HV_BUFFER_EMPTY;
-    hv_column column = HV_EMPTY;
+    hv_column read = HV_EMPTY, column = HV_EMPTY;
     int32_t answer = hv_table_read_field(file, known->start, HV_TABLE_COLUMN_FIELD, known->size, &message, error);
-    if (!answer) answer = hv_table_column_in(hv_table_bytes_of(&message), &column, error);
-    if (!answer && known->kept != HV_TABLE_KEPT_ROWS)
-        answer = hv_table_of_differences(&column, hv_table_bytes_of(&message), hv_kind_of(&known->bounds),
-                                         known->kept, &column, error);
+    if (!answer) answer = hv_table_column_in(hv_table_bytes_of(&message), &read, error);
+    if (!answer && is_kept)
+        answer = hv_table_of_differences(&read, hv_table_bytes_of(&message), hv_kind_of(&known->bounds), known->kept,
+                                         hv_table_kept_items(footer, known), &column, error);
+    if (!is_kept) hv_put(&column, &read);
     if (!answer) answer = hv_table_check_column(&column, known, footer->rows, footer->version, error);
     if (!answer) hv_put(out, &column);
+    hv_free(&read);
     hv_free(&column);
     hv_buffer_free(&message);
     return answer;
@@ -189,52 +203,69 @@ static inline int32_t hv_table_add_stored(hv_table *made, const hv_stored_file *
     return answer;
 }
 
-/* The columns of these names of a file that is open, or, where `names` is null, all; 13 for a text with a zero byte. */
+/* The places of the columns of these names, or, where `names` is null, of all, in memory of malloc; 202, 201. */
+static inline int32_t hv_table_places(const hv_table_footer *footer, const char *const *names, size_t count,
+                                      size_t **places, hv_error *error) {
+    int32_t answer = hv_table_memory(count, sizeof **places, places, error);
+    if (!answer && names) answer = hv_table_check_names(names, count, error);
+    for (size_t i = 0; !answer && i < count; i++) {
+        (*places)[i] = i;
+        if (names) answer = hv_table_find_footer(footer, names[i], &(*places)[i], error);
+    }
+    return answer;
+}
+
+/* The columns of these names of a file that is open, or, where `names` is null, all, within a limit; 13 for a text with
+ * a zero byte. */
 static inline int32_t hv_table_of_file(const hv_stored_file *file, const char *const *names, size_t count,
-                                       hv_table *out, hv_error *error) {
+                                       uint64_t limit, hv_table *out, hv_error *error) {
     hv_table_footer footer = HV_TABLE_FOOTER_EMPTY;
     hv_table made = HV_TABLE_EMPTY;
-    size_t place = 0;
+    size_t *places = NULL;
     bool has_zero = false;
     int32_t answer = hv_table_footer_of(file, &footer, error);
     const size_t columns = names ? count : footer.count;
-    if (!answer && names) answer = hv_table_check_names(names, count, error);
-    for (size_t i = 0; !answer && names && i < count; i++)
-        answer = hv_table_find_footer(&footer, names[i], &place, error);
+    if (!answer) answer = hv_table_places(&footer, names, columns, &places, error);
+    if (!answer) answer = hv_table_check_limit(&footer, places, columns, limit, error);
     if (!answer) answer = hv_table_room(&made, columns, error);
     made.rows = footer.rows;
     for (size_t i = 0; !answer && i < columns; i++) {
-        place = i;
-        if (names) answer = hv_table_find_footer(&footer, names[i], &place, error);
-        if (!answer) answer = hv_table_add_stored(&made, file, &footer, place, error);
-        has_zero |= !answer && hv_table_has_zero(&footer.columns[place]);
+        answer = hv_table_add_stored(&made, file, &footer, places[i], error);
+        has_zero |= hv_table_has_zero(&footer.columns[places[i]]);
     }
     if (has_zero && !answer) answer = hv_arrow_refuse(HV_UNSUPPORTED, 0, 0, error);
+    free(places);
     hv_table_footer_free(&footer);
     return hv_table_done(answer, &made, out);
 }
 
-HV_ANSWER hv_table_from_bytes(const uint8_t *bytes, size_t size, hv_table *out, hv_error *error) {
+HV_ANSWER hv_table_from_bytes_within(const uint8_t *bytes, size_t size, uint64_t limit, hv_table *out,
+                                     hv_error *error) {
     const hv_stored_file file = hv_stored_bytes(bytes, size);
-    return hv_table_of_file(&file, NULL, 0, out, error);
+    return hv_table_of_file(&file, NULL, 0, limit, out, error);
+}
+
+HV_ANSWER hv_table_from_bytes(const uint8_t *bytes, size_t size, hv_table *out, hv_error *error) {
+    return hv_table_from_bytes_within(bytes, size, HV_TABLE_LIMIT, out, error);
+}
+
+HV_ANSWER hv_table_load_within(const char *path, const char *const *names, size_t count, uint64_t limit, hv_table *out,
+                               hv_error *error) {
+    hv_stored_file file = HV_STORED_FILE_EMPTY;
+    int32_t answer = hv_stored_file_open(path, &file, error);
+    if (!answer) answer = hv_table_of_file(&file, names, count, limit, out, error);
+    hv_stored_file_close(&file);
+    return answer;
 }
 
 HV_ANSWER hv_table_load_columns(const char *path, const char *const *names, size_t count, hv_table *out,
                                 hv_error *error) {
     const char *const none[] = {""};
-    hv_stored_file file = HV_STORED_FILE_EMPTY;
-    int32_t answer = hv_stored_file_open(path, &file, error);
-    if (!answer) answer = hv_table_of_file(&file, count ? names : none, count, out, error);
-    hv_stored_file_close(&file);
-    return answer;
+    return hv_table_load_within(path, count ? names : none, count, HV_TABLE_LIMIT, out, error);
 }
 
 HV_ANSWER hv_table_load(const char *path, hv_table *out, hv_error *error) {
-    hv_stored_file file = HV_STORED_FILE_EMPTY;
-    int32_t answer = hv_stored_file_open(path, &file, error);
-    if (!answer) answer = hv_table_of_file(&file, NULL, 0, out, error);
-    hv_stored_file_close(&file);
-    return answer;
+    return hv_table_load_within(path, NULL, 0, HV_TABLE_LIMIT, out, error);
 }
 
 /* ---- May a row be there? ---- */

@@ -60,10 +60,13 @@ inline std::string with_commas(size_t number) {
     return digits;
 }
 
-// What is asked of a file of a table; one that is damaged is refused by its name.
+// What is asked of a file of a table; one that is damaged, or over its limit, is refused by its name.
 template <class Call> void ask_table(const StoredFile &file, Call call) {
     ask_file(file.path(), [&](auto *error) {
+        char text[HV_ERROR_TEXT];
         const int32_t answer = call(error);
+        if (answer == HV_TABLE_OVER_LIMIT)
+            throw TableError(answer, *error, file.path() + ": " + hv_table_error_text(answer, error, text));
         if (answer != HV_BAD_METADATA) return answer;
         throw TableError(answer, {}, file.path() + ", of " + with_commas(file.size()) +
                                          " bytes, is not the file of a table");
@@ -82,6 +85,11 @@ public:
     size_t rows() const { return all.rows; }
     size_t size() const { return all.count; }
     std::string name(size_t place) const { return {all.columns[place].name, all.columns[place].name_size}; }
+    std::vector<std::string> names() const {
+        std::vector<std::string> found;
+        for (size_t place = 0; place < size(); place++) found.push_back(name(place));
+        return found;
+    }
     std::string logical_type(size_t place) const {
         return {all.columns[place].logical_type, all.columns[place].logical_type_size};
     }
@@ -93,6 +101,12 @@ public:
         ask([&](auto *error) { return hv_clone(&known.bounds, footer.bounds.raw(), error); });
         if (known.kept) footer.form_as_differences = known.kept == HV_TABLE_KEPT_FLAT ? Form::flat : Form::runs;
         return footer;
+    }
+    // Tests that the columns at these places are within a limit.
+    void check_limit(const std::vector<size_t> &places, Limit limit) const {
+        ask_table(file, [&](auto *error) {
+            return hv_table_check_limit(&all, places.data(), places.size(), limit.bytes, error);
+        });
     }
     // The column, which is held against what the footer says of it.
     NamedColumn column(size_t place) const {
@@ -115,8 +129,9 @@ inline TableFooter read_footer(const StoredFile &file) {
     return footer;
 }
 
-// The columns of these names, each once, in this order, or all.
-inline Table read_table(const StoredFile &file, const std::vector<std::string> *names) {
+// The columns of these names, each once, in this order, or all, within a limit.
+inline Table read_table(const StoredFile &file, const std::vector<std::string> *names,
+                        Limit limit = Limit(HV_TABLE_LIMIT)) {
     const StoredFooter footer(file);
     std::map<std::string, size_t> known;
     std::vector<size_t> places;
@@ -124,10 +139,11 @@ inline Table read_table(const StoredFile &file, const std::vector<std::string> *
     if (names) refuse_twice(*names);
     for (const std::string &name : names ? *names : std::vector<std::string>()) {
         const auto found = known.find(name);
-        if (found == known.end()) throw no_column(name);
+        if (found == known.end()) throw no_column(name, footer.names());
         places.push_back(found->second);
     }
     for (size_t place = 0; !names && place < footer.size(); place++) places.push_back(place);
+    footer.check_limit(places, limit);
     std::vector<NamedColumn> columns;
     for (size_t place : places) columns.push_back(footer.column(place));
     return Table(std::move(columns), footer.rows());
@@ -157,12 +173,19 @@ inline void Table::save(const std::string &path, bool differences) const {
         return hv_save_bytes(bytes.raw()->at, bytes.raw()->size, path.c_str(), error);
     });
 }
-inline Table Table::from_bytes(Bytes bytes) {
-    return detail::read_table(StoredFile(std::move(bytes), "Table::from_bytes"), nullptr);
+inline Table Table::from_bytes(Bytes bytes) { return from_bytes(std::move(bytes), Limit(HV_TABLE_LIMIT)); }
+inline Table Table::from_bytes(Bytes bytes, Limit limit) {
+    return detail::read_table(StoredFile(std::move(bytes), "Table::from_bytes"), nullptr, limit);
 }
-inline Table Table::load(const std::string &path) { return detail::read_table(StoredFile(path), nullptr); }
+inline Table Table::load(const std::string &path) { return load(path, Limit(HV_TABLE_LIMIT)); }
+inline Table Table::load(const std::string &path, Limit limit) {
+    return detail::read_table(StoredFile(path), nullptr, limit);
+}
 inline Table Table::load(const std::string &path, const std::vector<std::string> &names) {
-    return detail::read_table(StoredFile(path), &names);
+    return load(path, names, Limit(HV_TABLE_LIMIT));
+}
+inline Table Table::load(const std::string &path, const std::vector<std::string> &names, Limit limit) {
+    return detail::read_table(StoredFile(path), &names, limit);
 }
 inline TableFooter Table::footer(const std::string &path) { return detail::read_footer(StoredFile(path)); }
 

@@ -42,6 +42,31 @@ static inline void hv_table_footer_free(hv_table_footer *footer) {
     memset(footer, 0, sizeof *footer);
 }
 
+/* How many rows of a column are written out, or runs, where it comes back from its differences. */
+static inline uint64_t hv_table_kept_items(const hv_table_footer *footer, const hv_column_footer *known) {
+    return known->kept == HV_TABLE_KEPT_FLAT ? footer->rows : known->kept == HV_TABLE_KEPT_RUNS ? known->runs : 0;
+}
+
+/* The bytes that these take in memory: each as wide as its type, and 8 for the end of a run; 2^64 - 1 for more. */
+static inline uint64_t hv_table_kept_bytes(const hv_table_footer *footer, const hv_column_footer *known) {
+    const uint64_t items = hv_table_kept_items(footer, known);
+    const unsigned width = 1u << hv_kind_of(&known->bounds).number % 4;
+    const uint64_t each = width + (known->kept == HV_TABLE_KEPT_RUNS ? 8 : 0);
+    return items > UINT64_MAX / each ? UINT64_MAX : items * each;
+}
+
+/* 204 (bytes, limit) where the columns at these places, or, where `places` is null, the first `count`, would take more
+ * bytes together than the limit. */
+static inline int32_t hv_table_check_limit(const hv_table_footer *footer, const size_t *places, size_t count,
+                                           uint64_t limit, hv_error *error) {
+    uint64_t bytes = 0;
+    for (size_t i = 0; i < count; i++) {
+        const uint64_t more = hv_table_kept_bytes(footer, &footer->columns[places ? places[i] : i]);
+        bytes = more > UINT64_MAX - bytes ? UINT64_MAX : bytes + more;
+    }
+    return bytes <= limit ? HV_OK : hv_arrow_refuse(HV_TABLE_OVER_LIMIT, bytes, limit, error);
+}
+
 /* The place of a column by its name; 201. */
 static inline int32_t hv_table_find_footer(const hv_table_footer *footer, const char *name, size_t *place,
                                            hv_error *error) {

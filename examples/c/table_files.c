@@ -1,6 +1,6 @@
 /* Files of tables in C: the stored ones of examples/corpus and those that docs/BYTES.md shows, read as their rows and
  * written as their bytes; each truncated, longer or changed one; files that are replaced whole or not at all; footers;
- * and each request for memory refused in turn (linked with the malloc of refusing_malloc.h).
+ * limits; and each request for memory refused in turn (linked with the malloc of refusing_malloc.h).
  *
  *     table_files FOLDER      FOLDER: examples/corpus */
 #include "hivevigil_table_file.h"
@@ -13,6 +13,8 @@
 enum { LINE = 1 << 17 };
 static hv_session session;
 static hv_error error;
+static char folder[] = "/tmp/hivevigil_tables_XXXXXX";
+static char path[128], link_path[128];
 
 static size_t bytes_of(const char *digits, uint8_t *bytes) {
     size_t len = 0;
@@ -433,6 +435,57 @@ static void check_differences(void) {
     CHECK(!is_refused_steps(0, most + 1, HV_TABLE_KEPT_RUNS, true, 2)); /* one run */
 }
 
+/* A few bytes that say that there are many rows are refused before any of them is made, by what the rows would take:
+ * `rows` of 4 bytes, or `runs` of 4 and 8, as the footer says it, whatever the differences are. */
+static void check_limit(uint64_t rows, uint64_t runs, uint8_t form, uint64_t due) {
+    const int32_t ends[] = {7, 7};
+    const uint64_t limits[] = {0, due / 2, due - 1, due, due + 1, UINT64_MAX};
+    hv_column differences = HV_EMPTY, bounds = HV_EMPTY;
+    hv_buffer bytes = HV_BUFFER_EMPTY;
+    hv_table found = HV_TABLE_EMPTY;
+    make_differences(7, rows, true, &differences);
+    CHECK(!hv_i32(ends, 2, NOT_NULLABLE, &bounds, &error));
+    put_differences(&bytes, &differences, &bounds, runs, form);
+    CHECK(bytes.size < 200);
+    for (size_t i = 0; i < COUNT(limits); i++) {
+        if (due > limits[i])
+            CHECK_REFUSED(hv_table_from_bytes_within(bytes.at, bytes.size, limits[i], &found, &error),
+                          HV_TABLE_OVER_LIMIT, due, limits[i], 0);
+        else CHECK(hv_table_from_bytes_within(bytes.at, bytes.size, limits[i], &found, &error) == HV_BAD_METADATA);
+    }
+    const int32_t usual = hv_table_from_bytes(bytes.at, bytes.size, &found, &error);
+    CHECK(usual == (due > 1 << 30 ? HV_TABLE_OVER_LIMIT : HV_BAD_METADATA) && !found.columns);
+    hv_free(&differences);
+    hv_free(&bounds);
+    hv_buffer_free(&bytes);
+}
+
+static void check_limits(void) {
+    const char *const only[] = {"at"};
+    char text[HV_ERROR_TEXT];
+    hv_table found = HV_TABLE_EMPTY;
+    check_limit(1000, 1000, HV_TABLE_KEPT_FLAT, 4000);
+    check_limit(1000, 1000, HV_TABLE_KEPT_RUNS, 12000);
+    check_limit(1000, 3, HV_TABLE_KEPT_RUNS, 36); /* and there are more runs than the footer says */
+    check_limit((uint64_t)1 << 28, 1, HV_TABLE_KEPT_FLAT, (uint64_t)1 << 30);
+    check_limit(((uint64_t)1 << 28) + 1, 1, HV_TABLE_KEPT_FLAT, ((uint64_t)1 << 30) + 4);
+    check_limit((uint64_t)1 << 61, 1, HV_TABLE_KEPT_FLAT, (uint64_t)1 << 63);
+    check_limit(9, (uint64_t)1 << 61, HV_TABLE_KEPT_RUNS, UINT64_MAX); /* 2^61 * 12 is past 64 bits */
+    CHECK(!hv_table_from_bytes_within(times, times_size, 48, &found, &error) && found.rows == 6); /* of i64 */
+    CHECK_REFUSED(hv_table_from_bytes_within(times, times_size, 47, &found, &error), HV_TABLE_OVER_LIMIT, 48, 47, 0);
+    CHECK(!strcmp(hv_table_error_text(HV_TABLE_OVER_LIMIT, &error, text),
+                  "the columns kept as differences take 48 bytes in memory, above the limit of 47"));
+    CHECK(!strcmp(hv_table_error_name(HV_TABLE_OVER_LIMIT), "HV_TABLE_OVER_LIMIT"));
+    CHECK(!hv_table_from_bytes_within(days, days_size, 0, &found, &error)); /* as its rows */
+    CHECK(!hv_save_bytes(times, times_size, path, &error));
+    CHECK(!hv_table_load_within(path, only, 1, 48, &found, &error));
+    CHECK(!hv_table_load_within(path, NULL, 0, 48, &found, &error));
+    CHECK_REFUSED(hv_table_load_within(path, only, 1, 9, &found, &error), HV_TABLE_OVER_LIMIT, 48, 9, 0);
+    CHECK(!hv_table_load_within(path, only, 0, 0, &found, &error) && found.count == 0 && found.rows == 6);
+    CHECK(!unlink(path));
+    hv_table_free(&found);
+}
+
 /* A name with a zero byte is one of other languages: its footer is read. */
 static void check_zero_byte(const char *path) {
     static uint8_t bytes[256];
@@ -453,8 +506,15 @@ static void check_zero_byte(const char *path) {
 
 /* ---- Files ---- */
 
-static char folder[] = "/tmp/hivevigil_tables_XXXXXX";
-static char path[128], link_path[128];
+/* Linked with --wrap=umask: the mask is one of the process, whose other threads may make files, so that no call of a
+ * header may change it for a moment. */
+static long masks_set = 0;
+mode_t __real_umask(mode_t mask);
+mode_t __wrap_umask(mode_t mask);
+mode_t __wrap_umask(mode_t mask) {
+    masks_set++;
+    return __real_umask(mask);
+}
 
 static size_t files_there(void) {
     DIR *const open_folder = opendir(folder);
@@ -502,6 +562,7 @@ static void check_files(void) {
     CHECK(out.count == 1 && out.rows == 3);
     CHECK(!hv_table_load_columns(path, NULL, 0, &out, &error) && out.count == 0 && out.rows == 3);
     CHECK(!hv_table_save(&out, path, 0, &error) && !hv_table_load(path, &out, &error) && out.rows == 3);
+    CHECK(masks_set == 1); /* by this test */
     umask(before);
     hv_table_free(&table);
     hv_table_free(&out);
@@ -662,24 +723,26 @@ static hv_table_footer end = HV_TABLE_FOOTER_EMPTY, read_end = HV_TABLE_FOOTER_E
 static hv_buffer written = HV_BUFFER_EMPTY;
 static const char *const two_names[] = {"price", "name"};
 
-static int32_t calls_to_bytes(void) { return hv_table_to_bytes(&kept, 1, &written, &error); }
-static int32_t calls_to_rows(void) { return hv_table_to_bytes(&lent, 0, &written, &error); }
-static int32_t calls_from_bytes(void) { return hv_table_from_bytes(times, times_size, &out, &error); }
-static int32_t calls_save(void) { return hv_table_save(&lent, path, 0, &error); }
-static int32_t calls_load(void) { return hv_table_load(path, &out, &error); }
-static int32_t calls_load_columns(void) { return hv_table_load_columns(path, two_names, 2, &out, &error); }
-static int32_t calls_load_footer(void) { return hv_table_load_footer(path, &read_end, &error); }
+static hv_error *fields = &error; /* or null: the calls answer the same */
+
+static int32_t calls_to_bytes(void) { return hv_table_to_bytes(&kept, 1, &written, fields); }
+static int32_t calls_to_rows(void) { return hv_table_to_bytes(&lent, 0, &written, fields); }
+static int32_t calls_from_bytes(void) { return hv_table_from_bytes(times, times_size, &out, fields); }
+static int32_t calls_save(void) { return hv_table_save(&lent, path, 0, fields); }
+static int32_t calls_load(void) { return hv_table_load(path, &out, fields); }
+static int32_t calls_load_columns(void) { return hv_table_load_columns(path, two_names, 2, &out, fields); }
+static int32_t calls_load_footer(void) { return hv_table_load_footer(path, &read_end, fields); }
 static int32_t calls_may_have(void) {
     const hv_table_condition asked = {"price", HV_EQ, NULL, NULL, 0, 0.5};
     uint8_t truth = 0;
-    return hv_table_may_have(&session, &end, &asked, &truth, &error);
+    return hv_table_may_have(&session, &end, &asked, &truth, fields);
 }
 static int32_t calls_load_pipe(void) {
     char name[32];
     int ends[2];
     CHECK(!pipe(ends) && write(ends[1], days, days_size) == (ssize_t)days_size && !close(ends[1]));
     snprintf(name, sizeof name, "/dev/fd/%d", ends[0]);
-    const int32_t answer = hv_table_load(name, &out, &error);
+    const int32_t answer = hv_table_load(name, &out, fields);
     close(ends[0]);
     return answer;
 }
@@ -717,7 +780,9 @@ static void check_memory(void) {
     make_readings(&lent);
     CHECK(!hv_table_save(&lent, path, 0, &error) && !hv_table_load_footer(path, &end, &error));
     for (size_t i = 0; i < COUNT(calls); i++) tried += refuse_each(calls[i]);
-    CHECK(tried > 200);
+    fields = NULL;
+    for (size_t i = 0; i < COUNT(calls); i++) tried += refuse_each(calls[i]);
+    CHECK(tried > 400);
     hv_table_free(&lent);
     hv_table_free(&out);
     hv_table_footer_free(&end);
@@ -743,6 +808,7 @@ int main(int count, char **given) {
     check_names_twice();
     check_differences();
     check_no_differences();
+    check_limits();
     check_files();
     check_zero_byte(path);
     check_refused_files();

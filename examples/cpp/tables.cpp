@@ -33,6 +33,9 @@ template <class Call> static void check_refused(int32_t number, const std::strin
     std::exit(1);
 }
 
+static const char *const no_to =
+    "no column has the name 'to': the names are 'station', 'level', 'price', 'at', ...";
+
 static std::vector<Value> rows_of(const Column &column) { return {column.begin(), column.end()}; }
 static std::vector<Value> numbers(std::initializer_list<int64_t> rows) { return {rows.begin(), rows.end()}; }
 static std::vector<Value> counts(std::initializer_list<uint64_t> rows) { return {rows.begin(), rows.end()}; }
@@ -192,7 +195,7 @@ static void check_groups() {
     CHECK(std::isnan(*hv::Floats<double>(odd["first"].clone()).at(2)));
     check_refused(HV_UNSUPPORTED, "column 'at': rows of the logical type tts have no sum",
                   [&] { groups.fold({"sum", Fold::sum, "at"}); });
-    check_refused(HV_TABLE_NO_COLUMN, "no column has the name 'to'", [&] { groups.fold({"sum", Fold::sum, "to"}); });
+    check_refused(HV_TABLE_NO_COLUMN, no_to, [&] { groups.fold({"sum", Fold::sum, "to"}); });
     check_refused(HV_TABLE_NAME_TWICE, "two columns have the name 'station'",
                   [&] { groups.agg({{"station", Fold::rows}}); });
     check_refused(HV_UNSUPPORTED, "at least one column has the keys", [&] { table.group_by({}); });
@@ -210,10 +213,10 @@ static void check_refusals() {
                   [] { Table{{"a", {1}}, {"b", {1}}, {"a", {1}}}; });
     check_refused(HV_TYPE_MISMATCH, "the name of a column is not UTF-8", [] { Table{{"\xff", {1}}}; });
     check_refused(HV_TYPE_MISMATCH, "column 'a': the logical type is not UTF-8", [] { Table{{"a", {1}, "\xff"}}; });
-    check_refused(HV_TABLE_NO_COLUMN, "no column has the name 'to'", [&] { table["to"]; });
-    check_refused(HV_TABLE_NO_COLUMN, "no column has the name 'to'", [&] { table.select({"at", "to"}); });
-    check_refused(HV_TABLE_NO_COLUMN, "no column has the name 'to'", [&] { table.drop({"to"}); });
-    check_refused(HV_TABLE_NO_COLUMN, "no column has the name 'to'", [&] { table.filter_by("to", ">", 1); });
+    check_refused(HV_TABLE_NO_COLUMN, no_to, [&] { table["to"]; });
+    check_refused(HV_TABLE_NO_COLUMN, no_to, [&] { table.select({"at", "to"}); });
+    check_refused(HV_TABLE_NO_COLUMN, no_to, [&] { table.drop({"to"}); });
+    check_refused(HV_TABLE_NO_COLUMN, no_to, [&] { table.filter_by("to", ">", 1); });
     check_refused(HV_TABLE_NAME_TWICE, "two columns have the name 'at'", [&] { table.select({"at", "at"}); });
     check_refused(HV_TABLE_NAME_TWICE, "two columns have the name 'at'", [&] { table.rename("level", "at"); });
     check_refused(HV_COLUMN_LENGTH, "column 'x' has 1 rows, and the table 5", [&] { table.with_column({"x", {1}}); });
@@ -227,8 +230,10 @@ static void check_refusals() {
                   [&] { table.filter_by("station", "<", 1); });
     check_refused(HV_TYPE_MISMATCH, "column 'level': i64? is not compared with a float",
                   [&] { table.filter_by("level", "<", 1.5); });
-    check_refused(HV_TABLE_NO_COLUMN, "no column has the name 'at'", [&] { table.append(table.drop({"at"})); });
-    check_refused(HV_TABLE_NO_COLUMN, "no column has the name 'x'",
+    check_refused(HV_TABLE_NO_COLUMN,
+                  "no column has the name 'at': the names are 'station', 'level', 'price', 'share'",
+                  [&] { table.append(table.drop({"at"})); });
+    check_refused(HV_TABLE_NO_COLUMN, "no column has the name 'x': the names are 'station', 'level', 'price', 'at', ...",
                   [&] { table.append(table.with_column({"x", {1, 2, 3, 4, 5}})); });
     check_refused(HV_TYPE_MISMATCH, "column 'at': the logical types are 'tts' and ''",
                   [&] { table.append(table.with_column({"at", {1, 2, 3, 4, 5}})); });
@@ -237,7 +242,19 @@ static void check_refusals() {
     try {
         table["to"];
     } catch (const hv::Error &error) { CHECK(std::string(error.name()) == "HV_TABLE_NO_COLUMN"); }
+    check_refused(HV_TABLE_NO_COLUMN, "no column has the name 'to': the table has none", [] { Table()["to"]; });
     CHECK(table == copy && table.to_bytes() == before);
+}
+
+// Tables without columns, of rows that 64 bits count or not.
+static void check_many_rows() {
+    const char *const said = "offset and length, or all rows together, are 2^64 or more";
+    const Table most({}, SIZE_MAX), one({}, 1), half({}, SIZE_MAX / 2 + 1);
+    CHECK(most.append(Table()).rows() == SIZE_MAX && half.append(Table({}, SIZE_MAX / 2)).rows() == SIZE_MAX);
+    check_refused(HV_WINDOW_OVERFLOW, said, [&] { most.append(one); });
+    check_refused(HV_WINDOW_OVERFLOW, said, [&] { half.append(half); });
+    const Table constants{{"a", Column::constant(hv::kinds::u8, uint64_t{7}, SIZE_MAX / 2 + 1)}};
+    check_refused(HV_WINDOW_OVERFLOW, std::string("column 'a': ") + said, [&] { constants.append(constants); });
 }
 
 // ---- Files ----
@@ -254,7 +271,7 @@ static void check_files() {
     const Table part = Table::load(path, {"level", "station"});
     CHECK(part.names() == (std::vector<std::string>{"level", "station"}) && part == table.select({"level", "station"}));
     CHECK(Table::load(path, std::vector<std::string>()).rows() == 5);
-    check_refused(HV_TABLE_NO_COLUMN, "no column has the name 'to'", [&] { Table::load(path, {"at", "to"}); });
+    check_refused(HV_TABLE_NO_COLUMN, no_to, [&] { Table::load(path, {"at", "to"}); });
     check_refused(HV_TABLE_NAME_TWICE, "two columns have the name 'at'", [&] { Table::load(path, {"at", "at"}); });
     const hv::TableFooter footer = Table::footer(path);
     CHECK(footer.rows == 5 && footer.columns.size() == 5 && footer["at"].logical_type == "tts");
@@ -264,7 +281,7 @@ static void check_files() {
     CHECK(!footer.may_have("level", Operator::greater, 903) && footer.may_have("level", Operator::greater, 902));
     CHECK(!footer.may_have("level", Operator::equal, 39) && footer.may_have("level", Operator::equal, 500));
     CHECK(!footer.may_have("station", Operator::less, "north") && footer.may_have("share", Operator::greater, 7));
-    check_refused(HV_TABLE_NO_COLUMN, "no column has the name 'to'", [&] { footer["to"]; });
+    check_refused(HV_TABLE_NO_COLUMN, no_to, [&] { footer["to"]; });
     check_refused(HV_TYPE_MISMATCH, "column 'share': a float is not compared with a text",
                   [&] { footer.may_have("share", Operator::equal, "north"); }); // of which a row is NaN
     { std::ofstream(path, std::ios::binary) << "no table"; }
@@ -424,6 +441,31 @@ static void check_parts_of_files() {
                   [&] { hv::detail::read_footer(hv::StoredFile(file_of(1, {2}, {longer}, {}), "x")); });
 }
 
+// Columns that are kept as differences, within a limit: rows of 8 bytes, and runs of 8 and 8 more for each end.
+static void check_limits() {
+    std::vector<int64_t> steps;
+    for (int64_t row = 0; row < 1000; row++) steps.push_back(60 * row);
+    const Column flat = Column::of(steps);
+    const Table table{{"flat", flat}, {"runs", flat.encode_rows()}};
+    const hv::Bytes bytes = table.to_bytes(true);
+    const uint64_t due = 1000 * 8 + 1000 * 16;
+    CHECK(Table::from_bytes(bytes, hv::Limit(due)) == table && Table::from_bytes(bytes) == table);
+    const std::string said = " bytes in memory, above the limit of ", what = "the columns kept as differences take ";
+    check_refused(HV_TABLE_OVER_LIMIT, "Table::from_bytes: " + what + "24000" + said + "23999",
+                  [&] { Table::from_bytes(bytes, hv::Limit(due - 1)); });
+    char path[] = "/tmp/hivevigil-limits.XXXXXX";
+    CHECK(close(mkstemp(path)) == 0);
+    table.save(path, true);
+    CHECK(Table::load(path) == table && Table::load(path, hv::Limit(due)) == table);
+    CHECK(Table::load(path, {"flat"}, hv::Limit(8000)) == table.select({"flat"}));
+    check_refused(HV_TABLE_OVER_LIMIT, path + (": " + what) + "8000" + said + "7999",
+                  [&] { Table::load(path, {"flat"}, hv::Limit(7999)); });
+    check_refused(HV_TABLE_OVER_LIMIT, path + (": " + what) + "24000" + said + "0", [&] { Table::load(path, hv::Limit(0)); });
+    table.save(path); // as rows, which no limit is for
+    CHECK(Table::load(path, hv::Limit(0)) == table);
+    CHECK(!std::remove(path));
+}
+
 // ---- Arrow ----
 
 static void check_arrow() {
@@ -463,9 +505,11 @@ int main() {
     check_order();
     check_groups();
     check_refusals();
+    check_many_rows();
     check_files();
     check_bytes_of_page();
     check_parts_of_files();
+    check_limits();
     const Table table = readings();
     check_damaged(table.to_bytes());
     const std::vector<int64_t> levels(200, 7);
