@@ -2,8 +2,27 @@
 #include "failure.hpp"
 #include "values.hpp"
 #include <algorithm>
+#include <sys/stat.h>
 
 static const std::string line_of_type = "hivevigil type 1 ";
+
+Kept kept_as(std::string_view begun) {
+    const auto begins = [&](std::string_view with) { return begun.substr(0, with.size()) == with; };
+    if (begins("\x0a\x09hivevigil\x10")) return Kept::table;
+    // fields 1, the version, and 2, the type, of a message
+    if (begins("\x08\x01\x10") || begins("\x08\x02\x10")) return Kept::column;
+    const size_t line = begins(line_of_type) ? begun.find('\n') : begun.npos;
+    const bool is_after_line = line != begun.npos && begun.substr(line + 1, 3) == "\x08\x01\x10";
+    return is_after_line ? Kept::column : Kept::nothing;
+}
+
+bool is_kept(const std::string &path) {
+    struct stat found;
+    if (stat(path.c_str(), &found) || !S_ISREG(found.st_mode)) return false;
+    constexpr size_t most = 1 << 10;
+    const hv::Bytes bytes = hv::StoredFile(path).read(0, most);
+    return kept_as({reinterpret_cast<const char *>(bytes.data()), bytes.size()}) != Kept::nothing;
+}
 
 // The format in the line of a type, which is taken off the bytes; none where there is no such line.
 static std::optional<std::string> format_of_line(hv::Bytes &bytes) {

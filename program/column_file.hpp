@@ -6,6 +6,7 @@
 #include "logical.hpp"
 #include <hivevigil_table.hpp>
 #include <string>
+#include <string_view>
 
 // A column of a file, which has no name.
 struct StoredColumn {
@@ -15,6 +16,14 @@ struct StoredColumn {
 
     RowType type() const { return type_of_format(column.kind(), logical_type); }
 };
+
+// What a file of columns is, by its first bytes.
+enum class Kept { nothing, table, column };
+
+Kept kept_as(std::string_view begun);
+
+// Does a file that can be read twice begin as that of a table or of a column? A pipe is read as a CSV file.
+bool is_kept(const std::string &path);
 
 // The column of a file. Throws a Failure where it is not a column's.
 StoredColumn load_column(const hv::StoredFile &file);

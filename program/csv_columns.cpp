@@ -4,6 +4,7 @@
 #include "times.hpp"
 #include "values.hpp"
 #include <algorithm>
+#include <hivevigil_table.hpp>
 
 using Fields = std::vector<std::string>;
 
@@ -150,7 +151,7 @@ static std::vector<size_t> places_of(const CsvOptions &options, const Fields &na
     for (size_t place = 0; place < names.size(); place++)
         if (!options.column || names[place] == *options.column) places.push_back(place);
     if (options.column && places.empty())
-        throw Failure(options.path + ": no column has the name '" + *options.column + "'");
+        throw Failure(options.path + ": " + hv::detail::no_column_words(*options.column, names));
     return places;
 }
 

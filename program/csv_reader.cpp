@@ -1,4 +1,5 @@
 #include "csv_reader.hpp"
+#include "column_file.hpp"
 #include "failure.hpp"
 #include <algorithm>
 
@@ -49,6 +50,9 @@ static char separator_of(std::string_view begun) {
 
 CsvReader::CsvReader(const std::string &path, std::optional<char> separator)
     : input(path), mark(separator ? *separator : separator_of(input.begun())) {
+    const Kept kept = kept_as(input.begun());
+    if (kept != Kept::nothing)
+        throw Failure(path + " is the file of a " + (kept == Kept::table ? "table" : "column") + ", not a CSV file");
     restart();
 }
 

@@ -8,6 +8,8 @@ inline constexpr char help[] = R"(Columns in runs: of CSV files, kept in files, 
   hivevigil convert FILE.csv --to FILE.hv   keeps all columns in runs, as a table
   hivevigil convert FILE.csv --column NAME --to FILE.hv
                                             keeps one column in runs
+  hivevigil convert FILE.hv --to FILE.hv    keeps what was kept in another way: in
+                                            order, as differences, one column
   hivevigil show FILE.hv                    its type, rows, runs, nulls and bytes
   hivevigil show FILE.hv --rows N           its first rows, a line each
   hivevigil show FILE.hv --runs             its runs: first row, row after the last, value
@@ -17,7 +19,7 @@ inline constexpr char help[] = R"(Columns in runs: of CSV files, kept in files, 
 A CSV file has the names in its first line, and an empty field is null. Columns
 are booleans, integers, decimals, floats, dates, times, timestamps or texts, by
 all of their fields. A row is printed as a field of a CSV file: null as an empty
-line.
+line. A FILE to read that is - is standard input.
 
 Of a table, show and query take --column NAME, to show or ask that column, and
 a CONDITION has the name of a column in front: 'level > 4'. Rows of a table are
@@ -42,7 +44,9 @@ Options:
                      a minus in front of a name: in descending order
   --differences      keeps a table's columns of integers as differences from row
                      to row, each where that is shorter, as for times
-  --help             prints this
+  --limit BYTES      refuses a table whose columns that are kept as differences
+                     take more bytes in memory; 1073741824 without it
+  -h, --help         prints this
   --version          prints the version
 
 A CONDITION is one argument, an operator and a value: '> 4', '= Oslo', 'ne 7'.

@@ -49,18 +49,23 @@ static Arguments arguments_of(int count, char **given) {
         {"rows", required_argument, nullptr, 0},   {"from", required_argument, nullptr, 0},
         {"runs", no_argument, nullptr, 0},         {"where", required_argument, nullptr, 0},
         {"differences", no_argument, nullptr, 0},  {"sort", required_argument, nullptr, 0},
-        {"help", no_argument, nullptr, 0},         {"version", no_argument, nullptr, 0},
-        {nullptr, 0, nullptr, 0}};
+        {"limit", required_argument, nullptr, 0},  {"help", no_argument, nullptr, 'h'},
+        {"version", no_argument, nullptr, 0},      {nullptr, 0, nullptr, 0}};
     Arguments arguments;
     opterr = 0;
     for (int place = 0;;) {
-        const int next = optind, found = getopt_long(count, given, ":", known, &place);
+        const int next = optind, found = getopt_long(count, given, ":h", known, &place);
         if (found == -1) break;
+        if (found == 'h') {
+            arguments.options["help"].push_back("");
+            continue;
+        }
         if (found == ':') throw BadUsage(std::string(given[next]) + " needs a value");
         if (found != 0) throw BadUsage(std::string(given[next]) + " is not an option");
         arguments.options[known[place].name].push_back(optarg ? optarg : "");
     }
     arguments.words.assign(given + optind, given + count);
+    if (arguments.words.size() > 1 && arguments.words[1] == "-") arguments.words[1] = "/dev/stdin";
     return arguments;
 }
 
@@ -74,16 +79,22 @@ static void take(const Arguments &arguments, size_t words, const std::vector<std
             throw BadUsage("--" + given.first + " is not an option of " + arguments.words[0]);
 }
 
-static size_t count_of(const std::string &text, const std::string &option) {
+static size_t count_of(const std::string &text, const std::string &option, const std::string &what = "rows") {
     size_t number = 0;
     for (char letter : text) {
         const size_t digit = static_cast<size_t>(letter - '0');
         if (letter < '0' || letter > '9' || number > (SIZE_MAX - digit) / 10)
-            throw BadUsage("--" + option + " takes a number of rows, not '" + text + "'");
+            throw BadUsage("--" + option + " takes a number of " + what + ", not '" + text + "'");
         number = number * 10 + digit;
     }
-    if (text.empty()) throw BadUsage("--" + option + " takes a number of rows");
+    if (text.empty()) throw BadUsage("--" + option + " takes a number of " + what);
     return number;
+}
+
+// How many bytes columns that are kept as differences may take in memory.
+static hv::Limit asked_limit(const Arguments &arguments) {
+    const std::optional<std::string> asked = arguments.value("limit");
+    return hv::Limit(asked ? count_of(*asked, "limit", "bytes") : HV_TABLE_LIMIT);
 }
 
 static CsvOptions csv_options(const Arguments &arguments) {
@@ -167,28 +178,57 @@ static hv::Table in_order(const Arguments &arguments, hv::Table table) {
     return keys.empty() ? std::move(table) : table.sort(keys);
 }
 
+// The column that is asked for: that of the file, or of --column of a table.
+static StoredColumn asked_column(const Arguments &arguments, const hv::StoredFile &file) {
+    const std::optional<std::string> name = arguments.value("column");
+    if (name && !is_table(file)) throw Failure(file.path() + " is not the file of a table, and its column has no name");
+    if (!name) return load_column(file);
+    const hv::Table table = load_table(file, asked_limit(arguments), std::vector<std::string>{*name});
+    return {table[*name].clone(), table.at(*name).logical_type, footer_of(file)[*name].size};
+}
+
+// Refuses options that a file of this sort does not take.
+static void refuse_options(const Arguments &arguments, const std::string &sort,
+                           const std::vector<const char *> &options) {
+    for (const char *option : options)
+        if (arguments.has(option))
+            throw Failure(arguments.words[1] + " is not the file of a " + sort + ", which --" + option + " is of");
+}
+
+// Keeps a CSV file.
+static void convert_csv(const Arguments &arguments, const std::string &to) {
+    refuse_options(arguments, "table", {"limit"});
+    std::vector<CsvColumn> found = read_csv(csv_options(arguments));
+    if (arguments.has("column")) return save_column(found[0].runs, found[0].type.format(), to);
+    std::vector<hv::NamedColumn> columns;
+    for (CsvColumn &column : found) columns.push_back({column.name, std::move(column.runs), column.type.format()});
+    in_order(arguments, hv::Table(std::move(columns))).save(to, arguments.has("differences"));
+}
+
+// Keeps what was kept before, each column in its form.
+static void convert_stored(const Arguments &arguments, const std::string &to) {
+    const hv::StoredFile file(arguments.words[1]);
+    for (const char *option : {"type", "separator"})
+        if (arguments.has(option))
+            throw Failure(file.path() + " is not a CSV file, which --" + option + " is of");
+    if (!is_table(file)) refuse_options(arguments, "table", {"differences", "sort", "limit"});
+    if (is_table(file) && !arguments.has("column"))
+        return in_order(arguments, load_table(file, asked_limit(arguments))).save(to, arguments.has("differences"));
+    const StoredColumn stored = asked_column(arguments, file);
+    save_column(stored.column, stored.logical_type, to);
+}
+
 static void convert(const Arguments &arguments) {
-    take(arguments, 2, {"column", "to", "type", "separator", "differences", "sort"});
+    take(arguments, 2, {"column", "to", "type", "separator", "differences", "sort", "limit"});
     const std::string to = arguments.needed("to");
     const bool is_one = arguments.has("column");
     if (arguments.has("type") && !is_one) throw BadUsage("--type takes --column too");
     for (const char *option : {"differences", "sort"})
         if (arguments.has(option) && is_one)
             throw BadUsage("--" + std::string(option) + " is of a table, and --column keeps a column");
-    std::vector<CsvColumn> found = read_csv(csv_options(arguments));
-    if (is_one) return save_column(found[0].runs, found[0].type.format(), to);
-    std::vector<hv::NamedColumn> columns;
-    for (CsvColumn &column : found) columns.push_back({column.name, std::move(column.runs), column.type.format()});
-    in_order(arguments, hv::Table(std::move(columns))).save(to, arguments.has("differences"));
-}
-
-// The column that is asked for: that of the file, or of --column of a table.
-static StoredColumn asked_column(const Arguments &arguments, const hv::StoredFile &file) {
-    const std::optional<std::string> name = arguments.value("column");
-    if (name && !is_table(file)) throw Failure(file.path() + " is not the file of a table, and its column has no name");
-    if (!name) return load_column(file);
-    const hv::Table table = load_table(file, std::vector<std::string>{*name});
-    return {table[*name].clone(), table.at(*name).logical_type, footer_of(file)[*name].size};
+    asked_limit(arguments);
+    if (is_kept(arguments.words[1])) convert_stored(arguments, to);
+    else convert_csv(arguments, to);
 }
 
 // How many of the rows that are there --rows and --from ask for: the first, and the row after the last.
@@ -199,7 +239,7 @@ static std::pair<size_t, size_t> asked_rows(const Arguments &arguments, size_t r
 
 static void show_table(const Arguments &arguments, const hv::StoredFile &file) {
     if (arguments.has("runs")) throw BadUsage("--runs of a table takes --column too");
-    hv::Table table = load_table(file);
+    hv::Table table = load_table(file, asked_limit(arguments));
     if (arguments.has("rows")) {
         const auto asked = asked_rows(arguments, table.rows());
         table = in_order(arguments, std::move(table));
@@ -214,7 +254,8 @@ static void show_table(const Arguments &arguments, const hv::StoredFile &file) {
 }
 
 static void show(const Arguments &arguments) {
-    take(arguments, 2, {"column", "rows", "from", "runs", "sort"});
+    take(arguments, 2, {"column", "rows", "from", "runs", "sort", "limit"});
+    asked_limit(arguments);
     const bool rows = arguments.has("rows"), runs = arguments.has("runs");
     if (rows && runs) throw BadUsage("show takes --rows or --runs, not both");
     for (const char *option : {"from", "sort"})
@@ -223,6 +264,7 @@ static void show(const Arguments &arguments) {
     const hv::StoredFile file(arguments.words[1]);
     if (is_table(file) && !arguments.has("column")) return show_table(arguments, file);
     if (arguments.has("sort")) throw BadUsage("--sort is of the rows of a table, and this is one column");
+    if (!is_table(file)) refuse_options(arguments, "table", {"limit"});
     const StoredColumn stored = asked_column(arguments, file);
     const Column &column = stored.column;
     if (runs) return about_file(arguments, [&] { print_runs(column, stored.type()); });
@@ -257,7 +299,8 @@ static void query_table(const Arguments &arguments, const hv::StoredFile &file, 
     std::vector<std::string> wanted = is_one || !filters ? std::vector{arguments.needed("column")} : names;
     for (const NamedCondition &asked : conditions) wanted.push_back(asked.name);
     for (const hv::SortKey &key : asked_keys(arguments, names)) wanted.push_back(key.name);
-    const hv::Table rows = in_order(arguments, table_where(load_table(file, wanted), conditions));
+    const hv::Table found = load_table(file, asked_limit(arguments), wanted);
+    const hv::Table rows = in_order(arguments, table_where(found, conditions));
     if (is_one) {
         const hv::NamedColumn &named = rows.at(wanted[0]);
         answer(arguments, named.column, named.logical_type);
@@ -270,7 +313,7 @@ static void query(const Arguments &arguments) {
     const bool filters = question == "filter";
     if (question != "sum" && question != "min" && question != "max" && question != "count" && !filters)
         throw BadUsage("query takes a file and one of sum, min, max, count, filter");
-    std::vector<std::string> options = {"column", "where"}, texts;
+    std::vector<std::string> options = {"column", "where", "limit"}, texts;
     if (filters) options.insert(options.end(), {"to", "differences", "sort"});
     take(arguments, filters ? 4 : 3, options);
     if (arguments.has("differences") && (!arguments.has("to") || arguments.has("column")))
@@ -280,11 +323,10 @@ static void query(const Arguments &arguments) {
         texts.insert(texts.end(), arguments.options.at("where").begin(), arguments.options.at("where").end());
     for (const std::string &text : texts)
         if (!has_operator(text)) condition_of_text(text);
+    asked_limit(arguments);
     const hv::StoredFile file(arguments.words[1]);
     if (is_table(file)) return query_table(arguments, file, texts);
-    for (const char *option : {"differences", "sort"})
-        if (arguments.has(option))
-            throw Failure(file.path() + " is not the file of a table, which --" + option + " is of");
+    refuse_options(arguments, "table", {"differences", "sort", "limit"});
     std::vector<Condition> conditions;
     for (const std::string &text : texts) conditions.push_back(condition_of_text(text));
     const StoredColumn stored = asked_column(arguments, file);

@@ -19,7 +19,7 @@ std::vector<hv::SortKey> sort_keys(const std::string &text, const std::vector<st
         std::optional<std::string> name = name_at(text, at, names);
         const bool is_descending = !name && at < text.size() && text[at] == '-';
         if (is_descending) name = name_at(text, ++at, names);
-        if (!name) throw Failure("no column has the name '" + text.substr(at, text.find(',', at) - at) + "'");
+        if (!name) throw Failure(hv::detail::no_column_words(text.substr(at, text.find(',', at) - at), names));
         at += name->size();
         const auto is_it = [&](const hv::SortKey &key) { return key.name == *name; };
         if (std::any_of(keys.begin(), keys.end(), is_it)) continue;

@@ -7,8 +7,8 @@ template <class Work> static auto of_file(const hv::StoredFile &file, Work work)
     try {
         return work();
     } catch (const hv::TableError &error) {
-        const bool is_named = error.number != HV_TABLE_NO_COLUMN;
-        throw Failure((is_named ? "" : file.path() + ": ") + error.what());
+        const bool is_named = error.number != HV_TABLE_NO_COLUMN, is_over = error.number == HV_TABLE_OVER_LIMIT;
+        throw Failure((is_named ? "" : file.path() + ": ") + error.what() + (is_over ? " (--limit)" : ""));
     }
 }
 
@@ -20,14 +20,15 @@ hv::TableFooter footer_of(const hv::StoredFile &file) {
     return of_file(file, [&] { return hv::detail::read_footer(file); });
 }
 
-hv::Table load_table(const hv::StoredFile &file, const std::optional<std::vector<std::string>> &names) {
-    if (!names) return of_file(file, [&] { return hv::detail::read_table(file, nullptr); });
+hv::Table load_table(const hv::StoredFile &file, hv::Limit limit,
+                     const std::optional<std::vector<std::string>> &names) {
+    if (!names) return of_file(file, [&] { return hv::detail::read_table(file, nullptr, limit); });
     const hv::TableFooter footer = footer_of(file);
     return of_file(file, [&] {
         for (const std::string &name : *names) footer[name];
         std::vector<std::string> chosen;
         for (const hv::ColumnFooter &column : footer.columns)
             if (std::find(names->begin(), names->end(), column.name) != names->end()) chosen.push_back(column.name);
-        return hv::detail::read_table(file, &chosen);
+        return hv::detail::read_table(file, &chosen, limit);
     });
 }

@@ -10,9 +10,10 @@ bool is_table(const hv::StoredFile &file);
 // What the footer says of the columns. Throws a Failure where the file is not a table's.
 hv::TableFooter footer_of(const hv::StoredFile &file);
 
-// The table of a file, or its columns of these names, each once, in the order of the file. Throws a Failure where it is
-// not a table's, or has no column of a name.
-hv::Table load_table(const hv::StoredFile &file, const std::optional<std::vector<std::string>> &names = std::nullopt);
+// The table of a file, or its columns of these names, each once, in the order of the file, within a limit. Throws a
+// Failure where it is not a table's, or has no column of a name.
+hv::Table load_table(const hv::StoredFile &file, hv::Limit limit,
+                     const std::optional<std::vector<std::string>> &names = std::nullopt);
 
 // The type of the rows of a column.
 inline RowType type_of(const hv::NamedColumn &named) { return type_of_format(named.column.kind(), named.logical_type); }

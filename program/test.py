@@ -393,7 +393,7 @@ def check_bad_files(program: Program) -> None:
     program.refuses(1, r"\.: Is a directory", "show", ".")
     file.write_text("a,b\n1,2\n")
     convert = ["convert", "bad.csv", "--column"]
-    program.refuses(1, r"bad\.csv: no column has the name 'c'", *convert, "c", "--to", "kept.hv")
+    program.refuses(1, r"bad\.csv: no column has the name 'c': the names are 'a', 'b'", *convert, "c", "--to", "kept.hv")
     program.refuses(1, r"none/x\.hv: No such .*", *convert, "a", "--to", "none/x.hv")
     # a file that cannot be written whole
     too_large = {"preexec_fn": lambda: resource.setrlimit(resource.RLIMIT_FSIZE, (0, 0)), "restore_signals": False}

@@ -209,7 +209,7 @@ def check_refusals(program: Program) -> None:
         sentence = r"column\.hv is not the file of a table, which " + option.partition("=")[0] + " is of"
         program.refuses(1, sentence, "query", "column.hv", "filter", "> 1", option, "--to=b")
     check_refused_orders(program)
-    none = r"table\.hv: no column has the name 'place'"
+    none = r"table\.hv: no column has the name 'place': the names are 'level', 'level > 1', ''"
     program.refuses(1, none, "show", "table.hv", "--column", "place")
     program.refuses(1, none, "query", "table.hv", "max", "--column", "place")
     program.refuses(1, "'x' is not a number", "query", "table.hv", "filter", "level = x")
@@ -233,7 +233,8 @@ def check_refused_orders(program: Program) -> None:
     program.refuses(2, sentence, "show", "column.hv", "--rows=1", "--sort=level")
     program.refuses(2, "--sort is not an option of query" + usage, "query", "table.hv", "sum", "--sort=level")
     for text, name in ("place", "place"), ("level,place", "place"), ("level,-place,level", "place"), ("--level", "-level"):
-        program.refuses(1, f"table\\.hv: no column has the name '{name}'", "show", "table.hv", "--rows=1", "--sort", text)
+        sentence = f"table\\.hv: no column has the name '{name}': the names are 'level', 'level > 1', ''"
+        program.refuses(1, sentence, "show", "table.hv", "--rows=1", "--sort", text)
     (program.folder / "b.csv").write_text('a,"a,b",-a\n1,2,3\n2,1,3\n1,1,4\n')
     program.answers("convert", "b.csv", "--to", "b.hv")
     head = 'a,"a,b",-a\n'
