@@ -135,7 +135,7 @@ table_files_read() {
     $cc $c_flags $1 examples/c/table_files.c lib/libhivevigil.a -o "$work/table_files" &&
         timeout 200 "$work/table_files" examples/corpus
 }
-run "c/table_files.c$arrow_how" table_files_read "$arrow_flags $wraps"
+run "c/table_files.c$arrow_how" table_files_read "$arrow_flags $wraps -Wl,--wrap=umask"
 
 # the stored messages, which each version from 1.0.0 on reads as their rows and writes as their bytes
 corpus_read() {
@@ -193,7 +193,8 @@ fi
 # the program, as it ships and under sanitizers, held against Python's csv module, plain lists, and messages' model
 program_as() {
     FLAGS=$2 sh program/build.sh "$work/$1" && timeout 900 "$model" -B program/test.py "$work/$1/hivevigil" $3 &&
-        timeout 900 "$model" -B program/test_tables.py "$work/$1/hivevigil" $3
+        timeout 900 "$model" -B program/test_tables.py "$work/$1/hivevigil" $3 &&
+        timeout 900 "$model" -B program/test_kept.py "$work/$1/hivevigil" ${3%% --messages*}
 }
 # Debian's packages belong to /usr/bin/python3, which is not always the python3 on PATH
 python_with() {
@@ -212,8 +213,8 @@ python_of_extensions() {
     return 1
 }
 if has "$cxx" && { model=$(has protoc && python_with google.protobuf) || model=$(python_with csv); }; then
-    run "program/test.py, test_tables.py" program_as shipped "" "--files 25 --messages 300"
-    [ "$arrow_how" ] && run "program/test.py, test_tables.py$arrow_how" \
+    run "program/test.py, test_tables.py, test_kept.py" program_as shipped "" "--files 25 --messages 300"
+    [ "$arrow_how" ] && run "program/test.py, test_tables.py, test_kept.py$arrow_how" \
         program_as watched "$watched" "--files 6 --messages 100"
 else
     skip "the program" "$cxx and Python"
@@ -223,6 +224,11 @@ if has cargo && cargo --version >/dev/null 2>&1; then
     export CARGO_TARGET_DIR="$work/target"
     with="--quiet --offline --manifest-path rust/Cargo.toml"
     run "rust, its tests and those of its pages" timeout 300 cargo test $with
+    if cargo clippy --version >/dev/null 2>&1; then
+        run "rust, what cargo clippy warns of" timeout 300 cargo clippy $with --all-targets -- -D warnings
+    else
+        skip "rust, what cargo clippy warns of" "cargo clippy"
+    fi
     run "rust, the demonstration" timeout 100 cargo run $with --example demo
     tables_exchanged() {
         cargo build $with --example tables &&

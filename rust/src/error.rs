@@ -79,14 +79,67 @@ enum Detail {
     /// Has words about two types.
     Pair(Kind, Kind, &'static str),
     /// Says that what two numbers give does not fit the type of the answers.
-    PairOverflow(Decimal, &'static str, Decimal, Kind),
+    PairOverflow(Packed, char, Packed, Kind),
+    /// Names a column of Arrow and its format, which is not served.
+    Format(Short<24>, Short<16>),
 }
 
 #[derive(Clone, Copy)]
 pub(crate) enum What {
-    Number(Decimal),
+    Number(Packed),
     Float(f64),
     Sort(&'static str),
+}
+
+/// Has a decimal byte by byte, so that a refusal, which is returned by value everywhere, stays small.
+#[derive(Clone, Copy)]
+pub(crate) struct Packed {
+    digits: [u8; 16],
+    scale: i8,
+}
+
+impl From<Decimal> for Packed {
+    fn from(number: Decimal) -> Packed {
+        let (digits, scale) = (number.digits.to_ne_bytes(), number.scale);
+        Packed { digits, scale }
+    }
+}
+
+impl fmt::Display for Packed {
+    fn fmt(&self, formatter: &mut fmt::Formatter<'_>) -> fmt::Result {
+        Decimal::new(i128::from_ne_bytes(self.digits), self.scale).fmt(formatter)
+    }
+}
+
+/// Has a text of at most `N` bytes, or the beginning of one.
+#[derive(Clone, Copy)]
+struct Short<const N: usize> {
+    bytes: [u8; N],
+    len: u8,
+    is_whole: bool,
+}
+
+impl<const N: usize> Short<N> {
+    fn of(text: &str) -> Short<N> {
+        let len = (0..=text.len().min(N))
+            .rev()
+            .find(|end| text.is_char_boundary(*end));
+        let (len, mut bytes) = (len.unwrap_or(0), [0; N]);
+        bytes[..len].copy_from_slice(&text.as_bytes()[..len]);
+        Short {
+            bytes,
+            len: len as u8,
+            is_whole: len == text.len(),
+        }
+    }
+}
+
+impl<const N: usize> fmt::Display for Short<N> {
+    fn fmt(&self, formatter: &mut fmt::Formatter<'_>) -> fmt::Result {
+        let text = String::from_utf8_lossy(&self.bytes[..usize::from(self.len)]);
+        formatter.write_str(&text)?;
+        formatter.write_str(if self.is_whole { "" } else { ".." })
+    }
 }
 
 impl PartialEq for Error {
@@ -203,7 +256,7 @@ impl Error {
 
     /// Refuses a number that a type does not have.
     pub(crate) fn misfit(number: Decimal, kind: Kind) -> Error {
-        let what = What::Number(number);
+        let what = What::Number(number.into());
         Error::of(ErrorKind::CastOutOfRange).with(Detail::Misfit {
             row: None,
             what,
@@ -294,11 +347,17 @@ impl Error {
     pub(crate) fn of_pair_overflow(
         self,
         left: Decimal,
-        sign: &'static str,
+        sign: char,
         right: Decimal,
         kind: Kind,
     ) -> Error {
+        let (left, right) = (left.into(), right.into());
         self.with(Detail::PairOverflow(left, sign, right, kind.not_nullable()))
+    }
+
+    /// Names a column of Arrow, and its format, where that is what is not served.
+    pub(crate) fn of_format(self, name: &str, format: &str) -> Error {
+        self.with(Detail::Format(Short::of(name), Short::of(format)))
     }
 
     /// Says what another refusal of the same kind does, with these fields.
@@ -443,6 +502,20 @@ impl fmt::Display for Error {
                 sort_of(kind),
                 self.fields.first
             ),
+            Detail::Format(name, format) => {
+                let is_of_floats = matches!(
+                    format.bytes[..usize::from(format.len)],
+                    [b'e' | b'f' | b'g']
+                );
+                let why = match is_of_floats {
+                    true => "floats, which are read by their bits",
+                    false => "which is not served",
+                };
+                match name.len {
+                    0 => write!(formatter, "the array has the format {format}, {why}"),
+                    _ => write!(formatter, "column '{name}' has the format {format}, {why}"),
+                }
+            }
         }
     }
 }

@@ -340,7 +340,7 @@ impl<T: Float> Floats<T> {
             let row = first_refused(integers, error, convert);
             let found = row.and_then(|row| Some((row, integers.at(row).ok()?.number()?)));
             found.map_or(error, |(row, number)| {
-                error.inexact(row, What::Number(number), format_of(T::KEYS))
+                error.inexact(row, What::Number(number.into()), format_of(T::KEYS))
             })
         })?)
     }

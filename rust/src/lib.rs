@@ -54,8 +54,8 @@ pub use kind::{Form, Kind};
 pub use native::Native;
 pub use parts::SplitBy;
 pub use table::{
-    ColumnFooter, Columns, Difference, Groups, Order, RowsFooter, SaveOptions, Table, TableError,
-    TableFooter, Threshold,
+    ColumnFooter, Columns, Difference, Groups, LoadOptions, Order, RowsFooter, SaveOptions, Table,
+    TableError, TableFooter, Threshold,
 };
 pub use value::{DecimalSum, Fold, Operator, Sum, SumParts, Value};
 

@@ -29,11 +29,11 @@ impl Pairing {
         }
     }
 
-    fn sign(self) -> &'static str {
+    fn sign(self) -> char {
         match self {
-            Pairing::Subtract => "-",
-            Pairing::Multiply => "*",
-            _ => "+",
+            Pairing::Subtract => '-',
+            Pairing::Multiply => '*',
+            _ => '+',
         }
     }
 

@@ -28,6 +28,7 @@ pub use comparing::Threshold;
 pub use error::{Difference, TableError};
 pub use footer::{ColumnFooter, RowsFooter, TableFooter};
 pub use groups::Groups;
+pub use reading::LoadOptions;
 pub use sorting::Order;
 pub use writing::SaveOptions;
 

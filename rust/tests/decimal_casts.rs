@@ -32,7 +32,7 @@ fn check(rows: &[Option<i128>], scale: i8, to: Kind, least: i128, greatest: i128
         .map(|row| row.and_then(|number| at_scale(number, scale, to.scale)))
         .collect();
     let fits = |number: i128| least <= number && number <= greatest;
-    let wrong = (0..rows.len()).find(|&row| rows[row].is_some() && !due[row].is_some_and(fits));
+    let wrong = (0..rows.len()).find(|&row| rows[row].is_some() && !due[row].map_or(false, fits));
     for column in forms(rows, scale) {
         let Some(row) = wrong else {
             let made = column.cast(to.nullable()).unwrap();

@@ -1,7 +1,7 @@
 //! Columns as arrays, and arrays as columns.
 use super::calls::{self, RawOptions};
 use super::error::ask;
-use super::{ArrowArray, ArrowError, ArrowSchema};
+use super::{ArrowArray, ArrowError, ArrowSchema, Reading};
 use crate::column::turn_of;
 use crate::raw::Handle;
 use crate::scales::at_one_type;
@@ -90,6 +90,7 @@ impl Column {
         array: &ArrowArray,
     ) -> Result<Column, ArrowError> {
         imported(|session, out, fields| calls::hv_import_array(session, schema, array, out, fields))
+            .map_err(|error| error.of_array(schema, Reading::Rows))
     }
 
     /// Copies the same, and floats, at any depth, as integers of 16, 32 or 64 bits without sign that have their bits.
@@ -101,6 +102,7 @@ impl Column {
         array: &ArrowArray,
     ) -> Result<Column, ArrowError> {
         imported(|session, out, fields| calls::hv_import_bits(session, schema, array, out, fields))
+            .map_err(|error| error.of_array(schema, Reading::Bits))
     }
 
     /// Copies one child of a batch: the rows that the batch shows, null also where the batch's row is null.

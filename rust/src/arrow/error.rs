@@ -1,5 +1,6 @@
 //! Refusals of what goes in and out.
-use crate::{Error, Fields};
+use super::{ArrowSchema, Reading};
+use crate::{Error, ErrorKind, Fields};
 use std::fmt;
 
 /// Says why an array is not one of its format.
@@ -71,6 +72,44 @@ impl ArrowError {
         }
     }
 
+    /// Names the first column of chunks, and its format, that is not served as it is read.
+    pub(super) fn of_chunk(
+        self,
+        schema: &ArrowSchema,
+        how: impl Fn(usize) -> Reading,
+    ) -> ArrowError {
+        let is_batch = schema.format() == "+s";
+        let count = if is_batch { schema.child_count() } else { 1 };
+        let columns = (0..count).filter_map(|place| {
+            let column = if is_batch {
+                schema.child(place)
+            } else {
+                Some(schema)
+            }?;
+            Some((column.name(), unserved_format(column, how(place))?))
+        });
+        self.of_format(columns)
+    }
+
+    /// Names the format of an array that is not served.
+    pub(super) fn of_array(self, schema: &ArrowSchema, how: Reading) -> ArrowError {
+        let format = schema.value_format();
+        let format = format.filter(|format| !is_served(format, how));
+        self.of_format(format.into_iter().map(|format| ("", format)))
+    }
+
+    fn of_format<'a>(self, mut found: impl Iterator<Item = (&'a str, &'a str)>) -> ArrowError {
+        match self {
+            ArrowError::Refused(error) if error.kind() == Some(ErrorKind::Unsupported) => {
+                ArrowError::Refused(match found.next() {
+                    Some((name, format)) => error.of_format(name, format),
+                    None => error,
+                })
+            }
+            other => other,
+        }
+    }
+
     /// Adds what the stream said.
     pub(super) fn saying(self, said: String) -> ArrowError {
         match self {
@@ -81,6 +120,29 @@ impl ArrowError {
             other => other,
         }
     }
+}
+
+/// Finds the format of the values of a column, or of the items of its lists, where it is not served.
+fn unserved_format(column: &ArrowSchema, how: Reading) -> Option<&str> {
+    let format = column.value_format()?;
+    match column.child(0).filter(|_| matches!(format, "+l" | "+L")) {
+        Some(items) => unserved_format(items, how),
+        None => Some(format).filter(|format| !is_served(format, how)),
+    }
+}
+
+/// Returns whether values of a format come in: of decimals those of 256 bits do not, and floats by their bits.
+fn is_served(format: &str, how: Reading) -> bool {
+    let served = if how == Reading::Bits {
+        "bcCsSiIlLuUzZefg"
+    } else {
+        "bcCsSiIlLuUzZ"
+    };
+    let is_one_letter = format.len() == 1 && served.contains(format);
+    let begins = |with: &[&str]| with.iter().any(|start| format.starts_with(start));
+    let is_decimal = begins(&["d:"]) && !format.ends_with(",256");
+    let is_other = begins(&["vu", "vz", "w:", "td", "tt", "ts", "tD", "tiM"]);
+    how == Reading::LeftOut || is_one_letter || is_decimal || is_other
 }
 
 /// Calls what answers by a number and fields, those of `hivevigil_arrow.h` too.

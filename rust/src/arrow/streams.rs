@@ -30,6 +30,7 @@ pub enum Reading {
 pub struct ArrowReader {
     at: *mut RawReader,
     shares_lists: bool, // with what the reader keeps of a dictionary
+    how: Vec<Reading>,  // of the columns that were chosen, those before them, and no more
 }
 
 // A reader is on the heap of the process, and its stream may be released on any thread.
@@ -50,6 +51,7 @@ impl ArrowReader {
         let mut reader = ArrowReader {
             at,
             shares_lists: false,
+            how: Vec::new(),
         };
         match answer {
             Ok(()) => {
@@ -74,6 +76,11 @@ impl ArrowReader {
     /// Chooses how a column of the chunks that follow is read. A number that no column has is ignored.
     pub fn choose(&mut self, column: usize, how: Reading) {
         unsafe { calls::hv_stream_choose(self.at, column, how as u8) }
+        if column < self.width() {
+            self.how
+                .resize(self.how.len().max(column + 1), Reading::Rows);
+            self.how[column] = how;
+        }
     }
 
     fn words(&self) -> String {
@@ -87,7 +94,11 @@ impl ArrowReader {
         ask(|fields| unsafe {
             calls::hv_stream_next(&session, self.at, places, count, &mut more, fields)
         })
-        .map_err(|error| error.of_text().saying(self.words()))?;
+        .map_err(|error| {
+            let how = |place| self.how.get(place).copied().unwrap_or_default();
+            let error = error.of_text().of_chunk(self.schema(), how);
+            error.saying(self.words())
+        })?;
         if more == 0 {
             return Ok(None);
         }
@@ -217,9 +228,9 @@ impl ArrowArrayStream {
         })
         .map_err(|error| {
             let end = words.iter().position(|byte| *byte == 0).unwrap_or(0);
-            error
-                .of_text()
-                .saying(String::from_utf8_lossy(&words[..end]).into_owned())
+            let how = |place| how.get(place).copied().unwrap_or_default();
+            let error = error.of_text().of_chunk(&schema, how);
+            error.saying(String::from_utf8_lossy(&words[..end]).into_owned())
         })?;
         Ok(owned(handles))
     }

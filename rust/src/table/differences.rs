@@ -19,15 +19,15 @@ pub(super) fn kept(column: &Column) -> Result<Option<(Form, Vec<u8>)>, Error> {
     if shorter.len() >= message.len() {
         return Ok(None);
     }
-    match rows_of(&steps, kind, form)? {
+    match rows_of(&steps, kind, form, MOST)? {
         Some(again) if again.to_bytes()? == message => Ok(Some((form, shorter))),
         _ => Ok(None),
     }
 }
 
-/// Makes the column, of a type and in a form, of which a message has the differences. Damaged where there is none, or
-/// where they are not in as few runs as possible.
-pub(super) fn read(message: &[u8], kind: Kind, form: Form) -> Result<Column, Unread> {
+/// Makes the column, of a type and in a form, of at most `most` rows, or runs, of which a message has the differences.
+/// Damaged where there is none, or where they are not in as few runs as possible.
+pub(super) fn read(message: &[u8], kind: Kind, form: Form, most: usize) -> Result<Column, Unread> {
     let steps = Column::from_bytes(message)?;
     let differences = if kind.is_nullable() {
         Kind::I64.nullable()
@@ -38,7 +38,7 @@ pub(super) fn read(message: &[u8], kind: Kind, form: Form) -> Result<Column, Unr
     if !is_of_kind || steps.form() != Form::Runs || steps.encode_rows()?.to_bytes()? != message {
         return Err(Unread::Damaged);
     }
-    rows_of(&steps, kind, form)?.ok_or(Unread::Damaged)
+    rows_of(&steps, kind, form, most.min(MOST))?.ok_or(Unread::Damaged)
 }
 
 pub(super) fn is_integer(kind: Kind) -> bool {
@@ -74,16 +74,16 @@ fn steps_of(column: &Column) -> Result<Option<Column>, Error> {
 
 /// Makes the column that has these differences, which are i64 in runs; `None` where there is none, or it has too many
 /// rows or runs.
-fn rows_of(steps: &Column, kind: Kind, form: Form) -> Result<Option<Column>, Error> {
+fn rows_of(steps: &Column, kind: Kind, form: Form, most: usize) -> Result<Option<Column>, Error> {
     match kind.not_nullable() {
-        Kind::U8 => Totals::<u8>::of(steps, form),
-        Kind::U16 => Totals::<u16>::of(steps, form),
-        Kind::U32 => Totals::<u32>::of(steps, form),
-        Kind::U64 => Totals::<u64>::of(steps, form),
-        Kind::I8 => Totals::<i8>::of(steps, form),
-        Kind::I16 => Totals::<i16>::of(steps, form),
-        Kind::I32 => Totals::<i32>::of(steps, form),
-        _ => Totals::<i64>::of(steps, form),
+        Kind::U8 => Totals::<u8>::of(steps, form, most),
+        Kind::U16 => Totals::<u16>::of(steps, form, most),
+        Kind::U32 => Totals::<u32>::of(steps, form, most),
+        Kind::U64 => Totals::<u64>::of(steps, form, most),
+        Kind::I8 => Totals::<i8>::of(steps, form, most),
+        Kind::I16 => Totals::<i16>::of(steps, form, most),
+        Kind::I32 => Totals::<i32>::of(steps, form, most),
+        _ => Totals::<i64>::of(steps, form, most),
     }
 }
 
@@ -96,13 +96,14 @@ struct Totals<T> {
     valid: Vec<bool>,
     stops: Vec<usize>, // of runs, where rows are not written out
     is_in_runs: bool,
+    most: usize, // items
     total: i128,
     rows: usize,
     is_after_value: bool,
 }
 
 impl<T: Native + TryFrom<i128>> Totals<T> {
-    fn of(steps: &Column, form: Form) -> Result<Option<Column>, Error> {
+    fn of(steps: &Column, form: Form, most: usize) -> Result<Option<Column>, Error> {
         let shown = Shown::of_runs(steps)?;
         let (numbers, valid) = (numbers(&shown.values)?, shown.values.validity()?);
         let mut totals = Totals::<T> {
@@ -110,6 +111,7 @@ impl<T: Native + TryFrom<i128>> Totals<T> {
             valid: Vec::new(),
             stops: Vec::new(),
             is_in_runs: form == Form::Runs,
+            most,
             total: 0,
             rows: 0,
             is_after_value: false,
@@ -180,7 +182,7 @@ impl<T: Native + TryFrom<i128>> Totals<T> {
     /// Returns how many items there are with as many more, where these are not too many.
     fn room(&self, more: usize) -> Option<usize> {
         let count = self.items.len().checked_add(more);
-        count.filter(|count| *count <= MOST)
+        count.filter(|count| *count <= self.most)
     }
 
     fn column(self, is_nullable: bool) -> Result<Column, Error> {

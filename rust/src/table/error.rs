@@ -52,6 +52,16 @@ pub enum TableError {
     NoKeys,
     /// Says that the bytes, or those of this file, are not what a table writes.
     Damaged(Option<PathBuf>),
+    /// Says that the columns of the bytes, or of this file, that are kept as differences would take more bytes in
+    /// memory than the limit. No column is read then.
+    OverLimit {
+        /// Names the file.
+        path: Option<PathBuf>,
+        /// Counts the bytes.
+        bytes: u64,
+        /// Is the limit that was given, or that of [`LoadOptions::default`](crate::LoadOptions).
+        limit: u64,
+    },
     /// Says that a file is not read or not written.
     File {
         /// Names the file.
@@ -163,10 +173,21 @@ impl fmt::Display for TableError {
             TableError::OtherColumns(difference) => {
                 write!(formatter, "the tables have other columns: {difference}")
             }
-            TableError::NoKeys => formatter.write_str("at least one column has the keys"),
+            TableError::NoKeys => {
+                formatter.write_str("rows are sorted and grouped by at least one column")
+            }
             TableError::Damaged(None) => formatter.write_str("the bytes are not those of a table"),
             TableError::Damaged(Some(path)) => {
                 write!(formatter, "{} is not the file of a table", path.display())
+            }
+            TableError::OverLimit { path, bytes, limit } => {
+                if let Some(path) = path {
+                    write!(formatter, "{}: ", path.display())?;
+                }
+                write!(
+                    formatter,
+                    "the columns kept as differences take {bytes} bytes in memory, above the limit of {limit}"
+                )
             }
             TableError::File { path, error } => write!(formatter, "{}: {error}", path.display()),
             TableError::Arrow(error) => error.fmt(formatter),

@@ -65,7 +65,36 @@ impl TableFooter {
     }
 }
 
+impl TableFooter {
+    /// Counts the bytes that the rows of columns take which come back from their differences.
+    pub(super) fn kept_bytes<'a>(&self, columns: impl Iterator<Item = &'a ColumnFooter>) -> u64 {
+        columns.fold(0, |bytes: u64, column| {
+            bytes.saturating_add(column.kept_bytes(self.rows))
+        })
+    }
+}
+
 impl ColumnFooter {
+    /// Counts the rows that are written out, or the runs, where the column comes back from its differences.
+    pub(super) fn kept_items(&self, rows: usize) -> usize {
+        let found = self.rows.as_ref().and_then(|known| {
+            known.differences.map(|form| match form {
+                Form::Flat => rows,
+                _ => known.runs,
+            })
+        });
+        found.unwrap_or(0)
+    }
+
+    /// Counts their bytes: each as wide as its type, and 8 for the end of a run.
+    fn kept_bytes(&self, rows: usize) -> u64 {
+        let each = self.rows.as_ref().map_or(0, |known| {
+            let is_in_runs = known.differences == Some(Form::Runs);
+            (1 << (known.kind.number % 4)) + if is_in_runs { 8 } else { 0 }
+        });
+        (self.kept_items(rows) as u64).saturating_mul(each)
+    }
+
     fn may_have(&self, operator: Operator, value: Threshold) -> Result<bool, Error> {
         let Some(rows) = &self.rows else {
             return Ok(true);

@@ -8,18 +8,53 @@ use std::fs::File;
 use std::io::{self, Cursor, Read, Seek, SeekFrom};
 use std::path::{Path, PathBuf};
 
+/// Chooses how a table is read.
+#[derive(Clone, Copy, Debug, PartialEq, Eq)]
+pub struct LoadOptions {
+    /// Counts the bytes that the columns which are read and kept as differences may take in memory, all together; by
+    /// default 2^30. A few bytes may say that there are many rows.
+    pub limit: u64,
+}
+
+impl Default for LoadOptions {
+    fn default() -> LoadOptions {
+        LoadOptions { limit: 1 << 30 }
+    }
+}
+
 /// Tables that were kept.
 impl Table {
     /// Reads the table that [`Table::to_bytes`] wrote, each column in the form that it had; refused as `Damaged` for
-    /// bytes that are not those of a table.
+    /// bytes that are not those of a table, and as `OverLimit`.
     pub fn from_bytes(bytes: &[u8]) -> Result<Table, TableError> {
-        Kept::open(Box::new(Cursor::new(bytes)), None)?.table()
+        Table::from_bytes_with(bytes, LoadOptions::default())
     }
 
-    /// Reads the table that [`Table::save`] wrote to a file; refused as `Damaged` for other bytes, and as `File` where
-    /// the file is not read.
+    /// Reads the same in the way that the options choose.
+    ///
+    /// ```
+    /// use hivevigil::{Column, LoadOptions, SaveOptions, Table, TableError};
+    /// let at: Column = (0..1000).map(|row| 60 * row as i64).collect();
+    /// let table = Table::try_from_iter([("at", at)])?;
+    /// let short = table.to_bytes_with(SaveOptions { differences: true })?;
+    /// assert_eq!(Table::from_bytes_with(&short, LoadOptions { limit: 8000 })?, table);
+    /// let refused = Table::from_bytes_with(&short, LoadOptions { limit: 7999 }).unwrap_err();
+    /// assert!(matches!(refused, TableError::OverLimit { bytes: 8000, limit: 7999, .. }));
+    /// # Ok::<(), hivevigil::TableError>(())
+    /// ```
+    pub fn from_bytes_with(bytes: &[u8], options: LoadOptions) -> Result<Table, TableError> {
+        Kept::open(Box::new(Cursor::new(bytes)), None)?.table(options)
+    }
+
+    /// Reads the table that [`Table::save`] wrote to a file; refused as `Damaged` for other bytes, as `File` where the
+    /// file is not read, and as `OverLimit`.
     pub fn load(path: impl AsRef<Path>) -> Result<Table, TableError> {
-        Kept::of_file(path.as_ref())?.table()
+        Table::load_with(path, LoadOptions::default())
+    }
+
+    /// Reads the same in the way that the options choose.
+    pub fn load_with(path: impl AsRef<Path>, options: LoadOptions) -> Result<Table, TableError> {
+        Kept::of_file(path.as_ref())?.table(options)
     }
 
     /// Reads its columns of these names, in this order, and no other; refused also as `NoSuchColumn` and
@@ -28,12 +63,23 @@ impl Table {
         path: impl AsRef<Path>,
         names: impl IntoIterator<Item = impl AsRef<str>>,
     ) -> Result<Table, TableError> {
+        Table::load_columns_with(path, names, LoadOptions::default())
+    }
+
+    /// Reads the same in the way that the options choose.
+    pub fn load_columns_with(
+        path: impl AsRef<Path>,
+        names: impl IntoIterator<Item = impl AsRef<str>>,
+        options: LoadOptions,
+    ) -> Result<Table, TableError> {
         let names: Vec<_> = names.into_iter().collect();
         let mut kept = Kept::of_file(path.as_ref())?;
         refuse_twice(names.iter().map(AsRef::as_ref))?;
+        let mut known = Vec::new();
         for name in &names {
-            kept.footer.column(name.as_ref())?;
+            known.push(kept.footer.column(name.as_ref())?);
         }
+        kept.check_limit(kept.footer.kept_bytes(known.into_iter()), options)?;
         let columns = names.iter().map(|name| kept.entry(name.as_ref()));
         Ok(Table {
             entries: columns.collect::<Result<_, _>>()?,
@@ -142,7 +188,16 @@ impl<'a> Kept<'a> {
         })
     }
 
-    fn table(&mut self) -> Result<Table, TableError> {
+    fn check_limit(&self, bytes: u64, options: LoadOptions) -> Result<(), TableError> {
+        let (path, limit) = (self.path.clone(), options.limit);
+        match bytes <= limit {
+            true => Ok(()),
+            false => Err(TableError::OverLimit { path, bytes, limit }),
+        }
+    }
+
+    fn table(&mut self, options: LoadOptions) -> Result<Table, TableError> {
+        self.check_limit(self.footer.kept_bytes(self.footer.columns.iter()), options)?;
         let (mut entries, mut start) = (Vec::new(), head(self.version).len());
         for place in 0..self.footer.columns.len() {
             entries.push(self.entry_at(place, start)?);
@@ -196,7 +251,7 @@ impl ColumnFooter {
             .as_ref()
             .and_then(|rows| Some((rows.kind, rows.differences?)));
         let column = match differences {
-            Some((kind, form)) => differences::read(message, kind, form)?,
+            Some((kind, form)) => differences::read(message, kind, form, self.kept_items(rows))?,
             None => Column::from_bytes(message)?,
         };
         let (logical_type, form) = (
