@@ -2,6 +2,7 @@
  * as PostgreSQL has them: 0.0 equals -0.0, and NaNs are equal and above all else. */
 #include "pg_column.h"
 
+#include "float_buckets.h"
 #include "float_total.h"
 #include "hivevigil_helpers.h"
 #include "utils/builtins.h"
@@ -222,4 +223,35 @@ HV_FUNCTION(pg_hv_total_final) {
     if (!total || !total->any) PG_RETURN_NULL();
     if (float_total_overflows(total)) raise_past("hv_sum_all");
     PG_RETURN_FLOAT8(float_of_bits(float_total_bits(total)));
+}
+
+/* ---- Logical types and buckets ---- */
+
+/* The type of SQL says what the numbers are, and leaves no other logical type. */
+static Datum cast_to_own(FunctionCallInfo fcinfo, char own, const char *words) {
+    text *const asked = PG_GETARG_TEXT_PP(1);
+    if (VARSIZE_ANY_EXHDR(asked) != 1 || *VARDATA_ANY(asked) != own)
+        ereport(ERROR, (errcode(ERRCODE_INVALID_PARAMETER_VALUE),
+                        errmsg("hv_cast: a column of %s has the logical type '%c', and no other", words, own)));
+    return PG_GETARG_DATUM(0);
+}
+
+HV_FUNCTION(pg_hv_cast_float4) { return cast_to_own(fcinfo, 'f', "real"); }
+HV_FUNCTION(pg_hv_cast_float8) { return cast_to_own(fcinfo, 'g', "double precision"); }
+
+HV_FUNCTION(pg_hv_buckets_floats) {
+    const float_grid grid = {PG_GETARG_FLOAT8(1), PG_GETARG_FLOAT8(2)};
+    hv_error error = {0, 0, 0};
+    hv_column column = HV_EMPTY, made = HV_EMPTY;
+    if (!(grid.width > 0) || isinf(grid.width) || isnan(grid.origin) || isinf(grid.origin))
+        ereport(ERROR, (errcode(ERRCODE_INVALID_PARAMETER_VALUE),
+                        errmsg("hv_buckets: a width is finite and above 0, and an origin is finite")));
+    hv_floats_of("hv_buckets", PG_GETARG_BYTEA_PP(0), &column);
+    const int32_t answer = float_column_buckets(&column, grid, &made, &error);
+    hv_free(&column);
+    if (answer == HV_CAST_OUT_OF_RANGE)
+        ereport(ERROR, (errcode(ERRCODE_NUMERIC_VALUE_OUT_OF_RANGE), errmsg("hv_buckets: double precision out of range"),
+                        errdetail("The bucket of row " UINT64_FORMAT " leaves the range.", (uint64)error.first)));
+    hv_raise("hv_buckets", answer, &error);
+    PG_RETURN_BYTEA_P(hv_bytes_of_column("hv_buckets", &made));
 }

@@ -7,7 +7,7 @@
 
 enum { MOST = 7 };
 
-/* What is asked of each group, and whether its key is a text or a number. */
+/* What is asked of each group, and whether its key is a text, a number or, HV_UNSIGNED, the bits of a float. */
 typedef struct question {
     const char *name;
     uint8_t key;
@@ -88,8 +88,10 @@ static Datum shown_answer(const hv_value *value, uint8_t fold, uint8_t type) {
 static Datum shown_key(const char *function, const hv_value *value, const uint8_t *text, uint8_t kind) {
     if (value->kind != kind)
         ereport(ERROR, (errcode(ERRCODE_DATATYPE_MISMATCH),
-                        errmsg("%s: keys are not a column of %s", function, kind == HV_TEXT ? "texts" : "numbers")));
+                        errmsg("%s: keys are not a column of %s", function,
+                               kind == HV_TEXT ? "texts" : kind == HV_SIGNED ? "numbers" : "floats")));
     if (kind == HV_SIGNED) return Int64GetDatum(value->as_signed);
+    if (kind == HV_UNSIGNED) return hv_float_datum(ROW_FLOAT64, value->as_unsigned);
     return PointerGetDatum(hv_text_of(function, text, value->as_unsigned));
 }
 
@@ -119,7 +121,7 @@ static Datum next(const question *asked, FunctionCallInfo fcinfo) {
     SRF_RETURN_NEXT(calls, HeapTupleGetDatum(heap_form_tuple(calls->tuple_desc, row, nulls)));
 }
 
-/* The function of SQL that is called by a number as its key, and that which is called by a text. */
+/* The function of SQL that is called by a number as its key, by a text, and by a double precision. */
 #define HV_ASKED(name, count, ...)                                                                                     \
     HV_FUNCTION(pg_hv_##name##_numbers) {                                                                              \
         static const question asked = {"hv_" #name, HV_SIGNED, count, {__VA_ARGS__}};                                  \
@@ -127,6 +129,10 @@ static Datum next(const question *asked, FunctionCallInfo fcinfo) {
     }                                                                                                                  \
     HV_FUNCTION(pg_hv_##name##_texts) {                                                                                \
         static const question asked = {"hv_text_" #name, HV_TEXT, count, {__VA_ARGS__}};                               \
+        return next(&asked, fcinfo);                                                                                   \
+    }                                                                                                                  \
+    HV_FUNCTION(pg_hv_##name##_floats) {                                                                               \
+        static const question asked = {"hv_" #name, HV_UNSIGNED, count, {__VA_ARGS__}};                                \
         return next(&asked, fcinfo);                                                                                   \
     }
 

@@ -85,9 +85,11 @@ updated() {
     ask -c "CREATE DATABASE updated"
     found=$(ask_of one -d updated -At -c "CREATE EXTENSION hivevigil VERSION '1.0'" \
         -c "CREATE TABLE kept AS SELECT hv_column(g) AS c FROM generate_series(1, 4) g" \
-        -c "ALTER EXTENSION hivevigil UPDATE TO '1.1'" -c "ALTER EXTENSION hivevigil UPDATE" \
-        -c "SELECT hv_sum(hv_cast(c, 'tdD')), pg_typeof(hv_column(0.5)) FROM kept GROUP BY c")
-    [ "$found" = "10|hvfloat8" ] || fail "an update of the extension leaves $found"
+        -c "ALTER EXTENSION hivevigil UPDATE TO '1.1'" -c "ALTER EXTENSION hivevigil UPDATE TO '1.2'" \
+        -c "ALTER EXTENSION hivevigil UPDATE" \
+        -c "SELECT hv_sum(hv_cast(c, 'tdD')), pg_typeof(hv_column(0.5)), hv_logical_type(hv_column(0.5::real)) \
+            FROM kept GROUP BY c")
+    [ "$found" = "10|hvfloat8|f" ] || fail "an update of the extension leaves $found"
 }
 # columns with a logical type as bytes by hand, and what is answered of them
 typed_questions() {

@@ -55,6 +55,29 @@ SELECT same('SELECT pg_typeof(c), pg_typeof(d), hv_type(c), hv_type(d) FROM fp',
           FROM fp) x', 'SELECT 0.1::real::float8, 0.1::real::float8, NULL')
 \g /dev/null
 
+-- logical types, buckets, and keys that are floats
+SELECT same($$SELECT hv_logical_type(c), hv_logical_type(d), hv_cast(c, 'g') = c, hv_cast(d, 'f') = d,
+              pg_typeof(hv_cast(d, 'f')), hv_logical_type(NULL::hvfloat8) FROM fp$$,
+            $$SELECT 'g', 'f', true, true, 'hvfloat4', NULL$$),
+    refused($$SELECT hv_cast(c, 'f') FROM fp$$,
+            $$hv_cast: a column of double precision has the logical type 'g', and no other$$),
+    refused($$SELECT hv_cast(d, '') FROM fp$$, $$hv_cast: a column of real has the logical type 'f', and no other$$),
+    same('SELECT u.* FROM fp, hv_runs(hv_buckets(c, 1)) u', $$VALUES (0, 2, 1::float8), (2, 3, NULL), (3, 4, -1),
+         (4, 5, 'Infinity'), (5, 7, 0)$$),
+    same('SELECT u.* FROM fp, hv_runs(hv_buckets(d, 0.5, 0.25)) u', $$VALUES (0, 2, 1.25::float8), (2, 3, NULL),
+         (3, 4, -0.25), (4, 5, 'NaN'), (5, 7, -0.25)$$),
+    refused('SELECT hv_buckets(c, 0) FROM fp', 'hv_buckets: a width is finite and above 0, and an origin is finite'),
+    refused($$SELECT hv_buckets(c, 1, 'NaN') FROM fp$$,
+            'hv_buckets: a width is finite and above 0, and an origin is finite'),
+    refused('SELECT hv_buckets(hv_column(1.7e308::float8), 1, -1.7e308)', 'hv_buckets: double precision out of range'),
+    same('SELECT g.key, g.rows, g.count, g.first FROM fp, hv_groups(c, d) g',
+         $$VALUES (1.5::float8, 2, 2, 1.5::float8), (NULL, 1, 0, NULL), (-0.25, 1, 1, 0.1::real), ('Infinity', 1, 1,
+         'NaN'), ('-0', 1, 1, '-0'), (0, 1, 1, 0)$$),
+    same('SELECT g.* FROM fp, hv_count_by(d, hv_compare(c, ''<'', 1)) g',
+         $$VALUES (1.5::float8, 2), (NULL, 0), (0.1::real, 1), ('NaN', 1), ('-0', 1), (0, 1)$$),
+    refused('SELECT g.* FROM fp, hv_sum_by(hv_slice(c, 0, 2), d) g', 'hv_sum_by: a length of 2 next to one of 7')
+\g /dev/null
+
 -- which column is made of an argument
 SELECT same('SELECT pg_typeof(hv_column(1)), pg_typeof(hv_column(1::smallint)), pg_typeof(hv_column(1::bigint)),
              pg_typeof(hv_column(1.5)), pg_typeof(hv_column(1::real)), pg_typeof(hv_repeat(1, 2)),
@@ -200,6 +223,20 @@ BEGIN
                     max(%1$s) + 0, (array_agg(%1$s ORDER BY n) FILTER (WHERE %1$s IS NOT NULL))[1],
                     (array_agg(%1$s ORDER BY n DESC) FILTER (WHERE %1$s IS NOT NULL))[1]
                     FROM rf GROUP BY g ORDER BY g', plain));
+        -- keys that are floats, by their bits; those of real as double precision
+        PERFORM same(format('SELECT key, rows, count, sum, first FROM (SELECT hv_column(%s ORDER BY n) AS f,
+                             hv_column(k ORDER BY n) AS c FROM rf) x, hv_groups(f, c)', plain),
+            format('SELECT min(v), count(*), count(k), sum(k), (array_agg(k ORDER BY n) FILTER (WHERE k IS NOT NULL))[1]
+                    FROM (SELECT n, v, k, sum(s) OVER (ORDER BY n) AS g FROM (SELECT n, v, k,
+                    (n = 1 OR b IS DISTINCT FROM lag(b) OVER (ORDER BY n))::int AS s
+                    FROM (SELECT n, k, %1$s::float8 AS v, %2$s(%1$s) AS b FROM rf) w) y) z GROUP BY g ORDER BY g', plain,
+                    CASE plain WHEN 'v' THEN 'float8send' ELSE 'float4send' END));
+        PERFORM same(format('SELECT m.key, m.min + 0, n.max + 0, c.count FROM (SELECT hv_column((n / 3)::float8
+                             ORDER BY n) AS f, hv_column(%s ORDER BY n) AS c FROM rf) x, hv_min_by(f, c) m
+                             JOIN LATERAL hv_max_by(f, c) n USING (key) JOIN LATERAL hv_count_by(f, c) c USING (key)
+                             ORDER BY key', plain),
+            format('SELECT (n / 3)::float8 AS key, min(%1$s)::float8 + 0, max(%1$s)::float8 + 0, count(%1$s) FROM rf
+                    GROUP BY key ORDER BY key', plain));
         PERFORM same(format('SELECT key, s.sum, max + 0 FROM (SELECT hv_column(''k'' || (n - 1) / 5 ORDER BY n) AS k,
                              hv_column(%s ORDER BY n) AS c FROM rf) x, hv_text_sum_by(k, c) s
                              JOIN LATERAL hv_text_max_by(k, c) m USING (key) ORDER BY key COLLATE "C"', plain),
@@ -232,6 +269,16 @@ BEGIN
                      'SELECT sum(v), sum(v) FROM rf')
         FROM rf WHERE v IN ('NaN', 'Infinity', '-Infinity') LIMIT 1;
     ELSE
+        -- buckets in whole numbers of 2^-20
+        FOREACH a IN ARRAY ARRAY[1, 262144, 1000003] LOOP
+            PERFORM same(format('SELECT hv_buckets(hv_column(v ORDER BY n), %s / 1048576::float8, 0.125)::text
+                                 FROM rf', a),
+                format('SELECT hv_column((k - ((k - 131072) %% %1$s + %1$s) %% %1$s)::float8 / 1048576 ORDER BY n)::text
+                        FROM rf', a));
+            PERFORM same(format('SELECT hv_buckets(hv_column(r ORDER BY n), %s)::text FROM rf', a),
+                format('SELECT hv_column((r::bigint - (r::bigint %% %1$s + %1$s) %% %1$s)::float8 ORDER BY n)::text
+                        FROM rf', a));
+        END LOOP;
         PERFORM same('SELECT hv_sum(hv_column(v)), hv_sum(hv_column(r)) FROM rf',
                      'SELECT sum(k)::double precision / 1048576, sum(k % 16777216)::double precision FROM rf');
         PERFORM same('SELECT hv_sum_all(c), hv_sum_all(d) FROM (SELECT hv_column(v) AS c, hv_column(r) AS d FROM rf
