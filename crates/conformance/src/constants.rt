@@ -39,11 +39,7 @@ fn left_of(
 #[test]
 fn a_command_writes_a_constant_out(rt: HostRuntime) -> Result<(), Fail> {
     let seven = Some(ScalarValue::Signed(7));
-    let column = left_of(
-        seven,
-        Command::Cast(SHORT),
-        &mut full_context(rt.alloc()),
-    )?;
+    let column = left_of(seven, Command::Cast(SHORT), &mut full_context(rt.alloc()))?;
     let is_flat = matches!(&column, ArrayRef::Primitive(rows) if rows.len() == 2);
     drop(column);
     assert!(rt; is_flat);

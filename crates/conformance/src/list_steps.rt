@@ -44,17 +44,6 @@ pub(crate) enum Due {
     Refused(VortexError),
 }
 
-// The number in a type with null.
-fn scalar<A: Allocator>(number: i64) -> VortexResult<Scalar<A>> {
-    let dtype = DType::Primitive(PType::I64, Nullability::Nullable);
-    Scalar::try_new(dtype, Some(ScalarValue::Signed(number)))
-}
-
-// A flat column of the numbers.
-fn numbers<A: Allocator + Copy>(alloc: A, items: &[i64]) -> VortexResult<ArrayRef<A>> {
-    Ok(ArrayRef::Primitive(required(alloc, items)?))
-}
-
 /// Makes the command of a step.
 pub(crate) fn command_of<A: Allocator + Copy>(
     step: &Step<'_>,
@@ -82,17 +71,6 @@ pub(crate) fn command_of<A: Allocator + Copy>(
     })
 }
 
-// The number that a view shows, 1 or 0 for a boolean, or `None` for null; nothing for texts and lists.
-fn shown<A: Allocator>(view: ScalarView<'_, A>) -> Option<Option<i64>> {
-    match view {
-        ScalarView::Null => Some(None),
-        ScalarView::Signed(number) => Some(Some(number)),
-        ScalarView::Unsigned(number) => Some(i64::try_from(number).ok()),
-        ScalarView::Bool(truth) => Some(Some(i64::from(truth))),
-        _ => None,
-    }
-}
-
 /// Returns whether the rows are these.
 pub(crate) fn shows<A: Allocator + Copy>(column: &ArrayRef<A>, rows: &[Option<i64>]) -> bool {
     for index in 0..rows.len() {
@@ -102,6 +80,44 @@ pub(crate) fn shows<A: Allocator + Copy>(column: &ArrayRef<A>, rows: &[Option<i6
         }
     }
     column.len() == rows.len()
+}
+
+/// Returns whether the answers are those that are due. Refused where a command was refused for memory.
+pub(crate) fn are_due<A: Allocator>(answers: &[Answer<A>], due: &[Due]) -> VortexResult<bool> {
+    if answers.len() != due.len() {
+        return Ok(false);
+    }
+    for index in 0..due.len() {
+        if matches!(&answers[index], Answer::Refused(VortexError::OutOfMemory)) {
+            return Err(VortexError::OutOfMemory);
+        }
+        if !is_due(&answers[index], due[index]) {
+            return Ok(false);
+        }
+    }
+    Ok(true)
+}
+
+// The number in a type with null.
+fn scalar<A: Allocator>(number: i64) -> VortexResult<Scalar<A>> {
+    let dtype = DType::Primitive(PType::I64, Nullability::Nullable);
+    Scalar::try_new(dtype, Some(ScalarValue::Signed(number)))
+}
+
+// A flat column of the numbers.
+fn numbers<A: Allocator + Copy>(alloc: A, items: &[i64]) -> VortexResult<ArrayRef<A>> {
+    Ok(ArrayRef::Primitive(required(alloc, items)?))
+}
+
+// The number that a view shows, 1 or 0 for a boolean, or `None` for null; nothing for texts and lists.
+fn shown<A: Allocator>(view: ScalarView<'_, A>) -> Option<Option<i64>> {
+    match view {
+        ScalarView::Null => Some(None),
+        ScalarView::Signed(number) => Some(Some(number)),
+        ScalarView::Unsigned(number) => Some(i64::try_from(number).ok()),
+        ScalarView::Bool(truth) => Some(Some(i64::from(truth))),
+        _ => None,
+    }
 }
 
 // Is the answer the one that is due?
@@ -127,20 +143,4 @@ fn sum_of(value: SumValue, is_empty: bool) -> SumAnswer {
         sum: Some(value),
         is_empty,
     }
-}
-
-/// Returns whether the answers are those that are due. Refused where a command was refused for memory.
-pub(crate) fn are_due<A: Allocator>(answers: &[Answer<A>], due: &[Due]) -> VortexResult<bool> {
-    if answers.len() != due.len() {
-        return Ok(false);
-    }
-    for index in 0..due.len() {
-        if matches!(&answers[index], Answer::Refused(VortexError::OutOfMemory)) {
-            return Err(VortexError::OutOfMemory);
-        }
-        if !is_due(&answers[index], due[index]) {
-            return Ok(false);
-        }
-    }
-    Ok(true)
 }

@@ -55,10 +55,7 @@ const REFUSED_AND_TAKEN: Case = Case {
         Step::IsSorted(false),
     ],
     due: &[
-        Due::Refused(VortexError::MaskLength {
-            mask: 2,
-            length: 9,
-        }),
+        Due::Refused(VortexError::MaskLength { mask: 2, length: 9 }),
         Due::Refused(VortexError::BadRange {
             start: 3,
             stop: 2,
@@ -141,10 +138,7 @@ const COMPARED_BESIDE: Case = Case {
         Step::IsConstant,
     ],
     due: &[
-        Due::Refused(VortexError::ColumnLength {
-            left: 9,
-            right: 2,
-        }),
+        Due::Refused(VortexError::ColumnLength { left: 9, right: 2 }),
         Due::Done,
         Due::Done,
         Due::Bool(false),

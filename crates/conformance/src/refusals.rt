@@ -17,8 +17,10 @@ fn numbers_with_few_flags(alloc: Global) -> VortexResult<()> {
     let flags = bits(alloc, &[true, false])?;
     match Vec::from_slice(alloc, &[1u8, 2, 3]) {
         Ok(items) => {
-            let made =
-                PrimitiveArray::try_new(PrimitiveValues::from_vec(items), Validity::Bits(flags));
+            let made = PrimitiveArray::try_new(
+                PrimitiveValues::from_vec(items),
+                Validity::Bits(flags),
+            );
             made.map(drop)
         }
         Err(error) => {
@@ -40,8 +42,12 @@ fn texts_in(alloc: Global, bytes: &[u8]) -> VortexResult<()> {
     buffers.push_reserved(bytes);
     match Vec::from_slice(alloc, &[view(0, 2), view(2, 2)]) {
         Ok(views) => {
-            let made =
-                VarBinViewArray::try_new(views, buffers, VarBinKind::Utf8, Validity::NonNullable);
+            let made = VarBinViewArray::try_new(
+                views,
+                buffers,
+                VarBinKind::Utf8,
+                Validity::NonNullable,
+            );
             made.map(drop)
         }
         Err(error) => {
@@ -73,7 +79,10 @@ fn rows(ctx: &mut ExecutionCtx<Global>) -> VortexResult<ArrayRef<Global>> {
 // A comparison of these with a number of 32 bits.
 fn compared_with_another_width(ctx: &mut ExecutionCtx<Global>) -> VortexResult<()> {
     let dtype = DType::Primitive(PType::I32, Nullability::NonNullable);
-    let (rows, value) = both(rows(ctx), Scalar::try_new(dtype, Some(ScalarValue::Signed(7))))?;
+    let (rows, value) = both(
+        rows(ctx),
+        Scalar::try_new(dtype, Some(ScalarValue::Signed(7))),
+    )?;
     let compared = arrays::compare_scalar(&rows, CompareOperator::Eq, &value, ctx);
     drop(value);
     drop(rows);
@@ -98,10 +107,7 @@ fn makers_refuse_parts_that_do_not_fit(rt: HostRuntime) -> Result<(), Fail> {
         texts_in(alloc, b"ab\xFF\xFE"),
     ];
     let due = [
-        Err(VortexError::ColumnLength {
-            left: 3,
-            right: 2,
-        }),
+        Err(VortexError::ColumnLength { left: 3, right: 2 }),
         Err(VortexError::OutOfBounds {
             index: 1,
             length: 2,
