@@ -163,7 +163,12 @@ fn cast_runs<C: NumberCast, A: Allocator + Copy>(
 {
     let (ends, values) = row_runs(alloc, column)?;
     match values {
-        FlatColumn::Primitive(array) => cast_shown(alloc, &ends, &array, cast, column.len()),
+        FlatColumn::Primitive(array) => {
+            let parts = cast_shown(alloc, &ends, &array, cast, column.len());
+            drop(array);
+            drop(ends);
+            parts
+        }
         _ => unreachable!(),
     }
 }
@@ -189,5 +194,7 @@ fn cast_shown<C: NumberCast, A: Allocator + Copy>(
 {
     let made = cast_numbers(alloc, array, cast)?;
     let made = FlatColumn::Primitive(made);
-    encode_runs(alloc, ends, &made, 0, count)
+    let parts = encode_runs(alloc, ends, &made, 0, count);
+    drop(made);
+    parts
 }

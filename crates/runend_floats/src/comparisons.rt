@@ -89,7 +89,11 @@ fn tested_rows<T: KeyTest, A: Allocator + Copy>(
 {
     let (ends, values) = row_runs(*ctx.allocator(), column)?;
     match values {
-        FlatColumn::Primitive(keys) => tested_runs(ends, &keys, test, column.len(), ctx),
+        FlatColumn::Primitive(keys) => {
+            let truths = tested_runs(ends, &keys, test, column.len(), ctx);
+            drop(keys);
+            truths
+        }
         _ => unreachable!(),
     }
 }

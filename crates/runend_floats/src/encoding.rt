@@ -59,7 +59,12 @@ fn key_runs<A: Allocator + Copy>(
 {
     let (ends, values) = row_runs(alloc, bits)?;
     match values {
-        FlatColumn::Primitive(numbers) => keyed_runs(alloc, &ends, &numbers, patterns, bits.len()),
+        FlatColumn::Primitive(numbers) => {
+            let parts = keyed_runs(alloc, &ends, &numbers, patterns, bits.len());
+            drop(numbers);
+            drop(ends);
+            parts
+        }
         _ => unreachable!(),
     }
 }
@@ -85,5 +90,7 @@ fn keyed_runs<A: Allocator + Copy>(
 {
     let keys = keys_of(alloc, bits, patterns)?;
     let keys = FlatColumn::Primitive(keys);
-    encode_runs(alloc, ends, &keys, 0, count)
+    let parts = encode_runs(alloc, ends, &keys, 0, count);
+    drop(keys);
+    parts
 }

@@ -70,7 +70,12 @@ fn extreme_keys<T: KeyTest, A: Allocator + Copy>(
 {
     let (_ends, values) = row_runs(*ctx.allocator(), column)?;
     match values {
-        FlatColumn::Primitive(keys) => Ok(extremes_of(&keys, test)),
+        FlatColumn::Primitive(keys) => {
+            let extremes = extremes_of(&keys, test);
+            drop(keys);
+            drop(_ends);
+            Ok(extremes)
+        }
         _ => unreachable!(),
     }
 }

@@ -39,7 +39,12 @@ pub fn sum_floats<A: Allocator + Copy>(
     let format = format_of_column(column.dtype())?;
     let (ends, values) = row_runs(*ctx.allocator(), column)?;
     match values {
-        FlatColumn::Primitive(keys) => Ok(sum_runs(format, &ends, &keys)),
+        FlatColumn::Primitive(keys) => {
+            let sum = sum_runs(format, &ends, &keys);
+            drop(keys);
+            drop(ends);
+            Ok(sum)
+        }
         _ => unreachable!(),
     }
 }

@@ -18,29 +18,29 @@ use Rattle.runend_floats.proofs.CoveredRows.{keys_cover, shown_mapped, whole_run
 use Rattle.runend_floats.proofs.TestedRows.{form_of_rows, if_both}
 use Rattle.runend_floats.proofs.comparisons.tested_rows.Goals as goal
 
-pub tested_runs-requires-clause-plain : goal.tested_runs-requires-clause-plain
-tested_runs-requires-clause-plain g c =
+pub tested_runs-truths-requires-clause-plain : goal.tested_runs-truths-requires-clause-plain
+tested_runs-truths-requires-clause-plain g c =
     let column = c.args.column.now in
     let keys = c.in-Primitive.keys in
     let e : IsRowEncoding (rows column) (dtype_of column) c.in_ok-ends.ends (OfNumbers keys) = rw c.in-Primitive.is at c.in_ok-ends.ensures.encoding in
     (whole_runs (rows column) (dtype_of column) c.in_ok-ends.ends (OfNumbers keys) e).plain
 
-pub tested_runs-requires-clause-window : goal.tested_runs-requires-clause-window
-tested_runs-requires-clause-window g c =
+pub tested_runs-truths-requires-clause-window : goal.tested_runs-truths-requires-clause-window
+tested_runs-truths-requires-clause-window g c =
     let column = c.args.column.now in
     let keys = c.in-Primitive.keys in
     let e : IsRowEncoding (rows column) (dtype_of column) c.in_ok-ends.ends (OfNumbers keys) = rw c.in-Primitive.is at c.in_ok-ends.ensures.encoding in
     subst (λ (n : ℕ). IsWindow (ends_of c.in_ok-ends.ends) 0 n) (sym c.len.ensures) e.cover.covers.window
 
-pub tested_runs-requires-clause-paired : goal.tested_runs-requires-clause-paired
-tested_runs-requires-clause-paired g c =
+pub tested_runs-truths-requires-clause-paired : goal.tested_runs-truths-requires-clause-paired
+tested_runs-truths-requires-clause-paired g c =
     let column = c.args.column.now in
     let keys = c.in-Primitive.keys in
     let e : IsRowEncoding (rows column) (dtype_of column) c.in_ok-ends.ends (OfNumbers keys) = rw c.in-Primitive.is at c.in_ok-ends.ensures.encoding in
     (keys_cover (rows column) (dtype_of column) c.in_ok-ends.ends keys e).paired
 
-pub tested_runs-requires-clause-native : goal.tested_runs-requires-clause-native
-tested_runs-requires-clause-native g c =
+pub tested_runs-truths-requires-clause-native : goal.tested_runs-truths-requires-clause-native
+tested_runs-truths-requires-clause-native g c =
     let column = c.args.column.now in
     let keys = c.in-Primitive.keys in
     let e : IsRowEncoding (rows column) (dtype_of column) c.in_ok-ends.ends (OfNumbers keys) = rw c.in-Primitive.is at c.in_ok-ends.ensures.encoding in
@@ -53,16 +53,16 @@ returns-clause-rows g c =
     let test = g.T.KeyTest.passes c.args.test.now in
     let e : IsRowEncoding (rows column) (dtype_of column) c.in_ok-ends.ends (OfNumbers keys) = rw c.in-Primitive.is at c.in_ok-ends.ensures.encoding in
     let cover = keys_cover (rows column) (dtype_of column) c.in_ok-ends.ends keys e in
-    subst (λ (shown : List (Option Value)). IfOk c.tested_runs.result (λ truths. rows truths ≡ shown))
+    subst (λ (shown : List (Option Value)). IfOk c.tested_runs-truths.result (λ truths. rows truths ≡ shown))
     (shown_mapped (tested_row test) (map number_in (rows column)) (ends_of c.in_ok-ends.ends) (optional_numbers keys) c.len.result cover (length-map (rows column) number_in ∙ sym c.len.ensures))
-    c.tested_runs.ensures.rows
+    c.tested_runs-truths.ensures.rows
 
 pub returns-clause-dtype : goal.returns-clause-dtype
 returns-clause-dtype g c =
     let column = c.args.column.now in
     let keys = c.in-Primitive.keys in
     let e : IsRowEncoding (rows column) (dtype_of column) c.in_ok-ends.ends (OfNumbers keys) = rw c.in-Primitive.is at c.in_ok-ends.ensures.encoding in
-    subst (λ (t : DType). IfOk c.tested_runs.result (λ truths. dtype_of truths ≡ types.Bool (nullability_of t))) e.typed c.tested_runs.ensures.dtype
+    subst (λ (t : DType). IfOk c.tested_runs-truths.result (λ truths. dtype_of truths ≡ types.Bool (nullability_of t))) e.typed c.tested_runs-truths.ensures.dtype
 
 pub returns-clause-form : goal.returns-clause-form
 returns-clause-form g c =
@@ -72,5 +72,5 @@ returns-clause-form g c =
     let e : IsRowEncoding (rows column) (dtype_of column) c.in_ok-ends.ends (OfNumbers keys) = rw c.in-Primitive.is at c.in_ok-ends.ensures.encoding in
     let cover = keys_cover (rows column) (dtype_of column) c.in_ok-ends.ends keys e in
     let shown = shown_mapped (tested_row test) (map number_in (rows column)) (ends_of c.in_ok-ends.ends) (optional_numbers keys) c.len.result cover (length-map (rows column) number_in ∙ sym c.len.ensures) in
-    if_both c.tested_runs.result (λ truths same form. form_of_rows (tested_row test) (rows column) (ends_of c.in_ok-ends.ends) keys (rows truths) (column_of truths) e.cover (same ∙ shown) form)
-    c.tested_runs.ensures.rows c.tested_runs.ensures.form
+    if_both c.tested_runs-truths.result (λ truths same form. form_of_rows (tested_row test) (rows column) (ends_of c.in_ok-ends.ends) keys (rows truths) (column_of truths) e.cover (same ∙ shown) form)
+    c.tested_runs-truths.ensures.rows c.tested_runs-truths.ensures.form

@@ -16,37 +16,37 @@ use Rattle.column_floats.specs.Patterns.{stored_key}
 use Rattle.runend_floats.proofs.CoveredRows.{each_has_row, shown_mapped, whole_runs}
 use Rattle.runend_floats.proofs.encoding.key_runs.Goals as goal
 
-pub keyed_runs-requires-clause-plain : goal.keyed_runs-requires-clause-plain
-keyed_runs-requires-clause-plain g c =
+pub keyed_runs-parts-requires-clause-plain : goal.keyed_runs-parts-requires-clause-plain
+keyed_runs-parts-requires-clause-plain g c =
     let array = c.args.bits.now in
     let numbers = c.in-Primitive.numbers in
     let e : IsRowEncoding (rows array) (dtype_of array) c.in_ok-ends.ends (OfNumbers numbers) = rw c.in-Primitive.is at c.in_ok-ends.ensures.encoding in
     (whole_runs (rows array) (dtype_of array) c.in_ok-ends.ends (OfNumbers numbers) e).plain
 
-pub keyed_runs-requires-clause-window : goal.keyed_runs-requires-clause-window
-keyed_runs-requires-clause-window g c =
+pub keyed_runs-parts-requires-clause-window : goal.keyed_runs-parts-requires-clause-window
+keyed_runs-parts-requires-clause-window g c =
     let array = c.args.bits.now in
     let numbers = c.in-Primitive.numbers in
     let e : IsRowEncoding (rows array) (dtype_of array) c.in_ok-ends.ends (OfNumbers numbers) = rw c.in-Primitive.is at c.in_ok-ends.ensures.encoding in
     subst (λ (n : ℕ). IsWindow (ends_of c.in_ok-ends.ends) 0 n) (sym c.len.ensures) e.cover.covers.window
 
-pub keyed_runs-requires-clause-paired : goal.keyed_runs-requires-clause-paired
-keyed_runs-requires-clause-paired g c =
+pub keyed_runs-parts-requires-clause-paired : goal.keyed_runs-parts-requires-clause-paired
+keyed_runs-parts-requires-clause-paired g c =
     let array = c.args.bits.now in
     let numbers = c.in-Primitive.numbers in
     let e : IsRowEncoding (rows array) (dtype_of array) c.in_ok-ends.ends (OfNumbers numbers) = rw c.in-Primitive.is at c.in_ok-ends.ensures.encoding in
     e.cover.covers.paired
 
-pub keyed_runs-requires-clause-shown : goal.keyed_runs-requires-clause-shown
-keyed_runs-requires-clause-shown g c =
+pub keyed_runs-parts-requires-clause-shown : goal.keyed_runs-parts-requires-clause-shown
+keyed_runs-parts-requires-clause-shown g c =
     let array = c.args.bits.now in
     let numbers = c.in-Primitive.numbers in
     let e : IsRowEncoding (rows array) (dtype_of array) c.in_ok-ends.ends (OfNumbers numbers) = rw c.in-Primitive.is at c.in_ok-ends.ensures.encoding in
     λ run within. subst (λ (n : ℕ). HasRow (ends_of c.in_ok-ends.ends) 0 n run) (sym c.len.ensures)
     (each_has_row (rows array) (ends_of c.in_ok-ends.ends) (single_rows (OfNumbers numbers)) e.cover run within)
 
-pub keyed_runs-requires-clause-native : goal.keyed_runs-requires-clause-native
-keyed_runs-requires-clause-native g c =
+pub keyed_runs-parts-requires-clause-native : goal.keyed_runs-parts-requires-clause-native
+keyed_runs-parts-requires-clause-native g c =
     let array = c.args.bits.now in
     let numbers = c.in-Primitive.numbers in
     let e : IsRowEncoding (rows array) (dtype_of array) c.in_ok-ends.ends (OfNumbers numbers) = rw c.in-Primitive.is at c.in_ok-ends.ensures.encoding in
@@ -59,5 +59,5 @@ returns-clause-encoding g c =
     let e : IsRowEncoding (rows array) (dtype_of array) c.in_ok-ends.ends (OfNumbers numbers) = rw c.in-Primitive.is at c.in_ok-ends.ensures.encoding in
     let ends = ends_of c.in_ok-ends.ends in
     let shown = shown_mapped (key_row (stored_key c.args.patterns (format_of (primitive_dtype numbers)))) (rows array) ends (single_rows (OfNumbers numbers)) c.len.result e.cover.covers (sym c.len.ensures) in
-    subst (λ (t : DType). IfOk c.keyed_runs.result (λ parts. IsRowEncoding (map (key_row (stored_key c.args.patterns (format_of t))) (rows array)) (keys_dtype t) parts.0 (leaf_of parts.1))) e.typed
-    (subst (λ (rows : List (Option Value)). IfOk c.keyed_runs.result (λ parts. IsRowEncoding rows (keys_dtype (primitive_dtype numbers)) parts.0 (leaf_of parts.1))) shown c.keyed_runs.ensures.encoding)
+    subst (λ (t : DType). IfOk c.keyed_runs-parts.result (λ parts. IsRowEncoding (map (key_row (stored_key c.args.patterns (format_of t))) (rows array)) (keys_dtype t) parts.0 (leaf_of parts.1))) e.typed
+    (subst (λ (rows : List (Option Value)). IfOk c.keyed_runs-parts.result (λ parts. IsRowEncoding rows (keys_dtype (primitive_dtype numbers)) parts.0 (leaf_of parts.1))) shown c.keyed_runs-parts.ensures.encoding)

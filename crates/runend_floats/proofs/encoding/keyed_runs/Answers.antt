@@ -15,8 +15,8 @@ use Rattle.column_floats.specs.Formats.{format_of_width, keys_dtype}
 use Rattle.column_floats.specs.Patterns.{stored_key}
 use Rattle.runend_floats.proofs.encoding.keyed_runs.Goals as goal
 
-pub encode_runs-requires-clause-paired : goal.encode_runs-requires-clause-paired
-encode_runs-requires-clause-paired g c =
+pub encode_runs-parts-requires-clause-paired : goal.encode_runs-parts-requires-clause-paired
+encode_runs-parts-requires-clause-paired g c =
     sym (length-single (OfNumbers c.in_ok-keys.keys)) ∙ ap length c.in_ok-keys.ensures.rows
     ∙ length-map (single_rows (OfNumbers c.args.bits.now)) (key_row (stored_key c.args.patterns (format_of_width c.args.bits.now.ptype))) ∙ c.requires.paired
 
@@ -24,5 +24,5 @@ pub returns-clause-encoding : goal.returns-clause-encoding
 returns-clause-encoding g c =
     let keys = c.in_ok-keys.keys in
     let ends = ends_of c.args.ends.now in
-    subst (λ (values : List (Option Value)). IfOk c.encode_runs.result (λ parts. IsRowEncoding (run_rows ends values 0 c.args.count) (keys_dtype (primitive_dtype c.args.bits.now)) parts.0 (leaf_of parts.1))) c.in_ok-keys.ensures.rows
-    (subst (λ (t : DType). IfOk c.encode_runs.result (λ parts. IsRowEncoding (run_rows ends (single_rows (OfNumbers keys)) 0 c.args.count) t parts.0 (leaf_of parts.1))) c.in_ok-keys.ensures.dtype c.encode_runs.ensures.encoding)
+    subst (λ (values : List (Option Value)). IfOk c.encode_runs-parts.result (λ parts. IsRowEncoding (run_rows ends values 0 c.args.count) (keys_dtype (primitive_dtype c.args.bits.now)) parts.0 (leaf_of parts.1))) c.in_ok-keys.ensures.rows
+    (subst (λ (t : DType). IfOk c.encode_runs-parts.result (λ parts. IsRowEncoding (run_rows ends (single_rows (OfNumbers keys)) 0 c.args.count) t parts.0 (leaf_of parts.1))) c.in_ok-keys.ensures.dtype c.encode_runs-parts.ensures.encoding)

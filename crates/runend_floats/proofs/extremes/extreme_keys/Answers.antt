@@ -11,8 +11,8 @@ use Rattle.column_floats.proofs.KeyExtremes.{same_ends}
 use Rattle.runend_floats.proofs.CoveredRows.{same_keys}
 use Rattle.runend_floats.proofs.extremes.extreme_keys.Goals as goal
 
-pub extremes_of-requires : goal.extremes_of-requires
-extremes_of-requires g c =
+pub extremes_of-extremes-requires : goal.extremes_of-extremes-requires
+extremes_of-extremes-requires g c =
     let array = c.args.column.now in
     let numbers = c.in-Primitive.keys in
     let e : IsRowEncoding (rows array) (dtype_of array) c.in_ok-_ends._ends (OfNumbers numbers) = rw c.in-Primitive.is at c.in_ok-_ends.ensures.encoding in
@@ -23,11 +23,11 @@ returns-clause-ends g c =
     let array = c.args.column.now in
     let numbers = c.in-Primitive.keys in
     let e : IsRowEncoding (rows array) (dtype_of array) c.in_ok-_ends._ends (OfNumbers numbers) = rw c.in-Primitive.is at c.in_ok-_ends.ensures.encoding in
-    same_ends (g.T.KeyTest.passes c.args.test.now) (optional_numbers numbers) (map number_in (rows array)) c.extremes_of.result (same_keys (rows array) (dtype_of array) c.in_ok-_ends._ends numbers e) c.extremes_of.ensures.ends
+    same_ends (g.T.KeyTest.passes c.args.test.now) (optional_numbers numbers) (map number_in (rows array)) c.extremes_of-extremes.result (same_keys (rows array) (dtype_of array) c.in_ok-_ends._ends numbers e) c.extremes_of-extremes.ensures.ends
 
 pub returns-clause-fits : goal.returns-clause-fits
 returns-clause-fits g c =
     let array = c.args.column.now in
     let numbers = c.in-Primitive.keys in
     let e : IsRowEncoding (rows array) (dtype_of array) c.in_ok-_ends._ends (OfNumbers numbers) = rw c.in-Primitive.is at c.in_ok-_ends.ensures.encoding in
-    subst (λ (t : DType). AreKeysIn (format_of t) c.extremes_of.result) e.typed c.extremes_of.ensures.fits
+    subst (λ (t : DType). AreKeysIn (format_of t) c.extremes_of-extremes.result) e.typed c.extremes_of-extremes.ensures.fits

@@ -11,31 +11,31 @@ use Rattle.runend_floats.proofs.CoveredRows.{keys_cover, keys_shown, whole_runs}
 use Rattle.runend_floats.proofs.FormatRows.{format_of_doubles, tally_of_doubles}
 use Rattle.runend_floats.proofs.sums.sum_floats.Goals as goal
 
-pub sum_runs-requires-clause-native : goal.sum_runs-requires-clause-native
-sum_runs-requires-clause-native g c =
+pub sum_runs-sum-requires-clause-native : goal.sum_runs-sum-requires-clause-native
+sum_runs-sum-requires-clause-native g c =
     let array = c.args.column.now in
     let numbers = c.in-Primitive.keys in
     let e : IsRowEncoding (rows array) (dtype_of array) c.in_ok-ends.ends (OfNumbers numbers) = rw c.in-Primitive.is at c.in_ok-ends.ensures.encoding in
     let format = subst (λ (t : DType). IsFormatOf t c.in_ok-format.format) c.dtype.ensures c.in_ok-format.ensures.format in
     subst (λ (t : DType). is_floats t ≡ true) (sym e.typed) format.0
 
-pub sum_runs-requires-clause-format : goal.sum_runs-requires-clause-format
-sum_runs-requires-clause-format g c =
+pub sum_runs-sum-requires-clause-format : goal.sum_runs-sum-requires-clause-format
+sum_runs-sum-requires-clause-format g c =
     let array = c.args.column.now in
     let numbers = c.in-Primitive.keys in
     let e : IsRowEncoding (rows array) (dtype_of array) c.in_ok-ends.ends (OfNumbers numbers) = rw c.in-Primitive.is at c.in_ok-ends.ensures.encoding in
     let format = subst (λ (t : DType). IsFormatOf t c.in_ok-format.format) c.dtype.ensures c.in_ok-format.ensures.format in
     subst (λ (t : DType). c.in_ok-format.format ≡ format_of t) (sym e.typed) format.1
 
-pub sum_runs-requires-clause-runs : goal.sum_runs-requires-clause-runs
-sum_runs-requires-clause-runs g c =
+pub sum_runs-sum-requires-clause-runs : goal.sum_runs-sum-requires-clause-runs
+sum_runs-sum-requires-clause-runs g c =
     let array = c.args.column.now in
     let numbers = c.in-Primitive.keys in
     let e : IsRowEncoding (rows array) (dtype_of array) c.in_ok-ends.ends (OfNumbers numbers) = rw c.in-Primitive.is at c.in_ok-ends.ensures.encoding in
     whole_runs (rows array) (dtype_of array) c.in_ok-ends.ends (OfNumbers numbers) e
 
-pub sum_runs-requires-clause-paired : goal.sum_runs-requires-clause-paired
-sum_runs-requires-clause-paired g c =
+pub sum_runs-sum-requires-clause-paired : goal.sum_runs-sum-requires-clause-paired
+sum_runs-sum-requires-clause-paired g c =
     let array = c.args.column.now in
     let numbers = c.in-Primitive.keys in
     let e : IsRowEncoding (rows array) (dtype_of array) c.in_ok-ends.ends (OfNumbers numbers) = rw c.in-Primitive.is at c.in_ok-ends.ensures.encoding in
@@ -47,7 +47,7 @@ returns-clause-sum g c =
     let numbers = c.in-Primitive.keys in
     let e : IsRowEncoding (rows array) (dtype_of array) c.in_ok-ends.ends (OfNumbers numbers) = rw c.in-Primitive.is at c.in_ok-ends.ensures.encoding in
     let format = subst (λ (t : DType). IsFormatOf t c.in_ok-format.format) c.dtype.ensures c.in_ok-format.ensures.format in
-    c.sum_runs.ensures ∙ ap (tally_of_keys c.in_ok-format.format) (keys_shown (rows array) (dtype_of array) c.in_ok-ends.ends numbers e)
+    c.sum_runs-sum.ensures ∙ ap (tally_of_keys c.in_ok-format.format) (keys_shown (rows array) (dtype_of array) c.in_ok-ends.ends numbers e)
     ∙ ap (λ (f : FloatFormat). tally_of_keys f (map number_in (rows array))) format.1
 
 pub returns-clause-doubles : goal.returns-clause-doubles
@@ -56,6 +56,6 @@ returns-clause-doubles g c =
     let numbers = c.in-Primitive.keys in
     let e : IsRowEncoding (rows array) (dtype_of array) c.in_ok-ends.ends (OfNumbers numbers) = rw c.in-Primitive.is at c.in_ok-ends.ensures.encoding in
     let format = subst (λ (t : DType). IsFormatOf t c.in_ok-format.format) c.dtype.ensures c.in_ok-format.ensures.format in
-    λ doubles. c.sum_runs.ensures ∙ ap (tally_of_keys c.in_ok-format.format) (keys_shown (rows array) (dtype_of array) c.in_ok-ends.ends numbers e)
+    λ doubles. c.sum_runs-sum.ensures ∙ ap (tally_of_keys c.in_ok-format.format) (keys_shown (rows array) (dtype_of array) c.in_ok-ends.ends numbers e)
     ∙ ap (λ (f : FloatFormat). tally_of_keys f (map number_in (rows array))) (format.1 ∙ format_of_doubles (dtype_of array) doubles)
     ∙ tally_of_doubles (map number_in (rows array))
