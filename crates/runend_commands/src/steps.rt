@@ -1,5 +1,8 @@
 //! One command on one column. The column itself is never written here, so a refusal leaves it as it was.
-ghost use Rattle.std.specs.Prelude.{◌≡◌};
+ghost use Rattle.std.specs.Prelude.{◌≡◌, IfOk, IsOkUnless};
+ghost use Rattle.runend_array.specs.Array.{column_of, dtype_of, rows};
+ghost use Rattle.runend_array.specs.Column.{IsFlat};
+ghost use Rattle.runend_builder.specs.Encoded.{IsConstantForm};
 ghost use Rattle.runend_commands.specs.Kept.{LeavesKept};
 ghost use Rattle.runend_commands.specs.Outcomes.{IsKeptOutcome, IsOutcome};
 ghost use Rattle.runend_commands.specs.Step.{IsDone};
@@ -8,7 +11,7 @@ ghost use Rattle.runend_commands.specs.declared.command.Command.TheVariants.{At,
 
 use crate::command::{Answer, Command};
 use crate::compute::{self, has_constant_form};
-use column_core::{DType, Mask, PrimitiveArray, Scalar, VortexResult, fault_of_lists};
+use column_core::{DType, Mask, PrimitiveArray, Scalar, VortexError, VortexResult, fault_of_lists};
 use column_ops::CompareOperator;
 use runend_array::{ArrayRef, ExecutionCtx};
 use std::alloc::Allocator;
@@ -59,9 +62,30 @@ fn written_if_constant<A: Allocator + Copy>(
     if !has_constant_form(&after) {
         return Ok(StepResult::Becomes(after));
     }
-    let written = after.canonicalize(ctx);
+    let written = written_out(&after, ctx);
     drop(after);
     Ok(StepResult::Becomes(written?))
+}
+
+// The rows of a constant, flat. Where there is none, none is null, as in each column that a command computes.
+fn written_out<A: Allocator + Copy>(
+    constant: &ArrayRef<A>,
+    ctx: &mut ExecutionCtx<A>,
+) -> VortexResult<ArrayRef<A>>
+    requires { IsConstantForm (column_of constant.now) }
+    ensures only { IsOkUnless result VortexError.OutOfMemory }
+    ensures rows { IfOk result (λ written. rows written ≡ rows constant.now) }
+    ensures dtype { IfOk result (λ written. dtype_of written ≡ dtype_of constant.now) }
+    ensures form { IfOk result (λ written. IsFlat (column_of written)) }
+    ensures session { ctx.new ≡ ctx.old }
+{
+    let written = constant.canonicalize(ctx)?;
+    if !written.is_empty() {
+        return Ok(written);
+    }
+    let none = compute::slice(&written, 0..0, ctx);
+    drop(written);
+    none
 }
 
 /// Runs one command, as the calls of `compute` leave it: a filter of a constant, a constant that has a row cast, filled

@@ -1,7 +1,5 @@
 use Rattle.std.proofs.Common.{◌≡◌, ◌∙◌, sym}
 use Rattle.std.proofs.lemmas.Bool.{false≢true}
-use Rattle.runend_array.specs.Array.{column_of}
-use Rattle.runend_commands.proofs.FlatForms.{flat_if_canonical}
 use Rattle.runend_commands.proofs.Kept.{done_if_written, kernel_if_written, kernel_of_others, kernel_of_slice, outcome_if_short}
 use Rattle.runend_commands.proofs.steps.written_if_constant.Goals as goal
 
@@ -30,7 +28,7 @@ returns-clause-outcome g c =
     let written = c.in_ok-written.field-0 in (
       done_if_written before after written c.args.command.now c.requires.done (c.has_constant_form-2.ensures.0 c.if-not-has_constant_form-2.false) c.in_ok-written.ensures.rows c.in_ok-written.ensures.dtype,
       kernel_if_written c.args.ctx.now before written c.args.command.now (c.has_constant_form.ensures.0 c.if-not-has_constant_form.false)
-          (flat_if_canonical (column_of after) (column_of written) c.in_ok-written.ensures.form) c.in_default.not-Slice,
+          c.in_ok-written.ensures.form c.in_default.not-Slice,
     )
 
 pub returns-in_err-written-clause-outcome : goal.returns-in_err-written-clause-outcome
