@@ -265,13 +265,15 @@ class Table(Mapping[str, Column]):
         """Each column in as few runs as possible; lists as they are."""
         return self._each(lambda column: column.copy() if column.type.startswith("list") else column.to_runs())
 
-    def group_by(self, *names: Names) -> TableGroups:
+    def group_by(self, *names: Names, name: Optional[str] = None) -> TableGroups:
         """The rows by runs of neighbours that are equal in the column of a name, or in several, as Column.group_by:
         rows that are sorted by these come in one group for each of their values. `.agg(..)` says what is asked of each
-        group. Several names may be a list, here and where columns are chosen."""
+        group. Several names may be a list, here and where columns are chosen; one may be given as `name=`."""
         from .table_groups import TableGroups
 
-        keys = each_of(names)
+        if names and name is not None:
+            raise TypeError("group_by: the columns are named one after the other, or one is by name=")
+        keys = each_of(names) if name is None else (name,)
         if not keys:
             raise ValueError("group_by: at least one column has the keys")
         for name in keys:
@@ -362,6 +364,11 @@ class Table(Mapping[str, Column]):
     def to_pandas(self, in_runs: bool = False) -> Any:
         """A DataFrame of Column.to_pandas() of each column; with `in_runs` of arrays of hivevigil.pandas, in runs."""
         return _table_making.frame_of(self._columns, self._rows, in_runs)
+
+    def __array__(self, dtype: Any = None, copy: Any = None) -> Any:
+        """Refused: NumPy, and pandas.DataFrame(table), which asks for an array, would make one of the names."""
+        hint = "table.to_pandas() is a DataFrame of it, and numpy.asarray(table[name]) an array of a column"
+        raise TypeError(f"a table is not an array: {hint}")
 
     def __arrow_c_schema__(self) -> Any:
         return _arrow.struct_schema_capsule(self._columns, self._logical)

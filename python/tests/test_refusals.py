@@ -237,7 +237,7 @@ def test_columns_are_made_by_their_makers():
 ARGUMENTS = {
     "slice": (0, 1), "cast": ("i8",), "take": ([0],), "filter": ([True] * 4,), "take_from": ([1, 2, 3],),
     "compare": ("==", 1), "fill": (1,), "at": (0,), "__getitem__": (0,), "__deepcopy__": ({},),
-    "save": ("none",), "split": (2,), "group_by": ([1],), "where": ([True] * 4, 1), "isin": ([1],),
+    "save": ("none",), "split": (2,), "__array_ufunc__": (numpy.negative, "__call__"), "group_by": ([1],), "where": ([True] * 4, 1), "isin": ([1],),
     "equals": (Column.of([1]),), "coalesce": (1,), "lesser": (1,), "greater": (1,), "nlargest": (1,), "nsmallest": (1,),
     **{f"__{name}__": (1,) for name in ("add", "radd", "sub", "rsub", "mul", "rmul", "truediv", "rtruediv", "and", "rand", "or",
                                           "ror")},

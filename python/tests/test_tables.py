@@ -321,7 +321,7 @@ T = Table({"a": [1, 2, None], "b": ["x", "y", "z"]}, {"a": "tiM"})
         (lambda: T.drop("b").append(T), ValueError,
          "append: the tables have columns of different names: only the other has 'b'"),
         (lambda: T.append(Table({"a": T["a"].storage(), "b": T["b"]})), errors.TypeMismatch,
-         "column 'a': append: i32 tiM (table 0) and i32 (table 1) are two types, and none has the rows of both: cast one "
+         "column 'a': append: i64 tiM (table 0) and i64 (table 1) are two types, and none has the rows of both: cast one "
          "to the other"),
         (lambda: T.append(T.with_column("b", [1, 2, 3])), errors.TypeMismatch,
          "column 'b': append: utf8 (table 0) and i64 (table 1) are two types, and none has the rows of both: cast one to "
