@@ -200,7 +200,7 @@ fn floats_come_and_go_by_their_bits() {
         let refused = unsafe { Column::from_arrow(&schema, &array) }.unwrap_err();
         assert_eq!(
             refused.to_string(),
-            "the call does not serve columns of this type or form"
+            format!("the array has the format {format}, floats, which are read by their bits")
         );
         let bits = unsafe { Column::from_arrow_bits(&schema, &array) }.unwrap();
         assert_eq!(

@@ -1,7 +1,7 @@
 //! Bytes and files that are not those of a table, and files that are not written.
 mod table_model;
 
-use hivevigil::{Column, Error, Kind, Table, TableError};
+use hivevigil::{Column, Error, Kind, LoadOptions, Table, TableError};
 use std::fs;
 use table_model::kept::{bytes_of, days, folder, lines, times, written};
 use table_model::kept::{Part, DAYS, SHORT, TABLES};
@@ -21,6 +21,13 @@ fn differences(steps: &[i64], stops: &[u64], runs: u64, form: u64) -> Result<Par
     })
 }
 
+fn bytes_over_limit(bytes: &[u8]) -> Option<u64> {
+    match Table::from_bytes(bytes) {
+        Err(TableError::OverLimit { bytes, .. }) => Some(bytes),
+        _ => None,
+    }
+}
+
 #[test]
 fn few_bytes_that_say_many_rows_are_refused() -> Result<(), TableError> {
     let six = differences(&[100, 60], &[1, 6], 6, 1)?;
@@ -32,13 +39,21 @@ fn few_bytes_that_say_many_rows_are_refused() -> Result<(), TableError> {
     let many = 1 << 60;
     for (step, form) in [(0, 1), (1, 1), (1, 2), (60, 1), (60, 2)] {
         let part = differences(&[100, step], &[1, many], 2, form)?;
-        assert!(is_damaged(&written(2, many, &[&part])), "{step} {form}");
+        let bytes = written(2, many, &[&part]);
+        match form {
+            1 => assert_eq!(bytes_over_limit(&bytes), Some(8 * many)), // flat, by the rows
+            _ => assert!(is_damaged(&bytes), "{step}"),                // more than two runs
+        }
     }
     let most = (1 << 26) + 1;
-    for form in [1, 2] {
-        let part = differences(&[100, 1], &[1, most], most, form)?;
-        assert!(is_damaged(&written(2, most, &[&part])), "{form}");
-    }
+    let flat = differences(&[100, 1], &[1, most], most, 1)?;
+    assert!(is_damaged(&written(2, most, &[&flat])));
+    let runs = differences(&[100, 1], &[1, most], most, 2)?;
+    let bytes = written(2, most, &[&runs]);
+    assert_eq!(bytes_over_limit(&bytes), Some(16 * most));
+    let limit = u64::MAX;
+    let refused = Table::from_bytes_with(&bytes, LoadOptions { limit });
+    assert!(matches!(refused, Err(TableError::Damaged(None))));
     Ok(())
 }
 
