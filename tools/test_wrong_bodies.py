@@ -116,6 +116,17 @@ class LookTests(Tree):
         self.assert_unfit("line 5 is of no edit: let first = 1;", "low/notes.md")
         self.assert_unfit("no wrong body is in it", "low/notes.md")
 
+    def test_a_title_may_have_two_lines(self):
+        lines = "    file: src/lib.rt\n    old: first = 1\n    new: first = 0\n"
+        self.write("crates/low/must-fail/by-hand.md", f"# Wrong bodies\n\n`an-edit`, refused by\nits clause:\n\n{lines}")
+        self.assert_fits()
+
+    def test_a_title_without_a_colon_is_a_fault(self):
+        lines = "    file: src/lib.rt\n    old: first = 1\n    new: first = 0\n"
+        page = f"# Wrong bodies\n\n`an-edit`, refused by\n\n`its` clause:\n\n{lines}"
+        self.write("crates/low/must-fail/by-hand.md", page)
+        self.assert_unfit("line 3 is the end of a title, and has no colon: `an-edit`, refused by", "low/by-hand.md")
+
     def test_no_page_at_all_is_a_failure(self):
         self.assertEqual(self.looked(), (1, ["0 passed, 0 failed"]))
 

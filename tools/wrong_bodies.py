@@ -4,8 +4,9 @@
     python3 tools/wrong_bodies.py                 looks that each can still be applied; ends in 'N passed, M failed'
     python3 tools/wrong_bodies.py try NAME ..     tries all of these crates, and says which were refused
 
-Each is a title `NAME` in backquotes and, indented by four spaces, the lines of an edit: `file:`, and then `old:` and
-`new:` in turn. An `old:` text has to stand exactly once in its file, in what the earlier pairs of the same edit made.
+Each is a title, a paragraph from `NAME` in backquotes to a colon, and, indented by four spaces, the lines of an edit:
+`file:`, and then `old:` and `new:` in turn. An `old:` text has to stand exactly once in its file, in what the earlier
+pairs of the same edit made.
 Before these lines `crate:` names another crate than that of the page, and `only:` a function with `prints:` a text:
 such an edit does not compile, and a check of only the function has to fail and print the text. `by:` names a function
 by its path below the crate, if a caller refuses the edit, and not the function that it changes. A page has no other
@@ -23,7 +24,8 @@ from dataclasses import dataclass, field
 from pathlib import Path
 
 ROOT = Path(__file__).resolve().parent.parent
-TITLE = re.compile(r"`([a-z0-9-]+)`.*:$")
+TITLE = re.compile(r"`([a-z0-9-]+)`.*:$", re.S)
+NO_TITLE = re.compile(r"`[a-z0-9]+-[a-z0-9-]+`.*(?<!:)$", re.S)
 LINE = re.compile(r"    (crate|only|prints|by|file|old|new): ?(.*)")
 EDIT_KEYS = ("file", "old", "new")
 
@@ -119,8 +121,12 @@ def wrong_bodies(page: Path) -> tuple[list[WrongBody], list[str]]:
     """Those of a page, in its order, and what is wrong with the page itself."""
     found: list[WrongBody] = []
     faults: list[str] = []
+    paragraph = ""
     for number, line in enumerate(page.read_text(encoding="utf-8").splitlines(), start=1):
-        if title := TITLE.match(line):
+        if not line and NO_TITLE.match(paragraph):
+            faults.append(f"line {number - 1} is the end of a title, and has no colon: {paragraph[:60]}")
+        paragraph = f"{paragraph}\n{line}".strip() if line else ""
+        if title := TITLE.match(paragraph):
             found.append(WrongBody(page, title[1]))
         elif (part := LINE.match(line)) and found:
             found[-1].lines.append((part[1], part[2]))
