@@ -231,17 +231,20 @@ def workers() -> int:
 
 def try_all(prover: Prover, wrongs: list[WrongBody], most: int) -> int:
     """Tries wrong bodies, several in a check, prints what each came to, and writes the lines of the refused ones."""
-    passed = failed = 0
+    lacking = {crate: prover.lacks(crate) for crate in {wrong.crate().name for wrong in wrongs}}
+    for crate, names in sorted(lacking.items()):
+        if names:
+            print(f"{crate}: not tried; `rt check` in its folder builds what is below it: {' '.join(names)}")
+    passed, failed = 0, sum(map(bool, lacking.values()))
+    found = [wrong for wrong in wrongs if not lacking[wrong.crate().name]]
     with ThreadPoolExecutor(workers()) as pool:
-        tries = [pool.submit(list, try_batch(prover, batch)) for batch in batches(wrongs, most)]
+        tries = [pool.submit(list, try_batch(prover, batch)) for batch in batches(found, most)]
         for done in as_completed(tries):
-            for wrong, found, seconds in done.result():
-                print(told(wrong, found, seconds), flush=True)
-                if isinstance(found, Refusal):
-                    ledger.write(wrong.page.parent.parent.name, [line_of(wrong, found, prover.kit, seconds)])
-                    passed += 1
-                else:
-                    failed += 1
+            for wrong, said, seconds in done.result():
+                print(told(wrong, said, seconds), flush=True)
+                if isinstance(said, Refusal):
+                    ledger.write(wrong.page.parent.parent.name, [line_of(wrong, said, prover.kit, seconds)])
+                passed, failed = passed + isinstance(said, Refusal), failed + (not isinstance(said, Refusal))
     print(f"{passed} passed, {failed} failed")
     return 1 if failed or not passed else 0
 

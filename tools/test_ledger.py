@@ -348,6 +348,11 @@ class TryTests(Tree):
         self.write("crates/base/out/rlib/stamp", "another stamp")
         self.assertEqual(Prover(self.root).lacks("low"), ["base"])
 
+    def test_a_try_says_what_is_not_built(self) -> None:
+        (self.root / "crates/base/out/rlib/base.rlib/format").unlink()
+        said = "low: not tried; `rt check` in its folder builds what is below it: base"
+        self.assertEqual(self.tried(), (1, [said, "0 passed, 1 failed"]))
+
     def test_a_sample_needs_the_libraries_below(self) -> None:
         (self.root / "crates/base/out/rlib/base.rlib/format").unlink()
         status, lines = self.sampled(3600)
