@@ -31,6 +31,9 @@ GOAL = re.compile(r"`([\w/+.-]+)`")
 PROVED = ("proved", "no holes")
 # What is said of a text that the front end, or the reader of clauses, cannot read: then no goal was tried.
 UNREAD = re.compile(rf"^(?:\./)?(?:src|specs)/\S+?:\d+:\d+: error(?:\[[\w-]+\]: |: .*(?:{ABSENT})).*$", re.M)
+# A proof file that names what the edit took away: this says nothing of a goal.
+NAMES = re.compile(rf"^(?:\./)?proofs/(\S+)/\w+\.antt:\d+:\d+: error: .*(?:{ABSENT}).*$", re.M)
+BY_NAMES = "refused only by names in a proof"
 NO_NAME = re.compile(r"^rattle: error: (?:several functions are named|`\w+` has no) .*$", re.M)
 
 
@@ -96,8 +99,8 @@ class Prover:
         old = [low for low, stamp in stamps.items() if stamp.is_file() and stamp.read_text() != low.stamp()]
         return [low.name for low in stamps if low in old or not Path(low.rlib, "format").is_file()]
 
-    def check(self, crate: str, texts: dict[Path, str], functions: Iterable[str]) -> Run:
-        """Checks functions of a copy of the crate that has these texts."""
+    def check(self, crate: str, texts: dict[Path, str], functions: list[str], with_answers: bool = True) -> Run:
+        """Checks functions of a copy of the crate that has these texts; without their written answers if asked to."""
         each = self.crates[crate]
         with tempfile.TemporaryDirectory(prefix="ledger-") as room:
             for part in PARTS:
@@ -105,6 +108,8 @@ class Prover:
                     shutil.copytree(Path(each.folder) / part, Path(room) / part)
             for path, text in texts.items():
                 (Path(room) / path.relative_to(each.folder)).write_text(text, encoding="utf-8")
+            for name in [] if with_answers else functions:
+                Path(room, "proofs", *name.split("::"), "Answers.antt").unlink(missing_ok=True)
             flags = ["--jobs", "1", "--allow-holes"]
             flags += [word for name in functions for word in ("--only", name)]
             return run([*self.guard, self.rtlib.RATTLE, "check", *each.words(flags, keeps=False)], room)
@@ -175,6 +180,8 @@ def outcome(wrong: WrongBody, ran: Run) -> Refusal | str:
         return f"NOT tried: {unread[0]}"
     if is_proved(ran.text, crate, names):
         return f"NOT refused: {' '.join(names)} proved in spite of it"
+    if any(is_of(found[1].replace("/", "::"), names) for found in NAMES.finditer(ran.text)):
+        return f"no verdict: {BY_NAMES}"
     lines = [line for line in ran.text.splitlines() if re.search(r"error|could not tell|no verdict|not proved", line)]
     return f"no verdict: {lines[0] if lines else ran.text[-200:].strip() or 'the check was ended'}"
 
@@ -197,16 +204,25 @@ def batches(wrongs: Iterable[WrongBody], most: int) -> list[Batch]:
 
 def try_batch(prover: Prover, batch: Batch) -> Iterator[tuple[WrongBody, Refusal | str, float]]:
     """What the prover says of each of a batch, and the processor seconds: one by one where it cannot read them all."""
-    functions = dict.fromkeys(name for wrong in batch.wrongs for name in asked(wrong))
+    functions = list(dict.fromkeys(name for wrong in batch.wrongs for name in asked(wrong)))
     ran = prover.check(batch.crate, batch.texts, functions)
-    if len(batch.wrongs) == 1 or is_read(ran):
-        share = ran.seconds / len(batch.wrongs)
-        yield from ((wrong, outcome(wrong, ran), share) for wrong in batch.wrongs)
-        return
+    is_whole = len(batch.wrongs) == 1 or is_read(ran)
     for wrong in batch.wrongs:
-        alone = Batch(batch.crate)
-        alone.takes(wrong, 1)
-        yield from try_batch(prover, alone)
+        found = outcome(wrong, ran) if is_whole else ""
+        if not is_whole:
+            yield from try_batch(prover, batches([wrong], 1)[0])
+        elif isinstance(found, str) and BY_NAMES in found:
+            yield try_bare(prover, wrong, ran.seconds / len(batch.wrongs))
+        else:
+            yield wrong, found, ran.seconds / len(batch.wrongs)
+
+
+def try_bare(prover: Prover, wrong: WrongBody, seconds: float) -> tuple[WrongBody, Refusal | str, float]:
+    """What the prover says of a wrong body without the written answers, in which names do not fit: a counterexample."""
+    ran = prover.check(wrong.crate().name, wrong.edited(), asked(wrong), with_answers=False)
+    found = outcome(wrong, ran)
+    is_shown = isinstance(found, Refusal) and found.how == "false"
+    return wrong, found if is_shown else f"no verdict: {BY_NAMES}; without it: {found}", seconds + ran.seconds
 
 
 def told(wrong: WrongBody, found: Refusal | str, seconds: float) -> str:

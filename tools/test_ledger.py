@@ -70,7 +70,17 @@ case "$*" in *next*)
         echo 'fn low::next: no holes'
     fi ;;
 esac
-case "$*" in *Bits::first*) echo 'fn low::Bits::first: no holes' ;; esac
+case "$*" in *Bits::first*)
+    if grep -q 'self.other' src/lib.rt && [ -f proofs/Bits/first/Answers.antt ]; then
+        echo './proofs/Bits/first/Answers.antt:4:5: error: `bounds-self` is not in scope'
+        echo 'fn low::Bits::first: not proved'
+    elif grep -q 'self.other' src/lib.rt; then
+        echo 'fn low::Bits::first: no proof: expected answers in ./proofs/x; `search` did not prove `bounds-other`'
+        echo 'note: `bounds-other` of proofs/Bits/first/Answers.antt may be false: the known facts allow `other` = `[]`'
+    else
+        echo 'fn low::Bits::first: no holes'
+    fi ;;
+esac
 """
 
 
@@ -308,6 +318,14 @@ class TryTests(Tree):
         self.assertEqual(len(self.calls()), 3)
         self.assertIn("low/two-are-added: refused by returns of next, false; 0 s", lines)
         self.assertIn("low/the-second-is-first: NOT tried: src/lib.rt:20:9: error[no-such-field]", lines[1])
+
+    def test_where_only_names_of_a_proof_do_not_fit_a_counterexample_is_sought_without_it(self) -> None:
+        page = self.root / "crates/low/must-fail/by-hand.md"
+        page.write_text(page.read_text(encoding="utf-8").replace("self.bits[1]", "self.other[0]"), encoding="utf-8")
+        self.write("crates/low/proofs/Bits/first/Answers.antt", "")
+        _, lines = self.tried()
+        self.assertEqual(len(self.calls()), 2)
+        self.assertIn("low/the-second-is-first: refused by bounds-other of Bits::first, false; 0 s", lines)
 
     def test_a_page_may_name_the_caller_that_refuses(self) -> None:
         page = self.root / "crates/low/must-fail/by-hand.md"
