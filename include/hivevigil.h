@@ -381,9 +381,9 @@ HV_CALL size_t hv_bytes_used(const hv_column *column);
 HV_ANSWER hv_decimal_sum(const hv_column *column, hv_pair *sum, uint8_t *is_empty, hv_error *error);
 /* Integers or decimals, the same numbers as decimals of up to `precision` digits, at most 38, with `scale` of them
  * after the point, or -scale zeros before it, in as few runs as possible and at the cost of the runs; null where the
- * row is. 13 unless they are integers or decimals, which takes no memory; then 14 (row, why) for the first row that is
- * not such a decimal: why is 1 where the scale has no place for a digit of it, and 0 where it has too many digits; 21
- */
+ * row is. 23 for a precision that is not 1 to 38; 13 unless they are integers or decimals, which takes no memory; then
+ * 14 (row, why) for the first row that is not such a decimal: why is 1 where the scale has no place for a digit of it,
+ * and 0 where it has too many digits; 21 */
 HV_ANSWER hv_decimal_cast(const hv_column *column, uint8_t precision, int8_t scale, hv_column *out, hv_error *error);
 /* the integers that decimals are, of a type from HV_U8 to HV_I64; 13 unless they are decimals, then 14 (row, why) for
  * the first row that is not such an integer: why is 1 where it has a fraction, and 0 where the type does not have it;

@@ -1,5 +1,5 @@
 -- Columns cast to decimals, and decimals to integers, by runs: what is made, and how the calls end.
-use Rattle.std.specs.Prelude.{◌≡◌, ◌⊎◌, ℤ, pos, min, map, option_map, if◌then◌else◌, List, Option, Some, None}
+use Rattle.std.specs.Prelude.{◌≡◌, ◌⊎◌, ◌≤◌, ℕ, ℤ, pos, min, map, option_map, if◌then◌else◌, List, Option, Some, None}
 use Rattle.std.specs.Global.{Global}
 use Rattle.column_base.specs.Types.{nullability_of, HasNumber}
 use Rattle.column_base.specs.declared.dtype.DType.{DType}
@@ -20,6 +20,10 @@ use Rattle.runend_decimals.specs.declared.fault.RescaleError.TheVariants.{Inexac
 use Rattle.c_columns.specs.Builders.{IsEncodingOf}
 use Rattle.c_columns.specs.Ending.{AreFields, IsRefusedAs}
 use Rattle.c_columns.specs.declared.error_fields.ErrorFields.{ErrorFields}
+
+-- a number of digits that decimals may have
+abbrev pub IsPrecision : ℕ → Type 0
+IsPrecision digits = (1 ≤ digits) × (digits ≤ 38)
 
 -- columns of integers and of decimals are cast to decimals
 abbrev pub exact_fault : DType → Option VortexError

@@ -3,7 +3,7 @@ ghost use Rattle.std.specs.Prelude.{◌≡◌, ◌≢◌, IfErr, IfOk, IsSomeAnd
 ghost use Rattle.runend_decimals.specs.Rows.{decimals_fault};
 ghost use Rattle.c_columns.specs.Ending.{AreFields, WhereBoth};
 ghost use Rattle.c_columns.specs.Kinds.{ptype_by as ptype_by_number};
-ghost use Rattle.c_kernels.specs.DecimalCasts.{exact_fault, AreDecimals, AreWholes, EndsOnRescale, FailsAsDecimals, FailsAsWholes, IsRescaleErrorAs};
+ghost use Rattle.c_kernels.specs.DecimalCasts.{exact_fault, AreDecimals, AreWholes, EndsOnRescale, FailsAsDecimals, FailsAsWholes, IsPrecision, IsRescaleErrorAs};
 
 use crate::decimal_casts::{decimals_cast, wholes_cast};
 use c_columns::error_fields::{BAD_NUMBER, ErrorFields, NO_COLUMN, refuse};
@@ -14,11 +14,35 @@ use column_core::{DecimalDType, PType, VortexError};
 use runend_decimals::RescaleError;
 use std::alloc::Global;
 
+// The digits that a decimal has at most.
+const MOST_DIGITS: u8 = 38;
+
 /// Puts integers or decimals as decimals of a precision and scale into a handle, and returns 0. Else returns the number
-/// of an error, and leaves the handle: 22 for an empty handle, then as `decimals_cast` is refused, with 14, the row,
-/// and 1 where no number of that scale is the same, else 0.
-#[tactic(auto, using(crate::proofs::RescaleEndings::rescale_empty, crate::proofs::RescaleEndings::decimals_end, crate::proofs::RescaleEndings::rescale_made))]
+/// of an error, and leaves the handle: 23 for a precision that is not 1 to 38, then 22 for an empty handle, then as
+/// `decimals_cast` is refused, with 14, the row, and 1 where no number of that scale is the same, else 0.
 pub fn cast_decimals_handle(
+    alloc: Global,
+    column: &mut Handle,
+    to: DecimalDType,
+    out: &mut Handle,
+    error: &mut ErrorFields,
+) -> i32
+    ensures same { column.new.column ≡ column.old.column }
+    ensures made { result ≡ pos 0 → WhereBoth (AreDecimals to) column.old.column out.new.column }
+    ensures kept { result ≢ pos 0 → out.new.column ≡ out.old.column }
+    ensures digits { ¬ IsPrecision to.precision → result ≡ pos 23 }
+    ensures ended { IsPrecision to.precision →
+        EndsOnRescale exact_fault (FailsAsDecimals to) column.old.column result error.new }
+{
+    if to.precision == 0 || to.precision > MOST_DIGITS {
+        return BAD_NUMBER;
+    }
+    cast_decimals_held(alloc, column, to, out, error)
+}
+
+// The same cast, to decimals that there are.
+#[tactic(auto, using(crate::proofs::RescaleEndings::rescale_empty, crate::proofs::RescaleEndings::decimals_end, crate::proofs::RescaleEndings::rescale_made))]
+fn cast_decimals_held(
     alloc: Global,
     column: &mut Handle,
     to: DecimalDType,

@@ -3,7 +3,7 @@ ghost use Rattle.std.specs.Prelude.{◌≡◌, ◌≢◌, IsSomeAnd, MatchOption
 ghost use Rattle.runend_decimals.specs.Rows.{decimals_fault};
 ghost use Rattle.c_columns.specs.Ending.{WhereAll, WhereBoth};
 ghost use Rattle.c_columns.specs.Kinds.{ptype_by};
-ghost use Rattle.c_kernels.specs.DecimalCasts.{exact_fault, AreDecimals, AreWholes, EndsOnRescale, FailsAsDecimals, FailsAsWholes};
+ghost use Rattle.c_kernels.specs.DecimalCasts.{exact_fault, AreDecimals, AreWholes, EndsOnRescale, FailsAsDecimals, FailsAsWholes, IsPrecision};
 ghost use Rattle.c_kernels.specs.DecimalPairs.{numeric_numbered, AreDecimalsCombined, EndsOnDecimalPairs};
 ghost use Rattle.c_kernels.specs.Decimals.{EndsOnDecimals, IsDecimalSum};
 
@@ -36,9 +36,9 @@ pub extern "C" fn hv_decimal_sum(
     decimal_sum_in_handle(alloc, column, sum, is_empty, error)
 }
 
-/// Makes the same numbers as decimals of this precision and scale. Refused as `Unsupported` exactly unless the rows are
-/// integers or decimals, then as `CastOutOfRange`, with the first row that is not such a decimal, and 1 where the scale
-/// has no place for a digit of it, else 0.
+/// Makes the same numbers as decimals of this precision and scale. Returns 23 for a precision that is not 1 to 38;
+/// refused as `Unsupported` exactly unless the rows are integers or decimals, then as `CastOutOfRange`, with the first
+/// row that is not such a decimal, and 1 where the scale has no place for a digit of it, else 0.
 #[unsafe(no_mangle)]
 pub extern "C" fn hv_decimal_cast(
     alloc: Global,
@@ -52,8 +52,9 @@ pub extern "C" fn hv_decimal_cast(
     ensures made { result ≡ pos 0 → WhereBoth (AreDecimals (record { precision = precision; scale = scale }))
         column.old.column out.new.column }
     ensures kept { result ≢ pos 0 → out.new.column ≡ out.old.column }
-    ensures ended { EndsOnRescale exact_fault (FailsAsDecimals (record { precision = precision; scale = scale }))
-        column.old.column result error.new }
+    ensures digits { ¬ IsPrecision precision → result ≡ pos 23 }
+    ensures ended { IsPrecision precision → EndsOnRescale exact_fault
+        (FailsAsDecimals (record { precision = precision; scale = scale })) column.old.column result error.new }
 {
     let to = DecimalDType { precision, scale };
     cast_decimals_handle(alloc, column, to, out, error)
