@@ -22,8 +22,8 @@ class MakePages(unittest.TestCase):
         help = text("program/help.hpp")
         page = text("man/hivevigil.1").replace(r"\-", "-")
         read = re.findall(r'\{"([a-z]+)", \w+_argument', text("program/main.cpp"))
-        options = set(re.findall(r"^  (--[a-z]+)", help, re.M))
-        self.assertEqual(options, set(re.findall(r"^\\fB(--[a-z]+)", page, re.M)))
+        options = set(re.findall(r"^  (?:-h, )?(--[a-z]+)", help, re.M))
+        self.assertEqual(options, set(re.findall(r"^\\fB(?:-h\\fP, \\fB)?(--[a-z]+)", page, re.M)))
         self.assertEqual(options, {f"--{name}" for name in read})
 
     def test_each_call_is_on_the_page(self) -> None:
