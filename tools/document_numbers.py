@@ -4,8 +4,7 @@
     python3 tools/document_numbers.py        names each sentence that is out of step; ends in 'N passed, M failed'
 
 A count is known by the words after it: `53 calls` are the calls that include/hivevigil.h declares, `21 errors` the
-variants of VortexError, and `28402 agree, 0 differ` the last line of crates/vectors/stdout. Sentences of other counts
-(measurements with a date, say) are not read. Pages that cite a decision (`docs/DECISIONS.md`, 92) cite one that is
+variants of VortexError. Sentences of other counts (measurements with a date, say) are not read. Pages that cite a decision (`docs/DECISIONS.md`, 92) cite one that is
 there.
 """
 
@@ -27,7 +26,6 @@ SENTENCES = {
         ("docs/SCRIPT.md", r"has the (\d+) errors"),
         ("docs/CALLING.md", r"lists the (\d+) with numbers"),
     ],
-    "agree": [("README.md", r"ends in `(\d+) agree, 0 differ`")],
 }
 
 
@@ -44,19 +42,12 @@ def errors(source: str) -> int:
     return len(re.findall(r"^    ([A-Z]\w*)", body, re.M))
 
 
-def agree(stdout: str) -> int:
-    """The lines of vectors that are answered as is due."""
-    (count,) = re.findall(r"^(\d+) agree, 0 differ$", stdout, re.M)
-    return int(count)
-
-
 def counted(root: Path) -> dict[str, int]:
     """Each count, from what it counts."""
     text = lambda path: (root / path).read_text(encoding="utf-8")
     return {
         "calls": calls(text("include/hivevigil.h")),
         "errors": errors(text("crates/column_base/src/error.rt")),
-        "agree": agree(text("crates/vectors/stdout")),
     }
 
 

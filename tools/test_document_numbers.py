@@ -2,7 +2,7 @@
 
 import unittest
 
-from document_numbers import agree, calls, errors, out_of_step, without_entry
+from document_numbers import calls, errors, out_of_step, without_entry
 
 HEADER = """
 /* hv_told(a) is not a declaration; */
@@ -32,10 +32,6 @@ class DocumentNumbers(unittest.TestCase):
 
     def test_errors_are_the_variants_of_one_enum(self) -> None:
         self.assertEqual(errors(ERRORS), 2)
-
-    def test_the_last_line_of_the_vectors_counts(self) -> None:
-        self.assertEqual(agree("12 agree, 0 differ\n"), 12)
-        self.assertRaises(ValueError, agree, "12 agree, 1 differ\n")
 
     def test_a_sentence_may_run_over_lines_and_has_to_be_there(self) -> None:
         self.assertIsNone(out_of_step("a.md", r"the (\d+) calls", 53, "of the\n53 calls"))

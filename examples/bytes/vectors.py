@@ -1,7 +1,7 @@
 #!/usr/bin/env python3
 """Holds the vectors with messages against Protocol Buffers' own library, by docs/column.proto.
 
-    /usr/bin/python3 vectors.py < ../../crates/vectors/stdin        ends in 'N messages are those of the schema'
+    /usr/bin/python3 vectors.py < ../vectors/lines.txt        ends in 'N messages are those of the schema'
 
 A line `NAME = from bytes HH ..` has to be refused exactly where the bytes are not those of a column, and the answer to
 `NAME bytes` has to be a column's: the one that was read, where NAME has just been made of bytes. A line `NAME form`

@@ -19,7 +19,7 @@ from writer import Writer
 @dataclass(frozen=True)
 class Family:
     """A family: how often a case is of it among others, what its lines are of, what writes a case, and how many cases
-    are in crates/vectors/stdin."""
+    are in lines.txt."""
 
     weight: int
     title: str

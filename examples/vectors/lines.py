@@ -5,13 +5,13 @@
         --group rows|floats|numbers|typed                   of this group only
         --wide                                              some columns have hundreds of rows
     python3 examples/vectors/lines.py --stored GROUP        the lines of a group, or of `picks` or `layers`, in
-                                                            crates/vectors/stdin
+                                                            lines.txt
 
 To hold the library against new lines:
 
-    python3 examples/vectors/lines.py 7 300 > /tmp/lines; cd crates/vectors && RT_SECONDS=600 rt try < /tmp/lines
+    python3 examples/vectors/lines.py 7 300 > /tmp/lines; sh examples/vectors/run.sh /tmp/lines
 
-which ends in `N agree, 0 differ`; README.md says what the modules are.
+which ends in `N agree, 0 differ, M not served`; README.md says what the modules are.
 """
 
 from __future__ import annotations
@@ -37,7 +37,7 @@ GROUPS["typed"] = (TYPED, by_chance)
 
 
 def stored_lines(group: str) -> list[str]:
-    """Returns the lines of a group as crates/vectors/stdin has them."""
+    """Returns the lines of a group as lines.txt has them."""
     families, seed, decimals, layers = STORED[group]
     writer = Writer(seed, decimals=decimals, layers=layers)
     if layers:

@@ -13,7 +13,7 @@ class Writer:
     """Lines, and the chance by which they are made. The same seed makes the same lines.
 
     `wide` gives some columns hundreds of rows. `decimals` has older families ask for decimals of any precision too, and
-    `layers` for runs over runs that are partly hidden: older lines of crates/vectors/stdin were made before they did.
+    `layers` for runs over runs that are partly hidden: older lines of lines.txt were made before they did.
     """
 
     def __init__(self, seed: int, wide: bool = False, decimals: bool = True, layers: bool = True):

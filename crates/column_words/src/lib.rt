@@ -1,4 +1,4 @@
-//! The words of numbers, floats, types, bits, bytes, rows and refusals, which the script and the vectors share.
+//! The words of numbers, floats, types, bits, bytes, rows and refusals, which the script has.
 #![tactic(auto)]
 
 mod bits;

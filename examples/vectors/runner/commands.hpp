@@ -173,7 +173,7 @@ inline Command read_cast(const Words &words, const Workspace &workspace) {
 // whether the type of the scalar has null.
 inline void require_served(const Scalar &scalar, const Column &column, bool is_typed) {
     const hv_kind kind = column.kind();
-    if (kind.number == HV_LIST) return; // which are refused with any scalar
+    if (kind.number == HV_LIST && scalar.value.kind == HV_NULL) return; // null is of any type
     const bool is_same = !scalar.type.is_list && same_but_null(scalar.type.kind, kind);
     if (!is_same && !plainly_differs(scalar, kind))
         throw NotServed("a scalar of a type that C does not know from the column's", true);
