@@ -9,7 +9,7 @@
 set -eu
 here=$(cd "$(dirname "$0")" && pwd)
 top=$(cd "$here/../.." && pwd)
-flags=-O1 tested= listed=
+flags=-O0 tested= listed=
 for word; do
     case $word in
     --sanitize) flags="-O0 -g -fsanitize=address,undefined -fno-sanitize-recover=all" ;;
