@@ -17,6 +17,7 @@ import shutil
 import subprocess
 import sys
 import tempfile
+from collections.abc import Callable
 from pathlib import Path
 
 ROOT = Path(__file__).resolve().parent.parent
@@ -144,12 +145,19 @@ def adapters(calls: dict[str, tuple[str, str]]) -> str:
     return "\n".join([*lines, ""])
 
 
-def compile_archive(kit: Path, work: Path, module: Path, exports: list[str], out: Path) -> None:
-    """Compiles the module with its exports visible, and puts it into an archive."""
+def unchanged(text: str) -> str:
+    """The text of a module as it is."""
+    return text
+
+
+def compile_archive(
+    kit: Path, work: Path, module: Path, exports: list[str], out: Path, edit: Callable[[str], str] = unchanged
+) -> None:
+    """Compiles the module, with its text edited and its exports visible, and puts it into an archive."""
     calls = struct_calls((ROOT / "include/hivevigil_exports.h").read_text(encoding="utf-8"), exports)
     text, library, shims = work / "module.ll", work / "hivevigil.o", work / "adapters.o"
     tool(kit, "clang", *TARGET, "-S", "-emit-llvm", "-O0", "-Xclang", "-disable-llvm-passes", module, "-o", text)
-    text.write_text(with_visible_exports(text.read_text(), exports, set(calls)))
+    text.write_text(with_visible_exports(edit(text.read_text()), exports, set(calls)))
     tool(kit, "clang", *TARGET, "-O1", "-fPIC", "-ffunction-sections", "-fdata-sections", "-c", text, "-o", library)
     (work / "adapters.c").write_text(adapters(calls))
     compiler = [os.environ.get("CC", "cc"), "-O2", "-fPIC", f"-I{ROOT / 'include'}", "-c", work / "adapters.c"]
@@ -158,12 +166,17 @@ def compile_archive(kit: Path, work: Path, module: Path, exports: list[str], out
     tool(kit, "llvm-ar", "rcs", out, library, shims)
 
 
+def machine_kit() -> Path:
+    """The toolchain of this machine."""
+    where = subprocess.run(["rt", "doc"], check=True, capture_output=True, text=True).stdout
+    return Path(where.strip()).resolve().parent
+
+
 def main() -> None:
     parser = argparse.ArgumentParser(description=__doc__.partition("\n")[0])
     parser.add_argument("archive", type=Path, help="where the archive goes")
     out = parser.parse_args().archive.resolve()
-    where = subprocess.run(["rt", "doc"], check=True, capture_output=True, text=True).stdout
-    kit = Path(where.strip()).resolve().parent
+    kit = machine_kit()
     with tempfile.TemporaryDirectory(prefix="unproved-") as folder:
         work = Path(folder)
         shutil.copytree(ROOT / "crates", work / "crates", ignore=shutil.ignore_patterns("out"))

@@ -106,9 +106,9 @@ inline Call read_fold(const Words &words, const Workspace &workspace) {
     const Call folded = making(
         [=](hv_column *out, hv_error *error) {
             Column other;
-            const bool is_key = part.kept == GroupPart::keys;
-            return hv_fold_by(keys->get(), values->get(), part.fold, is_key ? out : other.out(),
-                              is_key ? other.out() : out, error);
+            hv_column *group_keys = out, *answers = other.out();
+            if (part.kept != GroupPart::keys) std::swap(group_keys, answers);
+            return hv_fold_by(keys->get(), values->get(), part.fold, group_keys, answers, error);
         },
         true);
     if (part.kept != GroupPart::ends) return folded;
