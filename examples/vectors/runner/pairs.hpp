@@ -4,6 +4,8 @@
 #include "floats.hpp"
 #include "makers.hpp"
 
+#include <utility>
+
 namespace vectors {
 
 // The words of the operators of two rows, each at the number that it has in hivevigil.h.
