@@ -1,4 +1,5 @@
 pub mod Held
+pub mod Ways
 pub mod TotalRows
 pub mod RunsAt
 pub mod DecimalRuns

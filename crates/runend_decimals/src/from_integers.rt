@@ -77,9 +77,19 @@ fn decimal_parts<A: Allocator + Copy>(
         (HasDigits (min to.precision 38)) (map number_in (rows column.now))) }
 {
     let (ends, integers) = integer_runs(alloc, column)?;
-    let decimals = scaled_integers(alloc, &ends, &integers, to)?;
-    let decimals = FlatColumn::Decimal(decimals);
-    Ok(encode_runs(alloc, &ends, &decimals, 0, column.len())?)
+    let decimals = match scaled_integers(alloc, &ends, &integers, to) {
+        Ok(decimals) => FlatColumn::Decimal(decimals),
+        Err(error) => {
+            drop(integers);
+            drop(ends);
+            return Err(error);
+        }
+    };
+    let parts = encode_runs(alloc, &ends, &decimals, 0, column.len());
+    drop(decimals);
+    drop(integers);
+    drop(ends);
+    Ok(parts?)
 }
 
 // Returns the values of these runs as decimals. Refused with the first row that is not a decimal of the type, and as

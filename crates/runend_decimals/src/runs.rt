@@ -44,7 +44,11 @@ pub(crate) fn integer_runs<A: Allocator + Copy>(
     let (ends, values) = row_runs(alloc, column)?;
     match values {
         FlatColumn::Primitive(integers) => Ok((ends, integers)),
-        _ => Err(VortexError::Unsupported),
+        others => {
+            drop(others);
+            drop(ends);
+            Err(VortexError::Unsupported)
+        }
     }
 }
 

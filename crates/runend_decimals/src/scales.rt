@@ -68,7 +68,17 @@ fn rescaled_parts<A: Allocator + Copy>(
         (map decimal_in (rows column.now))) }
 {
     let (ends, values) = decimal_runs(alloc, column)?;
-    let decimals = rescaled_decimals(alloc, &ends, &values, to)?;
-    let decimals = FlatColumn::Decimal(decimals);
-    Ok(encode_runs(alloc, &ends, &decimals, 0, column.len())?)
+    let decimals = match rescaled_decimals(alloc, &ends, &values, to) {
+        Ok(decimals) => FlatColumn::Decimal(decimals),
+        Err(error) => {
+            drop(values);
+            drop(ends);
+            return Err(error);
+        }
+    };
+    let parts = encode_runs(alloc, &ends, &decimals, 0, column.len());
+    drop(decimals);
+    drop(values);
+    drop(ends);
+    Ok(parts?)
 }

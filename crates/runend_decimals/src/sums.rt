@@ -45,7 +45,10 @@ pub fn sum_decimals<A: Allocator + Copy>(
         return Err(DecimalError::Refused(VortexError::Unsupported));
     }
     let (ends, values) = decimal_runs(*ctx.allocator(), column)?;
-    sum_runs(&ends, &values)
+    let sum = sum_runs(&ends, &values);
+    drop(values);
+    drop(ends);
+    sum
 }
 
 // Returns the sum of the rows that these runs show, by one step a run. Refused as `Overflow` only.

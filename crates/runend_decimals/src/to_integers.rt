@@ -77,9 +77,19 @@ fn integer_parts<A: Allocator + Copy>(
         (scale_of (dtype_of column.now)) (pos 0) (HasNumber to) (map decimal_in (rows column.now))) }
 {
     let (ends, values) = decimal_runs(alloc, column)?;
-    let integers = rescaled_integers(alloc, &ends, &values, to)?;
-    let integers = FlatColumn::Primitive(integers);
-    Ok(encode_runs(alloc, &ends, &integers, 0, column.len())?)
+    let integers = match rescaled_integers(alloc, &ends, &values, to) {
+        Ok(integers) => FlatColumn::Primitive(integers),
+        Err(error) => {
+            drop(values);
+            drop(ends);
+            return Err(error);
+        }
+    };
+    let parts = encode_runs(alloc, &ends, &integers, 0, column.len());
+    drop(integers);
+    drop(values);
+    drop(ends);
+    Ok(parts?)
 }
 
 // Returns the values of these runs as integers of a native type. Refused with the first row that is not an integer of

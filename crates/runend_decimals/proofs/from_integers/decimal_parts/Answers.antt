@@ -18,7 +18,6 @@ use Rattle.runend_decimals.specs.Digits.{HasDigits}
 use Rattle.runend_decimals.specs.Rows.{integers_fault}
 use Rattle.runend_decimals.specs.Scales.{decimal_of_row, decimal_row, rescaled, EachDecimal, IsHeldAt, IsRescaleRefusal}
 use Rattle.runend_decimals.proofs.EncodedRuns.{each_shown, read_paired, read_shown, window_counted, written_paired, written_shown}
-use Rattle.runend_decimals.proofs.ScaledRows.{passed_on}
 use Rattle.runend_decimals.proofs.from_integers.decimal_parts.Goals as goal
 
 pub scaled_integers-requires-clause-runs : goal.scaled_integers-requires-clause-runs
@@ -32,27 +31,27 @@ scaled_integers-requires-clause-paired g c =
     let numbers = optional_numbers c.in_ok-ends.integers in
     read_paired (rows column) (dtype_of column) c.in_ok-ends.ends (OfNumbers c.in_ok-ends.integers) c.in_ok-ends.ensures.encoding number_in numbers (numbers-of_rows numbers)
 
-pub encode_runs-requires-clause-plain : goal.encode_runs-requires-clause-plain
-encode_runs-requires-clause-plain g c =
+pub encode_runs-parts-requires-clause-plain : goal.encode_runs-parts-requires-clause-plain
+encode_runs-parts-requires-clause-plain g c =
     let column = c.args.column.now in
     (whole_runs (rows column) (dtype_of column) c.in_ok-ends.ends (OfNumbers c.in_ok-ends.integers) c.in_ok-ends.ensures.encoding).plain
 
-pub encode_runs-requires-clause-window : goal.encode_runs-requires-clause-window
-encode_runs-requires-clause-window g c =
+pub encode_runs-parts-requires-clause-window : goal.encode_runs-parts-requires-clause-window
+encode_runs-parts-requires-clause-window g c =
     let column = c.args.column.now in
     window_counted (rows column) (dtype_of column) c.in_ok-ends.ends (OfNumbers c.in_ok-ends.integers) c.in_ok-ends.ensures.encoding c.len.result c.len.ensures
 
-pub encode_runs-requires-clause-shown : goal.encode_runs-requires-clause-shown
-encode_runs-requires-clause-shown g c =
+pub encode_runs-parts-requires-clause-shown : goal.encode_runs-parts-requires-clause-shown
+encode_runs-parts-requires-clause-shown g c =
     let column = c.args.column.now in
     each_shown (rows column) (dtype_of column) c.in_ok-ends.ends (OfNumbers c.in_ok-ends.integers) c.in_ok-ends.ensures.encoding c.len.result c.len.ensures
 
-pub encode_runs-requires-clause-paired : goal.encode_runs-requires-clause-paired
-encode_runs-requires-clause-paired g c =
+pub encode_runs-parts-requires-clause-paired : goal.encode_runs-parts-requires-clause-paired
+encode_runs-parts-requires-clause-paired g c =
     let column = c.args.column.now in
     let numbers = optional_numbers c.in_ok-ends.integers in
     written_paired (rows column) (dtype_of column) c.in_ok-ends.ends (OfNumbers c.in_ok-ends.integers) c.in_ok-ends.ensures.encoding number_in numbers (numbers-of_rows numbers)
-    (λ n. decimal_row (option_map (rescaled (pos 0) c.args.to.scale) n)) (OfDecimals c.in_ok-decimals.decimals) c.in_ok-decimals.ensures.rows
+    (λ n. decimal_row (option_map (rescaled (pos 0) c.args.to.scale) n)) (OfDecimals c.in-Ok.decimals) c.in-Ok.ensures.rows
 
 pub returns-clause-encoding : goal.returns-clause-encoding
 returns-clause-encoding g c =
@@ -62,11 +61,11 @@ returns-clause-encoding g c =
     let to = c.args.to in
     let e = c.in_ok-ends.ensures.encoding in
     let shown = written_shown (rows column) (dtype_of column) c.in_ok-ends.ends (OfNumbers integers) e number_in numbers (numbers-of_rows numbers)
-    (λ n. decimal_row (option_map (rescaled (pos 0) to.scale) n)) (OfDecimals c.in_ok-decimals.decimals) c.in_ok-decimals.ensures.rows c.len.result c.len.ensures in
-    subst (λ (t : DType). IsRowEncoding (map (decimal_of_row to.scale) (rows column)) (types.Decimal to (nullability_of t)) c.in_ok-encode_runs.field-0.0 (leaf_of c.in_ok-encode_runs.field-0.1)) e.typed
-    (subst (λ (t : DType). IsRowEncoding (map (decimal_of_row to.scale) (rows column)) t c.in_ok-encode_runs.field-0.0 (leaf_of c.in_ok-encode_runs.field-0.1)) c.in_ok-decimals.ensures.dtype
-    (subst (λ (made : List (Option Value)). IsRowEncoding made (leaf_dtype (OfDecimals c.in_ok-decimals.decimals)) c.in_ok-encode_runs.field-0.0 (leaf_of c.in_ok-encode_runs.field-0.1)) shown
-    c.in_ok-encode_runs.ensures.encoding))
+    (λ n. decimal_row (option_map (rescaled (pos 0) to.scale) n)) (OfDecimals c.in-Ok.decimals) c.in-Ok.ensures.rows c.len.result c.len.ensures in
+    subst (λ (t : DType). IsRowEncoding (map (decimal_of_row to.scale) (rows column)) (types.Decimal to (nullability_of t)) c.in_ok-parts.field-0.0 (leaf_of c.in_ok-parts.field-0.1)) e.typed
+    (subst (λ (t : DType). IsRowEncoding (map (decimal_of_row to.scale) (rows column)) t c.in_ok-parts.field-0.0 (leaf_of c.in_ok-parts.field-0.1)) c.in-Ok.ensures.dtype
+    (subst (λ (made : List (Option Value)). IsRowEncoding made (leaf_dtype (OfDecimals c.in-Ok.decimals)) c.in_ok-parts.field-0.0 (leaf_of c.in_ok-parts.field-0.1)) shown
+    (rw c.in_ok-parts.was at c.encode_runs-parts.ensures.encoding)))
 
 pub returns-clause-held : goal.returns-clause-held
 returns-clause-held g c =
@@ -74,16 +73,15 @@ returns-clause-held g c =
     let numbers = optional_numbers c.in_ok-ends.integers in
     let has = HasDigits (min c.args.to.precision 38) in
     let shown = read_shown (rows column) (dtype_of column) c.in_ok-ends.ends (OfNumbers c.in_ok-ends.integers) c.in_ok-ends.ensures.encoding number_in numbers (numbers-of_rows numbers) in
-    subst (λ (ns : List (Option ℤ)). EachDecimal (IsHeldAt (pos 0) c.args.to.scale has) ns) shown c.in_ok-decimals.ensures.held
+    subst (λ (ns : List (Option ℤ)). EachDecimal (IsHeldAt (pos 0) c.args.to.scale has) ns) shown c.in-Ok.ensures.held
 
-pub returns-in_err-decimals-clause-refused : goal.returns-in_err-decimals-clause-refused
-returns-in_err-decimals-clause-refused g c =
+pub returns-in-Err-clause-refused : goal.returns-in-Err-clause-refused
+returns-in-Err-clause-refused g c =
     let column = c.args.column.now in
-    let error = c.in_err-decimals.field-0.0 in
+    let error = c.in-Err.error in
     let numbers = optional_numbers c.in_ok-ends.integers in
     let has = HasDigits (min c.args.to.precision 38) in
     let shown = read_shown (rows column) (dtype_of column) c.in_ok-ends.ends (OfNumbers c.in_ok-ends.integers) c.in_ok-ends.ensures.encoding number_in numbers (numbers-of_rows numbers) in
     let none : integers_fault (dtype_of column) ≡ None = ap (λ (b : Bool). if b then None else Some Unsupported) c.requires in
-    let refused = subst (λ (ns : List (Option ℤ)). IsRescaleRefusal None (pos 0) c.args.to.scale has ns error) shown c.in_err-decimals.ensures.refused in
-    passed_on (IsRescaleRefusal (integers_fault (dtype_of column)) (pos 0) c.args.to.scale has (map number_in (rows column))) error c.from_residual-in_err-decimals.result c.from_residual-in_err-decimals.ensures.1
-    (subst (λ (f : Option VortexError). IsRescaleRefusal f (pos 0) c.args.to.scale has (map number_in (rows column)) error) (sym none) refused)
+    let refused = subst (λ (ns : List (Option ℤ)). IsRescaleRefusal None (pos 0) c.args.to.scale has ns error) shown c.in-Err.ensures.refused in
+    subst (λ (f : Option VortexError). IsRescaleRefusal f (pos 0) c.args.to.scale has (map number_in (rows column)) error) (sym none) refused

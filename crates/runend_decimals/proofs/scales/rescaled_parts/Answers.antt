@@ -17,7 +17,6 @@ use Rattle.runend_decimals.specs.Rows.{decimal_in, decimals_fault}
 use Rattle.runend_decimals.specs.Scales.{decimal_row, rescaled, rescaled_row, scale_of, EachDecimal, IsHeldAt, IsRescaleRefusal}
 use Rattle.runend_decimals.proofs.DecimalRuns.{decimals-of_rows, decimals_paired, decimals_shown}
 use Rattle.runend_decimals.proofs.EncodedRuns.{each_shown, window_counted, written_paired, written_shown}
-use Rattle.runend_decimals.proofs.ScaledRows.{passed_on}
 use Rattle.runend_decimals.proofs.scales.rescaled_parts.Goals as goal
 
 pub rescaled_decimals-requires-clause-runs : goal.rescaled_decimals-requires-clause-runs
@@ -30,27 +29,27 @@ rescaled_decimals-requires-clause-paired g c =
     let column = c.args.column.now in
     decimals_paired (rows column) (dtype_of column) c.in_ok-ends.ends c.in_ok-ends.values c.in_ok-ends.ensures.encoding
 
-pub encode_runs-requires-clause-plain : goal.encode_runs-requires-clause-plain
-encode_runs-requires-clause-plain g c =
+pub encode_runs-parts-requires-clause-plain : goal.encode_runs-parts-requires-clause-plain
+encode_runs-parts-requires-clause-plain g c =
     let column = c.args.column.now in
     (whole_runs (rows column) (dtype_of column) c.in_ok-ends.ends (OfDecimals c.in_ok-ends.values) c.in_ok-ends.ensures.encoding).plain
 
-pub encode_runs-requires-clause-window : goal.encode_runs-requires-clause-window
-encode_runs-requires-clause-window g c =
+pub encode_runs-parts-requires-clause-window : goal.encode_runs-parts-requires-clause-window
+encode_runs-parts-requires-clause-window g c =
     let column = c.args.column.now in
     window_counted (rows column) (dtype_of column) c.in_ok-ends.ends (OfDecimals c.in_ok-ends.values) c.in_ok-ends.ensures.encoding c.len.result c.len.ensures
 
-pub encode_runs-requires-clause-shown : goal.encode_runs-requires-clause-shown
-encode_runs-requires-clause-shown g c =
+pub encode_runs-parts-requires-clause-shown : goal.encode_runs-parts-requires-clause-shown
+encode_runs-parts-requires-clause-shown g c =
     let column = c.args.column.now in
     each_shown (rows column) (dtype_of column) c.in_ok-ends.ends (OfDecimals c.in_ok-ends.values) c.in_ok-ends.ensures.encoding c.len.result c.len.ensures
 
-pub encode_runs-requires-clause-paired : goal.encode_runs-requires-clause-paired
-encode_runs-requires-clause-paired g c =
+pub encode_runs-parts-requires-clause-paired : goal.encode_runs-parts-requires-clause-paired
+encode_runs-parts-requires-clause-paired g c =
     let column = c.args.column.now in
     let values = c.in_ok-ends.values in
     written_paired (rows column) (dtype_of column) c.in_ok-ends.ends (OfDecimals values) c.in_ok-ends.ensures.encoding decimal_in (optional_decimals values) (decimals-of_rows (optional_decimals values))
-    (λ n. decimal_row (option_map (rescaled values.decimal.scale c.args.to.scale) n)) (OfDecimals c.in_ok-decimals.decimals) c.in_ok-decimals.ensures.rows
+    (λ n. decimal_row (option_map (rescaled values.decimal.scale c.args.to.scale) n)) (OfDecimals c.in-Ok.decimals) c.in-Ok.ensures.rows
 
 pub returns-clause-encoding : goal.returns-clause-encoding
 returns-clause-encoding g c =
@@ -59,11 +58,11 @@ returns-clause-encoding g c =
     let to = c.args.to in
     let e = c.in_ok-ends.ensures.encoding in
     let shown = written_shown (rows column) (dtype_of column) c.in_ok-ends.ends (OfDecimals values) e decimal_in (optional_decimals values) (decimals-of_rows (optional_decimals values))
-    (λ n. decimal_row (option_map (rescaled values.decimal.scale to.scale) n)) (OfDecimals c.in_ok-decimals.decimals) c.in_ok-decimals.ensures.rows c.len.result c.len.ensures in
-    subst (λ (t : DType). IsRowEncoding (map (rescaled_row (scale_of t) to.scale) (rows column)) (types.Decimal to (nullability_of t)) c.in_ok-encode_runs.field-0.0 (leaf_of c.in_ok-encode_runs.field-0.1)) e.typed
-    (subst (λ (t : DType). IsRowEncoding (map (rescaled_row values.decimal.scale to.scale) (rows column)) t c.in_ok-encode_runs.field-0.0 (leaf_of c.in_ok-encode_runs.field-0.1)) c.in_ok-decimals.ensures.dtype
-    (subst (λ (made : List (Option Value)). IsRowEncoding made (leaf_dtype (OfDecimals c.in_ok-decimals.decimals)) c.in_ok-encode_runs.field-0.0 (leaf_of c.in_ok-encode_runs.field-0.1)) shown
-    c.in_ok-encode_runs.ensures.encoding))
+    (λ n. decimal_row (option_map (rescaled values.decimal.scale to.scale) n)) (OfDecimals c.in-Ok.decimals) c.in-Ok.ensures.rows c.len.result c.len.ensures in
+    subst (λ (t : DType). IsRowEncoding (map (rescaled_row (scale_of t) to.scale) (rows column)) (types.Decimal to (nullability_of t)) c.in_ok-parts.field-0.0 (leaf_of c.in_ok-parts.field-0.1)) e.typed
+    (subst (λ (t : DType). IsRowEncoding (map (rescaled_row values.decimal.scale to.scale) (rows column)) t c.in_ok-parts.field-0.0 (leaf_of c.in_ok-parts.field-0.1)) c.in-Ok.ensures.dtype
+    (subst (λ (made : List (Option Value)). IsRowEncoding made (leaf_dtype (OfDecimals c.in-Ok.decimals)) c.in_ok-parts.field-0.0 (leaf_of c.in_ok-parts.field-0.1)) shown
+    (rw c.in_ok-parts.was at c.encode_runs-parts.ensures.encoding)))
 
 pub returns-clause-held : goal.returns-clause-held
 returns-clause-held g c =
@@ -73,18 +72,17 @@ returns-clause-held g c =
     let digits = min c.args.to.precision 38 in
     let shown = decimals_shown (rows column) (dtype_of column) c.in_ok-ends.ends values e in
     subst (λ (t : DType). EachDecimal (IsHeldAt (scale_of t) c.args.to.scale (HasDigits digits)) (map decimal_in (rows column))) e.typed
-    (subst (λ (ns : List (Option ℤ)). EachDecimal (IsHeldAt values.decimal.scale c.args.to.scale (HasDigits digits)) ns) shown c.in_ok-decimals.ensures.held)
+    (subst (λ (ns : List (Option ℤ)). EachDecimal (IsHeldAt values.decimal.scale c.args.to.scale (HasDigits digits)) ns) shown c.in-Ok.ensures.held)
 
-pub returns-in_err-decimals-clause-refused : goal.returns-in_err-decimals-clause-refused
-returns-in_err-decimals-clause-refused g c =
+pub returns-in-Err-clause-refused : goal.returns-in-Err-clause-refused
+returns-in-Err-clause-refused g c =
     let column = c.args.column.now in
-    let error = c.in_err-decimals.field-0.0 in
+    let error = c.in-Err.error in
     let values = c.in_ok-ends.values in
     let e = c.in_ok-ends.ensures.encoding in
     let has = HasDigits (min c.args.to.precision 38) in
     let shown = decimals_shown (rows column) (dtype_of column) c.in_ok-ends.ends values e in
     let none : decimals_fault (dtype_of column) ≡ None = ap (λ (b : Bool). if b then None else Some Unsupported) c.requires in
     let refused = subst (λ (t : DType). IsRescaleRefusal None (scale_of t) c.args.to.scale has (map decimal_in (rows column)) error) e.typed
-    (subst (λ (ns : List (Option ℤ)). IsRescaleRefusal None values.decimal.scale c.args.to.scale has ns error) shown c.in_err-decimals.ensures.refused) in
-    passed_on (IsRescaleRefusal (decimals_fault (dtype_of column)) (scale_of (dtype_of column)) c.args.to.scale has (map decimal_in (rows column))) error c.from_residual-in_err-decimals.result c.from_residual-in_err-decimals.ensures.1
-    (subst (λ (f : Option VortexError). IsRescaleRefusal f (scale_of (dtype_of column)) c.args.to.scale has (map decimal_in (rows column)) error) (sym none) refused)
+    (subst (λ (ns : List (Option ℤ)). IsRescaleRefusal None values.decimal.scale c.args.to.scale has ns error) shown c.in-Err.ensures.refused) in
+    subst (λ (f : Option VortexError). IsRescaleRefusal f (scale_of (dtype_of column)) c.args.to.scale has (map decimal_in (rows column)) error) (sym none) refused
