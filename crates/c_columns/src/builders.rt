@@ -17,6 +17,7 @@ use column_core::{DType, VortexError, VortexResult};
 use runend_array::{ArrayRef, RunEndArray};
 use runend_builder::{RunBuilder, encode_rows};
 use std::alloc::Global;
+use std::mem::replace;
 use std::sync::Arc;
 
 /// A builder on the heap.
@@ -98,9 +99,19 @@ pub fn finished(alloc: Global, builder: &mut RunBuilder<Global>) -> VortexResult
     ensures kept { OnErr result (builder.new ≡ builder.old) }
 {
     let mut runs = Arc::new(alloc, no_runs(alloc))?;
-    let mut place = boxed(alloc, no_ends(alloc))?;
-    finish_into(alloc, builder, &mut runs)?;
-    *place = ArrayRef::RunEnd(runs);
+    let mut place = match boxed(alloc, no_ends(alloc)) {
+        Ok(place) => place,
+        Err(error) => {
+            drop(runs);
+            return Err(error);
+        }
+    };
+    if let Err(error) = finish_into(alloc, builder, &mut runs) {
+        drop(place);
+        drop(runs);
+        return Err(error);
+    }
+    drop(replace(&mut *place, ArrayRef::RunEnd(runs)));
     Ok(place)
 }
 
@@ -119,6 +130,7 @@ fn finish_into(
     let Some(own) = Arc::get_mut(runs) else {
         return Err(VortexError::OutOfMemory);
     };
-    *own = builder.finish(&mut plain_context(alloc))?;
+    let encoding = builder.finish(&mut plain_context(alloc))?;
+    drop(replace(own, encoding));
     Ok(())
 }
