@@ -118,7 +118,13 @@ fn tested_runs<T: KeyTest, A: Allocator + Copy>(
         IsDecodedForm (map (tested_row (T.passes test.now)) (optional_numbers keys.now)) (column_of truths)) }
     ensures session { ctx.new ≡ ctx.old }
 {
-    let truths = tested_keys(*ctx.allocator(), keys, test)?;
+    let truths = match tested_keys(*ctx.allocator(), keys, test) {
+        Ok(truths) => truths,
+        Err(error) => {
+            drop(ends);
+            return Err(error);
+        }
+    };
     prove_eq!(truths.len(), ends.len());
     runend_decode_bools(ends, truths, 0, count, ctx)
 }

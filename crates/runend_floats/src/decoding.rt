@@ -31,7 +31,11 @@ pub fn decode_floats<A: Allocator + Copy>(
 {
     format_of_column(column.dtype())?;
     match flat_rows(column, ctx)? {
-        FlatColumn::Primitive(keys) => bits_of(*ctx.allocator(), &keys),
+        FlatColumn::Primitive(keys) => {
+            let bits = bits_of(*ctx.allocator(), &keys);
+            drop(keys);
+            bits
+        }
         _ => unreachable!(),
     }
 }
