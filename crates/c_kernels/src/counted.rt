@@ -27,7 +27,19 @@ pub fn count_values(alloc: Global, array: &ArrayRef<Global>) -> VortexResult<Box
     ensures first { (error : VortexError) → list_fault (dtype_of array.now) ≡ Some error → IsErrOf result error }
 {
     let ValueCounts { values, counts } = value_counts(array, &mut plain_context(alloc))?;
-    let values = boxed(alloc, values)?;
-    let counts = boxed(alloc, counts)?;
+    let values = match boxed(alloc, values) {
+        Ok(values) => values,
+        Err(error) => {
+            drop(counts);
+            return Err(error);
+        }
+    };
+    let counts = match boxed(alloc, counts) {
+        Ok(counts) => counts,
+        Err(error) => {
+            drop(values);
+            return Err(error);
+        }
+    };
     Ok(BoxedCounts { values, counts })
 }

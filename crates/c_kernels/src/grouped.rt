@@ -38,8 +38,20 @@ pub fn groups_of(
         answers,
     } = folded;
     drop(ends);
-    let group_keys = boxed(alloc, array_of(group_keys))?;
-    let answers = boxed(alloc, ArrayRef::Primitive(answers))?;
+    let group_keys = match boxed(alloc, array_of(group_keys)) {
+        Ok(group_keys) => group_keys,
+        Err(error) => {
+            drop(answers);
+            return Err(GroupError::Refused(error));
+        }
+    };
+    let answers = match boxed(alloc, ArrayRef::Primitive(answers)) {
+        Ok(answers) => answers,
+        Err(error) => {
+            drop(group_keys);
+            return Err(GroupError::Refused(error));
+        }
+    };
     Ok(BoxedGroups {
         keys: group_keys,
         answers,

@@ -28,7 +28,19 @@ pub fn totals_of(alloc: Global, array: &ArrayRef<Global>) -> Result<BoxedTotals,
         result ≡ Err (TotalError.Refused error) }
 {
     let RunningTotals { ends, totals } = running_totals(array, &mut plain_context(alloc))?;
-    let ends = boxed(alloc, ArrayRef::Primitive(ends))?;
-    let totals = boxed(alloc, ArrayRef::Primitive(totals))?;
+    let ends = match boxed(alloc, ArrayRef::Primitive(ends)) {
+        Ok(ends) => ends,
+        Err(error) => {
+            drop(totals);
+            return Err(TotalError::Refused(error));
+        }
+    };
+    let totals = match boxed(alloc, ArrayRef::Primitive(totals)) {
+        Ok(totals) => totals,
+        Err(error) => {
+            drop(ends);
+            return Err(TotalError::Refused(error));
+        }
+    };
     Ok(BoxedTotals { ends, totals })
 }
