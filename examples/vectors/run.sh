@@ -2,10 +2,10 @@
 # Builds the runner of vectors over the library for C, and holds the library against the stored lines (lines.txt), or
 # against those of FILE (docs/VECTORS.md). From any folder:
 #     sh examples/vectors/run.sh [--sanitize] [--test] [--list] [FILE]
-# --sanitize looks for faults of memory and for leaks too, --test runs the tests of the runner itself first, --list prints
-# each line that no call serves. Needs a C++17 compiler ($CXX, or c++, g++ or clang++) and lib/libhivevigil.a, which
-# examples/build.sh makes, or an installed package that pkg-config finds. Of the stored lines as many have to agree as
-# expected_counts says, so that a file that was cut, or a runner that serves nothing, fails.
+# --sanitize looks for faults of memory and for leaks too, --test runs the tests of the runner itself first, --list
+# prints each line that no call serves. Needs a C++17 compiler ($CXX, or c++, g++ or clang++) and lib/libhivevigil.a,
+# which examples/build.sh makes, or an installed package that pkg-config finds. Of the stored lines as many have to
+# agree as expected_counts says, so that a file that was cut, or a runner that serves nothing, fails.
 set -eu
 here=$(cd "$(dirname "$0")" && pwd)
 top=$(cd "$here/../.." && pwd)

@@ -169,8 +169,8 @@ inline Command read_cast(const Words &words, const Workspace &workspace) {
         });
 }
 
-// No call serves a scalar whose type differs from the column's in what C passes no word of. `is_typed`: the answer keeps
-// whether the type of the scalar has null.
+// No call serves a scalar whose type differs from the column's in what C passes no word of. `is_typed`: the answer
+// keeps whether the type of the scalar has null.
 inline void require_served(const Scalar &scalar, const Column &column, bool is_typed) {
     const hv_kind kind = column.kind();
     if (kind.number == HV_LIST && scalar.value.kind == HV_NULL) return; // null is of any type

@@ -32,8 +32,8 @@ template <class Bits, class Float> Bits bits_of(Float number) {
 }
 template <class Float, class Bits> Float float_of(Bits bits) { return bits_of<Float>(bits); }
 
-// The bits of the float of 16 bits that is nearest to a number, at a tie the even one. Steps between floats are powers of
-// two, so the number is exactly divided by the step where it is, and 1024 steps on they double.
+// The bits of the float of 16 bits that is nearest to a number, at a tie the even one. Steps between floats are powers
+// of two, so the number is exactly divided by the step where it is, and 1024 steps on they double.
 inline uint64_t half_bits(double number) {
     const uint64_t sign = std::signbit(number) ? layout_of(HV_I16).sign() : 0, most = layout_of(HV_I16).infinity();
     const double size = std::fabs(number);
@@ -85,8 +85,8 @@ inline uint64_t read_float(int format, const std::string &word) {
     return starts_with(word, "0x") ? bits_of_pattern(format, word.substr(2)) : bits_of_decimal(format, word);
 }
 
-// The digits of a number, the point after `before` of them, with at most `most` digits before it and `zeros` zeros right
-// after it, else with an exponent.
+// The digits of a number, the point after `before` of them, with at most `most` digits before it and `zeros` zeros
+// right after it, else with an exponent.
 inline std::string placed(const std::string &digits, int before, int most, int zeros) {
     const int count = static_cast<int>(digits.size());
     const auto zeros_of = [](int number) { return std::string(static_cast<size_t>(number), '0'); };
@@ -104,7 +104,8 @@ template <class Float> std::string shortest(Float number, int most, int zeros) {
     if (std::isinf(number)) return sign + "inf";
     if (number == 0) return sign + "0.0";
     std::array<char, 64> text{};
-    const auto end = std::to_chars(text.data(), text.data() + text.size(), std::fabs(number), std::chars_format::scientific);
+    const auto end =
+        std::to_chars(text.data(), text.data() + text.size(), std::fabs(number), std::chars_format::scientific);
     std::string digits(text.data(), end.ptr);
     const size_t mark = digits.find('e');
     const int exponent = std::stoi(digits.substr(mark + 1));

@@ -121,13 +121,7 @@ inline std::string flat_text(const Message &message) {
 }
 
 inline hv_kind element_kind(const Message &constant) {
-    hv_kind kind = kind_of_number(static_cast<int>(constant.number(field::element_type)) - 1);
-    kind.nullable = constant.number(field::element_nullability) == 2;
-    if (kind.number != HV_DECIMAL) return kind;
-    kind.precision = static_cast<uint8_t>(constant.number(field::precision));
-    const uint64_t scale = constant.number(field::scale);
-    kind.scale = static_cast<int8_t>(scale % 2 ? -static_cast<int64_t>(scale / 2) - 1 : static_cast<int64_t>(scale / 2));
-    return kind;
+    return kind_of(constant, constant.number(field::element_type), constant.number(field::element_nullability) == 2);
 }
 
 inline std::string constant_type(const Message &message) {
@@ -149,7 +143,8 @@ inline std::string part_text(const Message &message) {
                        std::to_string(message.number(field::offset)) + " " +
                        std::to_string(message.number(field::rows));
     uint64_t end = 0;
-    for (const uint64_t length : varints_of(message.part(field::run_lengths))) text += " " + std::to_string(end += length);
+    for (const uint64_t length : varints_of(message.part(field::run_lengths)))
+        text += " " + std::to_string(end += length);
     return text + " { " + part_text(message.message(field::values)) + " }";
 }
 

@@ -191,7 +191,8 @@ inline Shared lists_of(const hv_session &session, const ListParts &parts) {
 
 inline Call read_lists(const Words &words, const Workspace &workspace) {
     require(words.size() == 4);
-    ListParts parts{workspace.find(words[0]), workspace.find(words[1]), workspace.find(words[2]), nullptr, {by_runs, {}}};
+    const Shared elements = workspace.find(words[0]), offsets = workspace.find(words[1]);
+    ListParts parts{elements, offsets, workspace.find(words[2]), nullptr, {by_runs, {}}};
     if (is_name(words[3])) parts.runs = workspace.find(words[3]);
     else parts.validity = read_validity(words[3]);
     require(parts.elements->form() == HV_FORM_FLAT && (!parts.runs || parts.runs->form() == HV_FORM_RUNS));
@@ -240,7 +241,8 @@ inline Call read_views(const Words &words, const Workspace &) {
     if (validity.code == by_bits && validity.bits.size() != views.size())
         throw NotServed("bits of validity of another length than the rows", true);
     const Words texts = views_texts(buffers, views, validity);
-    if (validity.code != all_null) return [=] { return done(texts_column(is_binary, texts, PassedValidity(validity))); };
+    if (validity.code != all_null)
+        return [=] { return done(texts_column(is_binary, texts, PassedValidity(validity))); };
     const hv_kind kind = kind_of_number(is_binary ? HV_BINARY : HV_UTF8, true);
     return [=] { return done(read_message(flat_message(kind, all_null, {}, Rows(views.size(), null_row())))); };
 }

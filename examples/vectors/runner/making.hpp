@@ -66,7 +66,8 @@ Shared integers(int32_t (*make)(const Item *, size_t, hv_validity, hv_column *, 
 
 inline Shared decimals(const hv_kind &kind, const std::vector<Wide> &numbers, const PassedValidity &validity) {
     std::vector<hv_pair> pairs;
-    for (const Wide number : numbers) pairs.push_back({static_cast<uint64_t>(number), static_cast<int64_t>(number >> 64)});
+    for (const Wide number : numbers)
+        pairs.push_back({static_cast<uint64_t>(number), static_cast<int64_t>(number >> 64)});
     return made([&](hv_column *out, hv_error *error) {
         return hv_decimals(pairs.data(), pairs.size(), kind.precision, kind.scale, validity.get(), out, error);
     });
@@ -119,7 +120,8 @@ inline Shared flat_column(const hv_kind &kind, const Rows &rows) {
         if (is_text(kind)) texts.push_back(stored_text(row, kind));
         else numbers.push_back(stored_number(row, kind));
     }
-    return is_text(kind) ? texts_column(kind.number == HV_BINARY, texts, passed) : numbers_column(kind, numbers, passed);
+    if (is_text(kind)) return texts_column(kind.number == HV_BINARY, texts, passed);
+    return numbers_column(kind, numbers, passed);
 }
 
 // The integers of a flat column of u64.

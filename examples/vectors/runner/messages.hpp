@@ -1,5 +1,5 @@
-// Messages of columns (docs/column.proto): read field by field, for what no call says of a form, and written, for columns
-// that no call makes of rows.
+// Messages of columns (docs/column.proto): read field by field, for what no call says of a form, and written, for
+// columns that no call makes of rows.
 #ifndef VECTORS_MESSAGES_HPP
 #define VECTORS_MESSAGES_HPP
 #include "library.hpp"
@@ -47,7 +47,7 @@ public:
                 numbers[key / 8] = number;
                 continue;
             }
-            if (key % 8 != 2 || number > bytes.size() - at) throw std::runtime_error("a field that is not of a message");
+            if (key % 8 != 2 || number > bytes.size() - at) throw std::runtime_error("a field that ends nowhere");
             parts[key / 8] = bytes.substr(at, number);
             at += number;
         }
@@ -71,14 +71,19 @@ inline bool bit_at(const std::string &bits, size_t index) {
     return static_cast<unsigned char>(bits.at(index / 8)) >> index % 8 & 1;
 }
 
-inline hv_kind kind_of(const Message &message) {
-    hv_kind kind = kind_of_number(static_cast<int>(message.number(field::type)) - 1);
-    kind.nullable = message.number(field::validity) != never_null;
+// The type of a number, counted from 1, with the precision and scale of the message where it is one of decimals.
+inline hv_kind kind_of(const Message &message, uint64_t type, bool is_nullable) {
+    hv_kind kind = kind_of_number(static_cast<int>(type) - 1, is_nullable);
     if (kind.number != HV_DECIMAL) return kind;
-    const uint64_t scale = message.number(field::scale);
+    const uint64_t zigzag = message.number(field::scale);
+    const int size = static_cast<int>(zigzag / 2);
     kind.precision = static_cast<uint8_t>(message.number(field::precision));
-    kind.scale = static_cast<int8_t>(scale % 2 ? -static_cast<int64_t>(scale / 2) - 1 : static_cast<int64_t>(scale / 2));
+    kind.scale = static_cast<int8_t>(zigzag % 2 ? -size - 1 : size);
     return kind;
+}
+
+inline hv_kind kind_of(const Message &message) {
+    return kind_of(message, message.number(field::type), message.number(field::validity) != never_null);
 }
 
 // The word of an integer, decimal or boolean that is stored at a place.

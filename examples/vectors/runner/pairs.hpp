@@ -10,8 +10,8 @@ namespace vectors {
 
 // The words of the operators of two rows, each at the number that it has in hivevigil.h.
 inline const Words &operator_words() {
-    static const Words all{"eq", "ne", "gt", "ge", "lt", "le", "+", "-", "*", "and", "or", "coalesce", "lesser", "greater",
-                           "/"};
+    static const Words all{"eq", "ne",  "gt", "ge",       "lt",     "le",      "+", "-",
+                           "*",  "and", "or", "coalesce", "lesser", "greater", "/"};
     return all;
 }
 
@@ -42,13 +42,15 @@ template <PartCall call> Call read_one(const Words &words, const Workspace &work
 // A call that makes two columns, of which a line keeps one.
 using TwoCall = int32_t (*)(const hv_column *, hv_column *, hv_column *, hv_error *);
 
-template <TwoCall call, bool is_first, bool has_row> Call read_one_of_two(const Words &words, const Workspace &workspace) {
+template <TwoCall call, bool is_first, bool has_row>
+Call read_one_of_two(const Words &words, const Workspace &workspace) {
     require(words.size() == 1);
     const Shared column = workspace.find(words[0]);
     return making(
         [=](hv_column *out, hv_error *error) {
             Column other;
-            return is_first ? call(column->get(), out, other.out(), error) : call(column->get(), other.out(), out, error);
+            return is_first ? call(column->get(), out, other.out(), error)
+                            : call(column->get(), other.out(), out, error);
         },
         has_row);
 }

@@ -193,8 +193,8 @@ inline const std::map<std::string, QuestionReader> &questions() {
 
 // ---- Records, and messages without a column ----
 
-// A record is asked by hv_deserialize: its type of ends is the one that the call does not refuse, its number of runs the
-// one that the call misses, and its offset is that of a column over as many runs.
+// A record is asked by hv_deserialize: its type of ends is the one that the call does not refuse, its number of runs
+// the one that the call misses, and its offset is that of a column over as many runs.
 class RecordQuestion {
 public:
     explicit RecordQuestion(std::string record) : bytes(std::move(record)) {}

@@ -1,6 +1,6 @@
-// Answers the lines of a file of vectors (docs/VECTORS.md) by calls of the library, prints each line whose answer differs,
-// and last `N agree, N differ, N not served`. What a line expects is read only after it is answered. The status is 0
-// where none differs and one agrees. With `--list` each line that is not served is printed too.
+// Answers the lines of a file of vectors (docs/VECTORS.md) by calls of the library, prints each line whose answer
+// differs, and last `N agree, N differ, N not served`. What a line expects is read only after it is answered. The
+// status is 0 where none differs and one agrees. With `--list` each line that is not served is printed too.
 //     sh examples/vectors/run.sh [--list] [FILE]
 #include "lines.hpp"
 #include <fstream>
