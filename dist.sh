@@ -44,7 +44,7 @@ make_tar() {
     sed -e "s|@VERSION@|$version|" -e "s|@MACHINE@|$machine|" "$top/tools/packages/README.md" >"$work/$name/README.md"
     for page in ABI.md BYTES.md ERRORS.md PROMISE.md column.proto table.proto; do cp "$top/docs/$page" "$work/$name/docs/"; done
     mkdir -p "$work/$name/examples/corpus"
-    for part in messages tables differences; do
+    for part in messages typed tables differences; do
         cp "$top/examples/corpus/$part.txt" "$work/$name/examples/corpus/"
     done
     for part in Cargo.toml build.rs src tests examples; do cp -R "$top/rust/$part" "$work/$name/rust/"; done

@@ -101,7 +101,9 @@ place 644 "$top/LICENSE" share/doc/hivevigil/LICENSE
 for page in ABI.md BYTES.md ERRORS.md PROMISE.md column.proto table.proto; do
     place 644 "$top/docs/$page" "share/doc/hivevigil/$page"
 done
-place 644 "$top/examples/corpus/messages.txt" share/doc/hivevigil/messages.txt
+for part in messages typed tables differences; do
+    place 644 "$top/examples/corpus/$part.txt" "share/doc/hivevigil/$part.txt"
+done
 if [ -e "$top/lib/UNPROVED" ]; then
     echo "install: this library was built without proof" >&2
     place 644 "$top/lib/UNPROVED" share/doc/hivevigil/UNPROVED

@@ -46,7 +46,10 @@ refused: rows 2 to 12 are not among 9 rows'
     # shellcheck disable=SC2046
     "$cc" -std=c11 "$top/examples/c/corpus.c" "-I$top/examples/c" $(pkg-config --cflags hivevigil) \
         "$(pkg-config --variable=libdir hivevigil)/libhivevigil.a" -o corpus
-    ./corpus "$pages/messages.txt" >corpus.log 2>&1 || fail "stored messages: $(tail -n 2 corpus.log)"
+    ./corpus "$pages/messages.txt" "$pages/typed.txt" >corpus.log 2>&1 || fail "stored messages: $(tail -n 2 corpus.log)"
+    for part in tables differences; do
+        cmp -s "$pages/$part.txt" "$top/examples/corpus/$part.txt" || fail "no $part.txt of stored tables is installed"
+    done
     echo "Hivevigil $(pkg-config --modversion hivevigil) by pkg-config, shared object and archive"
 }
 

@@ -107,6 +107,12 @@ enum {
     HV_BAD_NUMBER = 23              /* a number that names no type, or no operator; no fields */
 };
 
+/* The third field of 3, 4, 8 and 11 says what these are about where it is neither runs nor rows: offsets of texts (4
+ * and 8 have their row), lists that are not within their elements, or a null pointer to items, whose number 11 has. The
+ * calls of this header set it; an export leaves 0. hv_error_text (hivevigil_errors.h, which this header includes at its
+ * end) writes each refusal as a sentence, and hv_error_name returns the names above. */
+enum { HV_ABOUT_TEXTS = 1, HV_ABOUT_LISTS = 2, HV_ABOUT_NULL = 3 };
+
 /* Types by number. Only decimals have precision and scale. HV_LIST says nothing of the items, whose type is that of
  * hv_list_elements: hv_lists and hv_read_column make lists, and a call that is given this number refuses it. */
 enum { HV_U8, HV_U16, HV_U32, HV_U64, HV_I8, HV_I16, HV_I32, HV_I64, HV_BOOL, HV_DECIMAL, HV_UTF8, HV_BINARY, HV_LIST };
@@ -180,7 +186,7 @@ HV_CALL hv_validity hv_all_valid(void) {
     return validity;
 }
 /* The validity by bits: row i is null where bit `first + i` is 0, and bit k is bit k % 8 of byte k / 8, as in Arrow. A
- * call is refused as 11 (rows, bytes) where these are fewer bits than rows. */
+ * call is refused as HV_COLUMN_LENGTH (rows, bytes) where these are fewer bits than rows. */
 HV_CALL hv_validity hv_valid_bits(const uint8_t *bits, size_t bits_len, size_t first) {
     hv_validity validity = {bits, bits_len, first, 2};
     return validity;
@@ -194,35 +200,37 @@ HV_ANSWER hv_i8(const int8_t *items, size_t len, hv_validity validity, hv_column
 HV_ANSWER hv_i16(const int16_t *items, size_t len, hv_validity validity, hv_column *out, hv_error *error);
 HV_ANSWER hv_i32(const int32_t *items, size_t len, hv_validity validity, hv_column *out, hv_error *error);
 HV_ANSWER hv_i64(const int64_t *items, size_t len, hv_validity validity, hv_column *out, hv_error *error);
-/* `count` booleans, row i by bit `start + i` of `truths`; 11 (rows, bytes) where there are fewer bits */
+/* `count` booleans, row i by bit `start + i` of `truths`; HV_COLUMN_LENGTH (rows, bytes) where there are fewer bits */
 HV_ANSWER hv_bools(const uint8_t *truths, size_t truths_len, size_t start, size_t count, hv_validity validity,
                    hv_column *out, hv_error *error);
 /* Numbers of more digits than the precision says are taken as they are, also where they come from Arrow: no call
  * checks. */
 HV_ANSWER hv_decimals(const hv_pair *pairs, size_t len, uint8_t precision, int8_t scale, hv_validity validity,
                       hv_column *out, hv_error *error);
-/* Row i is the bytes from offsets[i] to offsets[i + 1] - 1; there is one offset more than rows. 4 for offsets that
- * fall, 8 (row, rows) for a row that is not within the bytes, 12 for a text that is not UTF-8. binary: bytes, not
- * texts. */
+/* Row i is the bytes from offsets[i] to offsets[i + 1] - 1; there is one offset more than rows. HV_ENDS_NOT_STRICT for
+ * offsets that fall, HV_OUT_OF_BOUNDS (row, rows) for a row that is not within the bytes, HV_TYPE_MISMATCH for a text
+ * that is not UTF-8. binary: bytes, not texts. */
 HV_ANSWER hv_texts(uint8_t binary, const int32_t *offsets, size_t offsets_len, const uint8_t *bytes, size_t bytes_len,
                    hv_validity validity, hv_column *out, hv_error *error);
 HV_ANSWER hv_large_texts(uint8_t binary, const int64_t *offsets, size_t offsets_len, const uint8_t *bytes,
                          size_t bytes_len, hv_validity validity, hv_column *out, hv_error *error);
-/* The value, of this type, in each of `count` rows, in memory for one: 15 for null in a type without null, 12 for a
- * value that is not of the type, or a text that is not UTF-8; 23 where kind names no type, or lists. */
+/* The value, of this type, in each of `count` rows, in memory for one: HV_NULL_NOT_ALLOWED for null in a type without
+ * null, HV_TYPE_MISMATCH for a value that is not of the type, or a text that is not UTF-8; HV_BAD_NUMBER where kind
+ * names no type, or lists. */
 HV_ANSWER hv_constant(const hv_kind *kind, const hv_value *value, const uint8_t *text, size_t text_len, size_t count,
                       hv_column *out, hv_error *error);
 /* The run column of these ends and one value for each; it shows `count` rows from row `offset` on. Ends are a flat
- * column of an unsigned type without null, each above the one before. The column is over clones of both. 13 where there
- * would be more than 64 nested levels of runs: every call serves 64, and no call makes more (lists whose offsets, sizes
- * or validity are in runs count as two); then the first fault of 1 to 7 in their order, or 21. Where `count` is 0
- * neither 6 nor 7 comes: any offset is allowed then. */
+ * column of an unsigned type without null, each above the one before. The column is over clones of both. HV_UNSUPPORTED
+ * where there would be more than 64 nested levels of runs: every call serves 64, and no call makes more (lists whose
+ * offsets, sizes or validity are in runs count as two); then the first fault of HV_ENDS_NOT_UNSIGNED to
+ * HV_LAST_END_BELOW_WINDOW in their order, or HV_OUT_OF_MEMORY. Where `count` is 0 neither HV_FIRST_END_BELOW_OFFSET
+ * nor HV_LAST_END_BELOW_WINDOW comes: any offset is allowed then. */
 HV_ANSWER hv_runs(const hv_column *ends, const hv_column *values, size_t offset, size_t count, hv_column *out,
                   hv_error *error);
-/* Lists: row i is the sizes[i] items of `elements` from item offsets[i] on, and lists may lie in any order and
- * overlap. `elements` is a flat column, which is shared; 11 (rows, bytes) as above, then 13 unless it is flat, 11
- * (offsets, sizes) for another number of sizes, 8 (row, elements) for the first row that is not null and not within
- * the elements. */
+/* Lists: row i is the sizes[i] items of `elements` from item offsets[i] on, and lists may lie in any order and overlap.
+ * `elements` is a flat column, which is shared; HV_COLUMN_LENGTH (rows, bytes) as above, then HV_UNSUPPORTED unless it
+ * is flat, HV_COLUMN_LENGTH (offsets, sizes) for another number of sizes, HV_OUT_OF_BOUNDS (row, elements) for the
+ * first row that is not null and not within the elements. */
 HV_ANSWER hv_lists(const hv_column *elements, const uint64_t *offsets, size_t offsets_len, const uint64_t *sizes,
                    size_t sizes_len, hv_validity validity, hv_column *out, hv_error *error);
 /* The same column in the same form. What holds 32 items or more is shared and not copied. */
@@ -232,45 +240,49 @@ HV_ANSWER hv_clone(const hv_column *column, hv_column *out, hv_error *error);
 HV_ANSWER hv_compact(const hv_column *column, hv_column *out, hv_error *error);
 
 /* ---- Commands: what they leave goes to `out` ----
- * Refused exactly as is said here, with these fields, or as 21. The session decides in which form rows are left. A run
- * column of integers that is left has as few runs as possible, from row 0 on; hv_slice keeps the existing runs. A
- * constant stays one, whatever the session, under hv_slice and hv_filter, and, where it has a row, under hv_cast,
- * hv_fill, hv_compare_scalar, and hv_compare with another constant: no row is written. */
-/* as few runs as possible, with ends of the least type, which may be u64 where all rows are null; 20 unless the rows
- * are integers. In runs and constants it looks only at the runs that the column shows. */
+ * Refused exactly as is said here, with these fields, or as HV_OUT_OF_MEMORY. The session decides in which form rows
+ * are left. A run column of integers that is left has as few runs as possible, from row 0 on; hv_slice keeps the
+ * existing runs. A constant stays one, whatever the session, under hv_slice and hv_filter, and, where it has a row,
+ * under hv_cast, hv_fill, hv_compare_scalar, and hv_compare with another constant: no row is written. */
+/* as few runs as possible, with ends of the least type, which may be u64 where all rows are null; HV_ONLY_PRIMITIVE
+ * unless the rows are integers. In runs and constants it looks only at the runs that the column shows. */
 HV_ANSWER hv_encode(const hv_session *session, const hv_column *column, hv_column *out, hv_error *error);
 /* the rows written out in a flat form */
 HV_ANSWER hv_decode(const hv_session *session, const hv_column *column, hv_column *out, hv_error *error);
-/* the rows from start to stop - 1; 9 (start, stop, length) where start is above stop, or stop above the length */
+/* the rows from start to stop - 1; HV_BAD_RANGE (start, stop, length) where start is above stop, or stop above the
+ * length */
 HV_ANSWER hv_slice(const hv_session *session, const hv_column *column, size_t start, size_t stop, hv_column *out,
                    hv_error *error);
-/* each row as the same value of this type: 13 unless both types are of integers or of one kind that is not a list; at
- * the first row that is not a value of the type 15 for null and 14 for a number; 23 where kind names no type, or
- * lists */
+/* each row as the same value of this type: HV_UNSUPPORTED unless both types are of integers or of one kind that is not
+ * a list; at the first row that is not a value of the type HV_NULL_NOT_ALLOWED for null and HV_CAST_OUT_OF_RANGE for a
+ * number; HV_BAD_NUMBER where kind names no type, or lists */
 HV_ANSWER hv_cast(const hv_session *session, const hv_column *column, const hv_kind *kind, hv_column *out,
                   hv_error *error);
-/* the rows at the indices, integers in any form (else 12): null at a null index; 8 (index, length) */
+/* the rows at the indices, integers in any form (else HV_TYPE_MISMATCH): null at a null index; HV_OUT_OF_BOUNDS (index,
+ * length) */
 HV_ANSWER hv_take(const hv_session *session, const hv_column *column, const hv_column *indices, hv_column *out,
                   hv_error *error);
-/* the rows at which the mask, booleans in any form (else 12), is true: a null in the mask selects nothing, as in SQL's
- * WHERE; 10 (mask, length) */
+/* the rows at which the mask, booleans in any form (else HV_TYPE_MISMATCH), is true: a null in the mask selects
+ * nothing, as in SQL's WHERE; HV_MASK_LENGTH (mask, length) */
 HV_ANSWER hv_filter(const hv_session *session, const hv_column *column, const hv_column *mask, hv_column *out,
                     hv_error *error);
-/* each row of `codes` is replaced by the row of the dictionary that it numbers from 0, null stays null; 12 unless the
- * codes are integers, 8 (code, length of the dictionary) */
+/* each row of `codes` is replaced by the row of the dictionary that it numbers from 0, null stays null;
+ * HV_TYPE_MISMATCH unless the codes are integers, HV_OUT_OF_BOUNDS (code, length of the dictionary) */
 HV_ANSWER hv_take_from(const hv_session *session, const hv_column *codes, const hv_column *dictionary, hv_column *out,
                        hv_error *error);
-/* row by row whether `left operator right`, null where either is null; 13 for lists, 12 for two types that differ in
- * more than null, 11 (left, right) for another number of rows, 23 for no operator */
+/* row by row whether `left operator right`, null where either is null; HV_UNSUPPORTED for lists, HV_TYPE_MISMATCH for
+ * two types that differ in more than null, HV_COLUMN_LENGTH (left, right) for another number of rows, HV_BAD_NUMBER for
+ * no operator */
 enum { HV_EQ, HV_NE, HV_GT, HV_GE, HV_LT, HV_LE };
 HV_ANSWER hv_compare(const hv_session *session, const hv_column *column, uint8_t operator_, const hv_column *right,
                      hv_column *out, hv_error *error);
-/* the same against one value, of the column's type or null; 12 where it is not of that type, or a text that is not
- * UTF-8 */
+/* the same against one value, of the column's type or null; HV_TYPE_MISMATCH where it is not of that type, or a text
+ * that is not UTF-8 */
 HV_ANSWER hv_compare_scalar(const hv_session *session, const hv_column *column, uint8_t operator_,
                             const hv_value *value, const uint8_t *text, size_t text_len, hv_column *out,
                             hv_error *error);
-/* a value in place of each null, after which the type has no null; 12 as above, 13 for lists, 16 for null */
+/* a value in place of each null, after which the type has no null; HV_TYPE_MISMATCH as above, HV_UNSUPPORTED for lists,
+ * HV_NULL_FILL for null */
 HV_ANSWER hv_fill(const hv_session *session, const hv_column *column, const hv_value *value, const uint8_t *text,
                   size_t text_len, hv_column *out, hv_error *error);
 
@@ -280,29 +292,32 @@ HV_ANSWER hv_fill(const hv_session *session, const hv_column *column, const hv_v
  * null, but `false and null` is false, `true or null` is true, and HV_COALESCE takes the row that is not null. */
 enum { HV_ADD = 6, HV_SUBTRACT, HV_MULTIPLY, HV_AND, HV_OR, HV_COALESCE, HV_LESSER, HV_GREATER };
 /* The rows of two columns worked place by place, at the cost of the runs of both and not of the rows: a constant where
- * both are constants that have a row, else runs, as few as possible. 13 for lists, for HV_ADD to HV_MULTIPLY unless both
- * are of integers, for HV_AND and HV_OR unless both are of booleans, for HV_COALESCE to HV_GREATER unless each is of
- * integers, decimals or booleans; then 12 for two types that differ in more than null, then 11 (left, right) for another
- * number of rows, then 14 (row) for the first row whose answer the type does not have; 23 for no operator. The session
- * of hv_compare has no part in it: only the form of its answer differs. */
+ * both are constants that have a row, else runs, as few as possible. HV_UNSUPPORTED for lists, for HV_ADD to
+ * HV_MULTIPLY unless both are of integers, for HV_AND and HV_OR unless both are of booleans, for HV_COALESCE to
+ * HV_GREATER unless each is of integers, decimals or booleans; then HV_TYPE_MISMATCH for two types that differ in more
+ * than null, then HV_COLUMN_LENGTH (left, right) for another number of rows, then HV_CAST_OUT_OF_RANGE (row) for the
+ * first row whose answer the type does not have; HV_BAD_NUMBER for no operator. The session of hv_compare has no part
+ * in it: only the form of its answer differs. */
 HV_ANSWER hv_combine(const hv_column *left, uint8_t operator_, const hv_column *right, hv_column *out, hv_error *error);
 
-/* The other boolean of each row, null for null, 13 unless the rows are booleans; whether each row is null, and whether
- * it is not, in booleans without null, 13 for lists. Runs, as few as possible, or a constant of a constant. */
+/* The other boolean of each row, null for null, HV_UNSUPPORTED unless the rows are booleans; whether each row is null,
+ * and whether it is not, in booleans without null, HV_UNSUPPORTED for lists. Runs, as few as possible, or a constant of
+ * a constant. */
 HV_ANSWER hv_not(const hv_column *column, hv_column *out, hv_error *error);
 HV_ANSWER hv_is_null(const hv_column *column, hv_column *out, hv_error *error);
 HV_ANSWER hv_is_valid(const hv_column *column, hv_column *out, hv_error *error);
 /* The left row where the mask is true, the right one where it is false, null where it is null, in the type of both with
- * null; runs, as few as possible, or a constant of three. 13 unless the mask is of booleans and each column of integers,
- * decimals or booleans, then 12 for two types that differ in more than null, then 11 (left, right) or (mask, left). */
+ * null; runs, as few as possible, or a constant of three. HV_UNSUPPORTED unless the mask is of booleans and each column
+ * of integers, decimals or booleans, then HV_TYPE_MISMATCH for two types that differ in more than null, then
+ * HV_COLUMN_LENGTH (left, right) or (mask, left). */
 HV_ANSWER hv_if_else(const hv_column *mask, const hv_column *left, const hv_column *right, hv_column *out,
                      hv_error *error);
 
 /* whether two columns are of one type, but for null, and have the same rows, null equal to null; by runs, up to the
- * first row that differs; 13 for two columns of lists of one type */
+ * first row that differs; HV_UNSUPPORTED for two columns of lists of one type */
 HV_ANSWER hv_equals(const hv_column *left, const hv_column *right, uint8_t *truth, hv_error *error);
-/* a hash of the rows, the same for all columns that have these rows, in whatever forms: the SipHash-1-3, with keys 0, of
- * the ends and the values of their runs, as few as possible; 13 for lists */
+/* a hash of the rows, the same for all columns that have these rows, in whatever forms: the SipHash-1-3, with keys 0,
+ * of the ends and the values of their runs, as few as possible; HV_UNSUPPORTED for lists */
 HV_ANSWER hv_hash(const hv_column *column, uint64_t *hash, hv_error *error);
 
 /* what is answered of the values in each group: their sum, in i64 or u64; the number of rows, or of values that are not
@@ -310,54 +325,58 @@ HV_ANSWER hv_hash(const hv_column *column, uint64_t *hash, hv_error *error);
 enum { HV_FOLD_SUM, HV_FOLD_ROWS, HV_FOLD_COUNT, HV_FOLD_LEAST, HV_FOLD_GREATEST, HV_FOLD_FIRST, HV_FOLD_LAST };
 /* The rows of `values` are grouped by runs of equal neighbouring rows of `keys`, null equal to null: the key of each
  * group, and what is answered of it, null where it has no value that is not null (a count: 0), both flat, and the
- * answers of a type that has null. 13 where keys are lists or values are not integers, then 11 (keys, values) for
- * another number of rows, then 14 (group, from 0) for the first sum that does not fit 64 bits; 23 for no fold. */
+ * answers of a type that has null. HV_UNSUPPORTED where keys are lists or values are not integers, then
+ * HV_COLUMN_LENGTH (keys, values) for another number of rows, then HV_CAST_OUT_OF_RANGE (group, from 0) for the first
+ * sum that does not fit 64 bits; HV_BAD_NUMBER for no fold. */
 HV_ANSWER hv_fold_by(const hv_column *keys, const hv_column *values, uint8_t fold, hv_column *out_keys,
                      hv_column *out_answers, hv_error *error);
 /* Where each run of equal neighbouring rows ends, null equal to null, in the least unsigned type that has the number of
  * rows; and the sum of all rows before that end, in i64 for signed rows and in u64 for unsigned ones, null only where
- * all rows so far are null, which are skipped. Both flat, at the cost of the runs. A run of a value grows by it from row
- * to row: up to row r of the run that ends before e, the total is that at e less (e - 1 - r) * value. 13 unless the rows
- * are integers, and never 21 for others, then 14 (run, from 0) for the first total that does not fit 64 bits. */
+ * all rows so far are null, which are skipped. Both flat, at the cost of the runs. A run of a value grows by it from
+ * row to row: up to row r of the run that ends before e, the total is that at e less (e - 1 - r) * value.
+ * HV_UNSUPPORTED unless the rows are integers, and never HV_OUT_OF_MEMORY for others, then HV_CAST_OUT_OF_RANGE (run,
+ * from 0) for the first total that does not fit 64 bits. */
 HV_ANSWER hv_running_totals(const hv_column *column, hv_column *out_ends, hv_column *out_totals, hv_error *error);
 
-/* The rows in reverse order; and in order, as hv_is_sorted has it: null first, then numbers by value, false before true,
- * texts and bytes by their bytes. At the cost of the runs and not of the rows: a constant stays one, any other column
- * becomes runs, as few as possible. 13 for lists, and never 21 for them. */
+/* The rows in reverse order; and in order, as hv_is_sorted has it: null first, then numbers by value, false before
+ * true, texts and bytes by their bytes. At the cost of the runs and not of the rows: a constant stays one, any other
+ * column becomes runs, as few as possible. HV_UNSUPPORTED for lists, and never HV_OUT_OF_MEMORY for them. */
 HV_ANSWER hv_reverse(const hv_column *column, hv_column *out, hv_error *error);
 HV_ANSWER hv_sort(const hv_column *column, hv_column *out, hv_error *error);
-/* The distinct rows in that order, and how many rows are equal to each, in u64, both flat, at the cost of the runs. 13
- * for lists, and never 21 for them. */
+/* The distinct rows in that order, and how many rows are equal to each, in u64, both flat, at the cost of the runs.
+ * HV_UNSUPPORTED for lists, and never HV_OUT_OF_MEMORY for them. */
 HV_ANSWER hv_value_counts(const hv_column *column, hv_column *out_values, hv_column *out_counts, hv_error *error);
 
 /* ---- Questions ----
- * Refused exactly as is said here, with these fields, or, except for hv_at, as 21: never as 21 over a flat column, nor,
- * where the question's kernel is registered, over runs or a constant, except for hv_extreme and hv_min_max of texts or
- * bytes. */
-/* the sum of the rows that are not null; 13 unless they are integers */
+ * Refused exactly as is said here, with these fields, or, except for hv_at, as HV_OUT_OF_MEMORY: never as that over a
+ * flat column, nor, where the question's kernel is registered, over runs or a constant, except for hv_extreme and
+ * hv_min_max of texts or bytes. */
+/* the sum of the rows that are not null; HV_UNSUPPORTED unless they are integers */
 HV_ANSWER hv_sum(const hv_session *session, const hv_column *column, hv_total *total, hv_error *error);
 /* What the rows add to a sum, by which the sum of joined rows is known, also where it overflows on the way: their
  * total, and the least and the greatest sum on the way from row to row, one of which is the 0 before the first row. The
  * total of joined rows is total + total2, their least min(least, total + least2), their greatest max(greatest, total +
- * greatest2); hv_sum has a sum exactly where least and greatest are in its range, and then it is the total. For unsigned
- * types the bits of `high` are those of a uint64_t. At the cost of the runs, and of encoding a flat column; 13 unless the
- * rows are integers, and never 21 for them. */
+ * greatest2); hv_sum has a sum exactly where least and greatest are in its range, and then it is the total. For
+ * unsigned types the bits of `high` are those of a uint64_t. At the cost of the runs, and of encoding a flat column;
+ * HV_UNSUPPORTED unless the rows are integers, and never HV_OUT_OF_MEMORY for them. */
 HV_ANSWER hv_sum_parts(const hv_column *column, hv_pair *total, hv_pair *least, hv_pair *greatest, hv_error *error);
-/* whether all rows are equal, null equal to null; 13 for lists */
+/* whether all rows are equal, null equal to null; HV_UNSUPPORTED for lists */
 HV_ANSWER hv_is_constant(const hv_session *session, const hv_column *column, uint8_t *truth, hv_error *error);
-/* whether no row is above the next (strict: whether each is below it), with null below all else; 13 for lists */
+/* whether no row is above the next (strict: whether each is below it), with null below all else; HV_UNSUPPORTED for
+ * lists */
 HV_ANSWER hv_is_sorted(const hv_session *session, const hv_column *column, uint8_t strict, uint8_t *truth,
                        hv_error *error);
-/* the least (greatest: the greatest) row that is not null, HV_NULL where all are; 13 for lists, 11 as with hv_at */
+/* the least (greatest: the greatest) row that is not null, HV_NULL where all are; HV_UNSUPPORTED for lists,
+ * HV_COLUMN_LENGTH as with hv_at */
 HV_ANSWER hv_extreme(const hv_session *session, const hv_column *column, uint8_t greatest, hv_value *value,
                      uint8_t *text, size_t text_len, hv_error *error);
-/* both at once, each with a buffer of its own; HV_NULL twice where all rows are null; 13 for lists, 11 for the one
- * that has no room in its buffer, and for the least where neither has */
+/* both at once, each with a buffer of its own; HV_NULL twice where all rows are null; HV_UNSUPPORTED for lists,
+ * HV_COLUMN_LENGTH for the one that has no room in its buffer, and for the least where neither has */
 HV_ANSWER hv_min_max(const hv_session *session, const hv_column *column, hv_value *least, uint8_t *least_text,
                      size_t least_text_len, hv_value *greatest, uint8_t *greatest_text, size_t greatest_text_len,
                      hv_error *error);
-/* row `row`, which takes no memory; 13 for lists, then 8 (row, length). A text goes to the front of `text`: 11 (bytes
- * of the text, text_len) where it has no room there. */
+/* row `row`, which takes no memory; HV_UNSUPPORTED for lists, then HV_OUT_OF_BOUNDS (row, length). A text goes to the
+ * front of `text`: HV_COLUMN_LENGTH (bytes of the text, text_len) where it has no room there. */
 HV_ANSWER hv_at(const hv_column *column, size_t row, hv_value *value, uint8_t *text, size_t text_len, hv_error *error);
 HV_CALL size_t hv_length(const hv_column *column);     /* rows; 0 without a column */
 /* how many rows are null, by runs and without memory; 0 without a column */
@@ -375,27 +394,28 @@ HV_CALL size_t hv_bytes_used(const hv_column *column);
 
 /* ---- Decimals ---- */
 /* the exact sum of the rows that are not null, at the scale of the column and whatever its precision, and whether no
- * row is valid, with the sum 0; at the cost of the runs and not of the rows. 13 unless they are decimals, which takes no
- * memory; then 14 (row) for the first row such that the rows up to it add up to more than 38 digits, also where later
- * rows would bring the sum back; 21. */
+ * row is valid, with the sum 0; at the cost of the runs and not of the rows. HV_UNSUPPORTED unless they are decimals,
+ * which takes no memory; then HV_CAST_OUT_OF_RANGE (row) for the first row such that the rows up to it add up to more
+ * than 38 digits, also where later rows would bring the sum back; HV_OUT_OF_MEMORY. */
 HV_ANSWER hv_decimal_sum(const hv_column *column, hv_pair *sum, uint8_t *is_empty, hv_error *error);
 /* Integers or decimals, the same numbers as decimals of up to `precision` digits, at most 38, with `scale` of them
  * after the point, or -scale zeros before it, in as few runs as possible and at the cost of the runs; null where the
- * row is. 23 for a precision that is not 1 to 38; 13 unless they are integers or decimals, which takes no memory; then
- * 14 (row, why) for the first row that is not such a decimal: why is 1 where the scale has no place for a digit of it,
- * and 0 where it has too many digits; 21 */
+ * row is. HV_BAD_NUMBER for a precision that is not 1 to 38; HV_UNSUPPORTED unless they are integers or decimals, which
+ * takes no memory; then HV_CAST_OUT_OF_RANGE (row, why) for the first row that is not such a decimal: why is 1 where
+ * the scale has no place for a digit of it, and 0 where it has too many digits; HV_OUT_OF_MEMORY */
 HV_ANSWER hv_decimal_cast(const hv_column *column, uint8_t precision, int8_t scale, hv_column *out, hv_error *error);
-/* the integers that decimals are, of a type from HV_U8 to HV_I64; 13 unless they are decimals, then 14 (row, why) for
- * the first row that is not such an integer: why is 1 where it has a fraction, and 0 where the type does not have it;
- * 23 for another type, 21 */
+/* the integers that decimals are, of a type from HV_U8 to HV_I64; HV_UNSUPPORTED unless they are decimals, then
+ * HV_CAST_OUT_OF_RANGE (row, why) for the first row that is not such an integer: why is 1 where it has a fraction, and
+ * 0 where the type does not have it; HV_BAD_NUMBER for another type, HV_OUT_OF_MEMORY */
 HV_ANSWER hv_decimal_to_integers(const hv_column *decimals, uint8_t to, hv_column *out, hv_error *error);
 
-/* The decimals at each place of two columns added, subtracted or multiplied (HV_ADD, HV_SUBTRACT, HV_MULTIPLY), exactly,
- * null where either is null, in the form and at the cost of hv_combine. Sums and differences are at the scale of both
- * columns, in one digit more than the greater precision; products at the sum of the scales, in one digit more than both
- * precisions together; in 38 digits at most. 13 unless both are of decimals; then 12 for sums of two scales, which
- * hivevigil_decimals.h brings to one, and for a product whose scale is not from -128 to 127; then 11 (left, right);
- * then 14 (row) for the first row whose answer has more digits; 23 for another operator. */
+/* The decimals at each place of two columns added, subtracted or multiplied (HV_ADD, HV_SUBTRACT, HV_MULTIPLY),
+ * exactly, null where either is null, in the form and at the cost of hv_combine. Sums and differences are at the scale
+ * of both columns, in one digit more than the greater precision; products at the sum of the scales, in one digit more
+ * than both precisions together; in 38 digits at most. HV_UNSUPPORTED unless both are of decimals; then
+ * HV_TYPE_MISMATCH for sums of two scales, which hivevigil_decimals.h brings to one, and for a product whose scale is
+ * not from -128 to 127; then HV_COLUMN_LENGTH (left, right); then HV_CAST_OUT_OF_RANGE (row) for the first row whose
+ * answer has more digits; HV_BAD_NUMBER for another operator. */
 HV_ANSWER hv_decimal_combine(const hv_column *left, uint8_t operator_, const hv_column *right, hv_column *out,
                              hv_error *error);
 
@@ -407,57 +427,62 @@ HV_ANSWER hv_decimal_combine(const hv_column *left, uint8_t operator_, const hv_
  * takes the total order, in which only equal bits are equal, -0.0 is below 0.0, and NaNs lie below and above all
  * numbers, by their signs. */
 /* the floats with these bits, in as few runs as possible: as they are, or, where is_canonical is not 0, with one zero
- * and one NaN in place of all; 12 unless the bits are u16, u32 or u64, which takes no memory, 21 */
+ * and one NaN in place of all; HV_TYPE_MISMATCH unless the bits are u16, u32 or u64, which takes no memory,
+ * HV_OUT_OF_MEMORY */
 HV_ANSWER hv_float_encode(const hv_column *bits, uint8_t is_canonical, hv_column *out, hv_error *error);
-/* their bits, flat, null where the row is; 12 unless the column is of i16, i32 or i64, which takes no memory, 21 */
+/* their bits, flat, null where the row is; HV_TYPE_MISMATCH unless the column is of i16, i32 or i64, which takes no
+ * memory, HV_OUT_OF_MEMORY */
 HV_ANSWER hv_float_decode(const hv_column *floats, hv_column *out, hv_error *error);
 /* row by row whether `float operator constant`, null where the row is; the constant is given by its bits, of the width
- * of the column. 12 as above, then 14 for a constant with more bits, both of which take no memory, 21; 23 for no
- * operator */
+ * of the column. HV_TYPE_MISMATCH as above, then HV_CAST_OUT_OF_RANGE for a constant with more bits, both of which take
+ * no memory, HV_OUT_OF_MEMORY; HV_BAD_NUMBER for no operator */
 HV_ANSWER hv_float_compare(const hv_column *floats, uint8_t operator_, uint64_t constant, uint8_t is_ieee,
                            hv_column *out, hv_error *error);
-/* row `row`, which takes no memory: 1 and its bits, or 0 twice for null; 12 as above, then 8 (row, length) */
+/* row `row`, which takes no memory: 1 and its bits, or 0 twice for null; HV_TYPE_MISMATCH as above, then
+ * HV_OUT_OF_BOUNDS (row, length) */
 HV_ANSWER hv_float_at(const hv_column *floats, size_t row, uint8_t *is_valid, uint64_t *bits, hv_error *error);
 /* the least and the greatest float that is not null, with is_ieee only of numbers, where -0.0 is below 0.0: 1 and the
- * bits of both, or 0 three times where there is none; 12 as above, 21 */
+ * bits of both, or 0 three times where there is none; HV_TYPE_MISMATCH as above, HV_OUT_OF_MEMORY */
 HV_ANSWER hv_float_min_max(const hv_column *floats, uint8_t is_ieee, uint8_t *is_found, uint64_t *least,
                            uint64_t *greatest, hv_error *error);
 /* how many rows are not null, and the bits of their exact sum, rounded once to the nearest float: a NaN where a row is
  * one or both infinities are rows, an infinity past the finite floats, -0.0 where there are rows and all are -0.0. Only
- * of floats of 64 bits: 12 unless the column is of i64, which takes no memory, 21 */
+ * of floats of 64 bits: HV_TYPE_MISMATCH unless the column is of i64, which takes no memory, HV_OUT_OF_MEMORY */
 HV_ANSWER hv_float_sum(const hv_column *floats, uint64_t *count, uint64_t *bits, hv_error *error);
-/* The same floats in another format, named by the type of its keys, HV_I16, HV_I32 or HV_I64, in as few runs as possible
- * and at the cost of the runs, null where the row is. A NaN keeps its payload. With is_rounded 0 they are exactly the
- * same: 12 as above, then 14 where the format does not have a float; else each is the nearest one, at a tie the even
- * one: past the finite floats by half a step or more an infinity, and a NaN whose payload the format does not have the
- * quiet one without. 23 for another type, 21 */
+/* The same floats in another format, named by the type of its keys, HV_I16, HV_I32 or HV_I64, in as few runs as
+ * possible and at the cost of the runs, null where the row is. A NaN keeps its payload. With is_rounded 0 they are
+ * exactly the same: HV_TYPE_MISMATCH as above, then HV_CAST_OUT_OF_RANGE where the format does not have a float; else
+ * each is the nearest one, at a tie the even one: past the finite floats by half a step or more an infinity, and a NaN
+ * whose payload the format does not have the quiet one without. HV_BAD_NUMBER for another type, HV_OUT_OF_MEMORY */
 HV_ANSWER hv_float_cast(const hv_column *floats, uint8_t to, uint8_t is_rounded, hv_column *out, hv_error *error);
-/* the floats that integers are, of such a format, or the nearest with is_rounded; 12 unless they are integers, then 14
- * where the format does not have one and nothing is rounded; 23 for another type, 21 */
+/* the floats that integers are, of such a format, or the nearest with is_rounded; HV_TYPE_MISMATCH unless they are
+ * integers, then HV_CAST_OUT_OF_RANGE where the format does not have one and nothing is rounded; HV_BAD_NUMBER for
+ * another type, HV_OUT_OF_MEMORY */
 HV_ANSWER hv_float_of_integers(const hv_column *integers, uint8_t to, uint8_t is_rounded, hv_column *out,
                                hv_error *error);
-/* the integers that floats are, of a type from HV_U8 to HV_I64; 12 unless the column is one of floats, then 14 for a
- * float that is not an integer of the type, as one with a fraction, an infinity and a NaN are not; 23 for another type,
- * 21 */
+/* the integers that floats are, of a type from HV_U8 to HV_I64; HV_TYPE_MISMATCH unless the column is one of floats,
+ * then HV_CAST_OUT_OF_RANGE for a float that is not an integer of the type, as one with a fraction, an infinity and a
+ * NaN are not; HV_BAD_NUMBER for another type, HV_OUT_OF_MEMORY */
 HV_ANSWER hv_float_to_integers(const hv_column *floats, uint8_t to, hv_column *out, hv_error *error);
 /* what HV_ADD, HV_SUBTRACT, HV_MULTIPLY or this operator gives of two floats of one format */
 enum { HV_DIVIDE = 14 };
 /* The floats of two columns worked place by place, at the cost of the runs of both: as IEEE 754 says in their format,
  * rounded once, at a tie to the even one, so past the finite floats and divided by zero an infinity; of every NaN the
  * quiet one with a plus and no payload; null where either row is null. A constant where both are constants that have a
- * row, else runs, as few as possible. 12 unless both are of i32 or both of i64, 13 where both are of i16 (hv_float_cast
- * to 32 bits, and back rounded, gives what IEEE 754 says of 16), then 11 (left, right) for another number of rows, which
- * take no memory, 21; 23 for no operator */
+ * row, else runs, as few as possible. HV_TYPE_MISMATCH unless both are of i32 or both of i64, HV_UNSUPPORTED where both
+ * are of i16 (hv_float_cast to 32 bits, and back rounded, gives what IEEE 754 says of 16), then HV_COLUMN_LENGTH (left,
+ * right) for another number of rows, which take no memory, HV_OUT_OF_MEMORY; HV_BAD_NUMBER for no operator */
 HV_ANSWER hv_float_combine(const hv_column *left, uint8_t operator_, const hv_column *right, hv_column *out,
                            hv_error *error);
 
 /* ---- Reading many rows ----
  * These calls read columns in any form. Reading a flat column takes no memory, and what is stored under null is read as
- * it is. In any other form only these rows are written flat first, which may be refused as 21; under null there may be
- * any number. Refused exactly as is said here, with these fields; 9 also where no row is asked for, from a row past the
- * end on, and its stop is 2^64 - 1 where no uint64_t has it. */
-/* as many integers as there is room for, from row `start` on: 13 unless the rows are integers, 12 where they are of
- * another type, 9 (start, stop, length) past the end; for hv_read_decimals 13 unless the rows are decimals, then 9 */
+ * it is. In any other form only these rows are written flat first, which may be refused as HV_OUT_OF_MEMORY; under null
+ * there may be any number. Refused exactly as is said here, with these fields; HV_BAD_RANGE also where no row is asked
+ * for, from a row past the end on, and its stop is 2^64 - 1 where no uint64_t has it. */
+/* as many integers as there is room for, from row `start` on: HV_UNSUPPORTED unless the rows are integers,
+ * HV_TYPE_MISMATCH where they are of another type, HV_BAD_RANGE (start, stop, length) past the end; for
+ * hv_read_decimals HV_UNSUPPORTED unless the rows are decimals, then HV_BAD_RANGE */
 HV_ANSWER hv_read_u8(const hv_column *column, size_t start, uint8_t *items, size_t len, hv_error *error);
 HV_ANSWER hv_read_u16(const hv_column *column, size_t start, uint16_t *items, size_t len, hv_error *error);
 HV_ANSWER hv_read_u32(const hv_column *column, size_t start, uint32_t *items, size_t len, hv_error *error);
@@ -467,28 +492,30 @@ HV_ANSWER hv_read_i16(const hv_column *column, size_t start, int16_t *items, siz
 HV_ANSWER hv_read_i32(const hv_column *column, size_t start, int32_t *items, size_t len, hv_error *error);
 HV_ANSWER hv_read_i64(const hv_column *column, size_t start, int64_t *items, size_t len, hv_error *error);
 HV_ANSWER hv_read_decimals(const hv_column *column, size_t start, hv_pair *pairs, size_t len, hv_error *error);
-/* Bits, 64 to a word, for all rows of the column, and 0 after the last: 13 unless they are flat booleans, for validity
- * unless the column is flat; 11 (needed, len) unless len is (length + 63) / 64. No memory is taken. On a little-endian
- * machine the words are the bytes of Arrow's bitmaps. */
+/* Bits, 64 to a word, for all rows of the column, and 0 after the last: HV_UNSUPPORTED unless they are flat booleans,
+ * for validity unless the column is flat; HV_COLUMN_LENGTH (needed, len) unless len is (length + 63) / 64. No memory is
+ * taken. On a little-endian machine the words are the bytes of Arrow's bitmaps. */
 HV_ANSWER hv_read_bools(const hv_column *column, uint64_t *words, size_t len, hv_error *error);
 HV_ANSWER hv_read_validity(const hv_column *column, uint64_t *words, size_t len, hv_error *error);
-/* The same for `rows` rows from row `start` on, in any form, the bit of row `start` first: 13 unless they are booleans,
- * for validity 13 for lists; 9, then 11 (needed, len) unless len is (rows + 63) / 64, or 21. */
+/* The same for `rows` rows from row `start` on, in any form, the bit of row `start` first: HV_UNSUPPORTED unless they
+ * are booleans, for validity HV_UNSUPPORTED for lists; HV_BAD_RANGE, then HV_COLUMN_LENGTH (needed, len) unless len is
+ * (rows + 63) / 64, or HV_OUT_OF_MEMORY. */
 HV_ANSWER hv_read_bools_from(const hv_column *column, size_t start, size_t rows, uint64_t *words, size_t len,
                              hv_error *error);
 HV_ANSWER hv_read_validity_from(const hv_column *column, size_t start, size_t rows, uint64_t *words, size_t len,
                                 hv_error *error);
-/* Texts and bytes, in two calls: 13 unless the rows are texts or bytes. First the offsets of `len - 1` rows from row
- * `start` on, from 0: row k is bytes offsets[k] to offsets[k + 1] - 1, and the last offset is the number of bytes; a
- * null has no bytes. 9 (start, start, length) where len is 0, 9 past the end, 14 where the type has no such offset.
- * Then the bytes of `rows` rows one after the other: 9, and 11 (needed, len) unless len is their number; needed is
- * 2^64 - 1 where no uint64_t has that number. */
+/* Texts and bytes, in two calls: HV_UNSUPPORTED unless the rows are texts or bytes. First the offsets of `len - 1` rows
+ * from row `start` on, from 0: row k is bytes offsets[k] to offsets[k + 1] - 1, and the last offset is the number of
+ * bytes; a null has no bytes. HV_BAD_RANGE (start, start, length) where len is 0, HV_BAD_RANGE past the end,
+ * HV_CAST_OUT_OF_RANGE where the type has no such offset. Then the bytes of `rows` rows one after the other:
+ * HV_BAD_RANGE, and HV_COLUMN_LENGTH (needed, len) unless len is their number; needed is 2^64 - 1 where no uint64_t has
+ * that number. */
 HV_ANSWER hv_read_offsets(const hv_column *column, size_t start, int32_t *offsets, size_t len, hv_error *error);
 HV_ANSWER hv_read_large_offsets(const hv_column *column, size_t start, int64_t *offsets, size_t len, hv_error *error);
 HV_ANSWER hv_read_bytes(const hv_column *column, size_t start, size_t rows, uint8_t *bytes, size_t len,
                         hv_error *error);
 
-/* ---- Run columns ---- (13 of other forms) */
+/* ---- Run columns ---- (HV_UNSUPPORTED of other forms) */
 /* the ends, shared: flat, of an unsigned type, without null; and the values, shared */
 HV_ANSWER hv_ends(const hv_column *column, hv_column *out, hv_error *error);
 HV_ANSWER hv_values(const hv_column *column, hv_column *out, hv_error *error);
@@ -496,23 +523,25 @@ HV_ANSWER hv_values(const hv_column *column, hv_column *out, hv_error *error);
  * column: run k shows the rows from its start to its stop - 1, and starts where run k - 1 stops. A run that the column
  * does not reach shows no rows. None of these calls takes memory. */
 HV_ANSWER hv_run_count(const hv_column *column, size_t *count, hv_error *error);
-/* The rows of run `run` and the value that they have; 13 also for lists, 8 (run, runs), 11 as with hv_at. */
+/* The rows of run `run` and the value that they have; HV_UNSUPPORTED also for lists, HV_OUT_OF_BOUNDS (run, runs),
+ * HV_COLUMN_LENGTH as with hv_at. */
 HV_ANSWER hv_run(const hv_column *column, size_t run, size_t *start, size_t *stop, hv_value *value, uint8_t *text,
                  size_t text_len, hv_error *error);
-/* The run of row `row`; 8 (row, length). */
+/* The run of row `row`; HV_OUT_OF_BOUNDS (row, length). */
 HV_ANSWER hv_run_of(const hv_column *column, size_t row, size_t *run, hv_error *error);
-/* Where `len` runs stop, from run `first` on; 9 (first, stop, runs) past the last run. */
+/* Where `len` runs stop, from run `first` on; HV_BAD_RANGE (first, stop, runs) past the last run. */
 HV_ANSWER hv_read_ends_u64(const hv_column *column, size_t first, uint64_t *stops, size_t len, hv_error *error);
-/* Writes the metadata record to the front of `bytes`, and its number of bytes to *size; 11 (needed, bytes_len) where
- * it does not fit. */
+/* Writes the metadata record to the front of `bytes`, and its number of bytes to *size; HV_COLUMN_LENGTH (needed,
+ * bytes_len) where it does not fit. */
 HV_ANSWER hv_serialize(const hv_column *column, uint8_t *bytes, size_t bytes_len, size_t *size, hv_error *error);
-/* The run column of `count` rows of this type by its record, over clones of these ends and values; 17 for bytes that
- * are not a record, 18 (number), 12 for ends that are not of the type that it states or values that are not of this
- * one, 19 (stated, found), 23 where kind names no type, or as hv_runs, whose 13 comes before these. */
+/* The run column of `count` rows of this type by its record, over clones of these ends and values; HV_BAD_METADATA for
+ * bytes that are not a record, HV_ENDS_TYPE_NUMBER (number), HV_TYPE_MISMATCH for ends that are not of the type that it
+ * states or values that are not of this one, HV_RUN_COUNT (stated, found), HV_BAD_NUMBER where kind names no type, or
+ * as hv_runs, whose HV_UNSUPPORTED comes before these. */
 HV_ANSWER hv_deserialize(const hv_kind *kind, size_t count, const uint8_t *bytes, size_t bytes_len,
                          const hv_column *ends, const hv_column *values, hv_column *out, hv_error *error);
 
-/* ---- Lists ---- (13 of other forms: hv_decode writes runs and constants of lists as lists)
+/* ---- Lists ---- (HV_UNSUPPORTED of other forms: hv_decode writes runs and constants of lists as lists)
  * Row i is the items of the elements from its offset on, as many as its size; a null row may have any offset and size.
  * Offsets and sizes are u64 without null, flat or in runs, and hv_read_u64 reads them. All are shared. */
 HV_ANSWER hv_list_elements(const hv_column *column, hv_column *out, hv_error *error);  /* of all lists, flat */
@@ -522,21 +551,22 @@ HV_ANSWER hv_list_validity(const hv_column *column, hv_column *out, hv_error *er
 
 /* ---- Encodings of any column, and of rows that come batch by batch ----
  * An encoding is a run column of as few runs as possible, with ends of the least type and with flat values. */
-/* The rows, of any type except lists (13), encoded. In runs and in a constant it looks only at the runs that the column
- * shows, and not at the rows. */
+/* The rows, of any type except lists (HV_UNSUPPORTED), encoded. In runs and in a constant it looks only at the runs
+ * that the column shows, and not at the rows. */
 HV_ANSWER hv_encode_rows(const hv_column *column, hv_column *out, hv_error *error);
 
 /* A builder takes rows batch by batch, joins runs of equal rows across the seams of the batches, and holds an end and a
  * value for each run, and nothing for a row. Its handle owns it as a column's handle owns a column. Where a call is
  * refused, the builder is as it was. */
-/* A builder of rows of this type, without rows; the one that the handle held before is freed. 23 where kind names no
- * type, or lists. */
+/* A builder of rows of this type, without rows; the one that the handle held before is freed. HV_BAD_NUMBER where kind
+ * names no type, or lists. */
 HV_ANSWER hv_builder_new(const hv_kind *kind, hv_builder *builder, hv_error *error);
-/* Appends the rows of a column, in any form, to those of the builder: 12 unless its type is the builder's (null or not
- * belongs to a type), then 5 for 2^64 rows or more in all. */
+/* Appends the rows of a column, in any form, to those of the builder: HV_TYPE_MISMATCH unless its type is the builder's
+ * (null or not belongs to a type), then HV_WINDOW_OVERFLOW for 2^64 rows or more in all. */
 HV_ANSWER hv_append(hv_builder *builder, const hv_column *column, hv_error *error);
-/* Appends `count` rows of one value of the builder's type: 15 for null in a type without null, 12 for a value that is
- * not of the type, or a text that is not UTF-8, also for a count of 0; then 5 as above. */
+/* Appends `count` rows of one value of the builder's type: HV_NULL_NOT_ALLOWED for null in a type without null,
+ * HV_TYPE_MISMATCH for a value that is not of the type, or a text that is not UTF-8, also for a count of 0; then
+ * HV_WINDOW_OVERFLOW as above. */
 HV_ANSWER hv_append_value(hv_builder *builder, const hv_value *value, const uint8_t *text, size_t text_len,
                           size_t count, hv_error *error);
 /* The encoding of all rows so far, which the builder keeps. */
@@ -551,14 +581,16 @@ HV_CALL void hv_builder_free(hv_builder *builder);
 
 /* A column as bytes, in any form, to keep or to send: a message of the Protocol Buffers encoding (docs/column.proto),
  * in the form that the column has, with its window; for flat texts and bytes the rows, which are read into one buffer.
- * Equal forms have equal bytes. 13 exactly for more than 16 levels of runs, where lists that runs were decoded to,
- * whose offsets, sizes or validity are in runs, count as two. */
+ * Equal forms have equal bytes. HV_UNSUPPORTED exactly for more than 16 levels of runs, where lists that runs were
+ * decoded to, whose offsets, sizes or validity are in runs, count as two. */
 /* How many bytes the message has, by a pass over lengths that takes no memory. */
 HV_ANSWER hv_write_size(const hv_column *column, size_t *size, hv_error *error);
-/* Writes the message to the front of `bytes`, which takes no memory, and its number of bytes to *size; 11 (needed,
- * bytes_len) where it does not fit. Refused, it leaves `bytes` as it was. 21 only for 2^64 bytes or more. */
+/* Writes the message to the front of `bytes`, which takes no memory, and its number of bytes to *size; HV_COLUMN_LENGTH
+ * (needed, bytes_len) where it does not fit. Refused, it leaves `bytes` as it was. HV_OUT_OF_MEMORY only for 2^64 bytes
+ * or more. */
 HV_ANSWER hv_write(const hv_column *column, uint8_t *bytes, size_t bytes_len, size_t *size, hv_error *error);
-/* The column that was written so; 17 exactly for bytes that are the message of no column, so 21 only for a message. */
+/* The column that was written so; HV_BAD_METADATA exactly for bytes that are the message of no column, so
+ * HV_OUT_OF_MEMORY only for a message. */
 HV_ANSWER hv_read_column(const uint8_t *bytes, size_t bytes_len, hv_column *out, hv_error *error);
 /* Are the bytes the message of a column? 1, or 0. Takes no memory, and refuses nothing: for bytes of a stranger before
  * any of them is read. */
@@ -568,14 +600,17 @@ HV_ANSWER hv_is_message(const uint8_t *bytes, size_t bytes_len, uint8_t *truth, 
  * keeps its name, the format string of Arrow's C data interface, such as "tss:UTC". The name is `format_len` bytes of
  * UTF-8, with no 0 at the end; it is not tested further. An empty name says that the column has no logical type: the
  * message is that of hv_write. Any other message is refused by hv_read_column and hv_is_message. */
-/* How many bytes the message has, without taking memory; 12 for a name that is not UTF-8, then as hv_write_size. */
+/* How many bytes the message has, without taking memory; HV_TYPE_MISMATCH for a name that is not UTF-8, then as
+ * hv_write_size. */
 HV_ANSWER hv_typed_size(const hv_column *column, const uint8_t *format, size_t format_len, size_t *size, hv_error *error);
-/* Writes the message as hv_write does, without taking memory; 12 for a name that is not UTF-8, then as hv_write. */
+/* Writes the message as hv_write does, without taking memory; HV_TYPE_MISMATCH for a name that is not UTF-8, then as
+ * hv_write. */
 HV_ANSWER hv_write_typed(const hv_column *column, const uint8_t *format, size_t format_len, uint8_t *bytes,
                          size_t bytes_len, size_t *size, hv_error *error);
 /* The column of a message of hv_write_typed or hv_write. The name of its logical type is in the message, *format_len
- * bytes from bytes + *format_at on; both are 0 where it has none. 17 exactly for bytes that are the message of no
- * column, so 21 only for a message. Refused, it leaves *out, *format_at and *format_len as they were. */
+ * bytes from bytes + *format_at on; both are 0 where it has none. HV_BAD_METADATA exactly for bytes that are the
+ * message of no column, so HV_OUT_OF_MEMORY only for a message. Refused, it leaves *out, *format_at and *format_len as
+ * they were. */
 HV_ANSWER hv_read_typed(const uint8_t *bytes, size_t bytes_len, hv_column *out, size_t *format_at, size_t *format_len,
                         hv_error *error);
 /* Are the bytes the message of a column, with or without a logical type? 1, or 0. Takes no memory, and refuses
@@ -590,5 +625,8 @@ HV_CALL void hv_free(hv_column *column);
 
 #ifdef __cplusplus
 }
+#endif
+#ifndef HV_EXPORTS_ALONE
+#include "hivevigil_errors.h"
 #endif
 #endif

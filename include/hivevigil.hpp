@@ -9,6 +9,9 @@
 // except for lists.
 #ifndef HIVEVIGIL_HPP
 #define HIVEVIGIL_HPP
+#if __cplusplus < 201703L
+#error "hivevigil.hpp is for C++17 and later: -std=c++17"
+#else
 #include "hivevigil_fits.hpp"
 #include <cstddef>
 #include <initializer_list>
@@ -46,7 +49,7 @@ public:
     }
     // The same of a list of integers, booleans or texts.
     template <class T> static Column of(std::initializer_list<T> items) {
-        static_assert(detail::is_row<T>, "rows are integers, booleans or texts, or std::optional of these");
+        static_assert(detail::is_row<T>, "rows are integers, booleans or texts, or std::optional of these; floats are hv::Floats");
         if constexpr (detail::is_number<T>) return of(items.begin(), items.size(), nullptr);
         else return of_rows(items);
     }
@@ -65,6 +68,13 @@ public:
               class = void>
     static Column of(const Items &rows) {
         return of_rows(rows);
+    }
+    // Floats are rows of hv::Floats, and not of this class.
+    template <class Items, class T = detail::InnerOf<detail::Row<Items>>,
+              std::enable_if_t<std::is_floating_point_v<T>, int> = 0>
+    static Column of(const Items &) {
+        static_assert(sizeof(Items) == 0, "rows of floats are made by hv::Floats<double>::of or hv::Floats<float>::of");
+        return Column();
     }
     static Column truths(const std::vector<bool> &rows, const std::vector<bool> *valid = nullptr) {
         const Bytes bits = detail::bits_of(rows);
@@ -567,4 +577,5 @@ struct TypedColumn {
 #include "hivevigil_builder.hpp"
 #include "hivevigil_pairs.hpp"
 #include "hivevigil_floats.hpp"
+#endif
 #endif

@@ -11,6 +11,16 @@
 extern "C" {
 #endif
 
+/* The number's name, as hv_error_name has those of hivevigil.h. */
+static inline const char *hv_arrow_error_name(int32_t number) {
+    switch (number) {
+    case HV_ARROW_INVALID: return "HV_ARROW_INVALID";
+    case HV_ARROW_ENDS_TOO_LARGE: return "HV_ARROW_ENDS_TOO_LARGE";
+    case HV_ARROW_STREAM_FAILED: return "HV_ARROW_STREAM_FAILED";
+    default: return hv_error_name(number);
+    }
+}
+
 /* Why an array is not valid, by the first field of HV_ARROW_INVALID. */
 static inline const char *hv_arrow_reason(uint64_t why) {
     switch (why) {

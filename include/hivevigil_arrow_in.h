@@ -109,7 +109,7 @@ static inline int32_t hv_arrow_read_texts(const hv_arrow_rows *rows, hv_column *
     const uint8_t *bytes = (const uint8_t *)rows->array->buffers[2];
     if (rows->count > 0 && !stored) return hv_arrow_invalid(HV_ARROW_NO_POINTER, error);
     int64_t first = rows->count ? hv_arrow_offset_at(stored, rows->start, width) : 0;
-    if (first < 0) return hv_arrow_refuse(HV_ENDS_NOT_STRICT, 0, 0, error);
+    if (first < 0) return hv_arrow_refuse_offset(0, HV_ABOUT_TEXTS, error);
     int64_t *offsets = (int64_t *)malloc((rows->count + 1) * sizeof *offsets);
     if (!offsets) return hv_arrow_refuse(HV_OUT_OF_MEMORY, 0, 0, error);
     offsets[0] = 0;

@@ -17,10 +17,10 @@ static inline int32_t hv_arrow_read_spans(const hv_arrow_rows *rows, uint64_t *o
     if (rows->count == 0) return HV_OK;
     if (!stored) return hv_arrow_invalid(HV_ARROW_NO_POINTER, error);
     *first = *stop = hv_arrow_offset_at(stored, rows->start, width);
-    if (*first < 0) return hv_arrow_refuse(HV_ENDS_NOT_STRICT, 0, 0, error);
+    if (*first < 0) return hv_arrow_refuse_offset(0, HV_ABOUT_LISTS, error);
     for (size_t row = 0; row < rows->count; row++) {
         const int64_t next = hv_arrow_offset_at(stored, rows->start + row + 1, width);
-        if (next < *stop) return hv_arrow_refuse(HV_ENDS_NOT_STRICT, row, 0, error);
+        if (next < *stop) return hv_arrow_refuse_offset(row, HV_ABOUT_LISTS, error);
         offsets[row] = (uint64_t)(*stop - *first);
         sizes[row] = (uint64_t)(next - *stop);
         *stop = next;

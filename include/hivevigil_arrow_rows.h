@@ -22,6 +22,13 @@ static inline int32_t hv_arrow_refuse(int32_t number, uint64_t first, uint64_t s
     return number;
 }
 
+/* The refusal of a row's offsets, of texts or of lists. */
+static inline int32_t hv_arrow_refuse_offset(uint64_t row, uint64_t about, hv_error *error) {
+    hv_arrow_refuse(HV_OK, row, 0, error);
+    if (error) error->third = about;
+    return HV_ENDS_NOT_STRICT;
+}
+
 static inline int32_t hv_arrow_invalid(uint64_t why, hv_error *error) {
     return hv_arrow_refuse(HV_ARROW_INVALID, why, 0, error);
 }

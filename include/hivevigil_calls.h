@@ -15,8 +15,14 @@ static inline void *hv_nowhere(void) {
 /* the refusal of a null pointer next to a length above 0: the call expects that many items, and there are none */
 static inline int32_t hv_missing(size_t len, hv_error *error) {
     error->first = len;
-    error->second = error->third = 0;
+    error->second = 0;
+    error->third = HV_ABOUT_NULL;
     return HV_COLUMN_LENGTH;
+}
+/* the answer of a call that makes texts or lists, where a refusal of offsets, or of a row, is about these */
+static inline int32_t hv_about(uint64_t what, int32_t answer, hv_error *error) {
+    if (answer == HV_NO_RUNS_WINDOW || answer == HV_ENDS_NOT_STRICT || answer == HV_OUT_OF_BOUNDS) error->third = what;
+    return answer;
 }
 #define HV_FIELDS (error ? error : &ignored)
 /* Each call has one for each pointer to items that it takes, before all else. */
@@ -118,7 +124,8 @@ HV_ANSWER hv_texts(uint8_t binary, const int32_t *offsets, size_t offsets_len, c
     HV_ITEMS(const int32_t, offsets, offsets_len);
     HV_ITEMS(const uint8_t, bytes, bytes_len);
     HV_BITS(validity);
-    return (hv_texts)(binary, offsets, offsets_len, bytes, bytes_len, HV_PARTS(validity), out, HV_FIELDS);
+    return hv_about(HV_ABOUT_TEXTS, (hv_texts)(binary, offsets, offsets_len, bytes, bytes_len, HV_PARTS(validity), out,
+                                               HV_FIELDS), HV_FIELDS);
 }
 HV_ANSWER hv_large_texts(uint8_t binary, const int64_t *offsets, size_t offsets_len, const uint8_t *bytes,
                          size_t bytes_len, hv_validity validity, hv_column *out, hv_error *error) {
@@ -126,7 +133,8 @@ HV_ANSWER hv_large_texts(uint8_t binary, const int64_t *offsets, size_t offsets_
     HV_ITEMS(const int64_t, offsets, offsets_len);
     HV_ITEMS(const uint8_t, bytes, bytes_len);
     HV_BITS(validity);
-    return (hv_large_texts)(binary, offsets, offsets_len, bytes, bytes_len, HV_PARTS(validity), out, HV_FIELDS);
+    return hv_about(HV_ABOUT_TEXTS, (hv_large_texts)(binary, offsets, offsets_len, bytes, bytes_len, HV_PARTS(validity),
+                                                     out, HV_FIELDS), HV_FIELDS);
 }
 HV_ANSWER hv_constant(const hv_kind *kind, const hv_value *value, const uint8_t *text, size_t text_len, size_t count,
                       hv_column *out, hv_error *error) {
@@ -145,7 +153,8 @@ HV_ANSWER hv_lists(const hv_column *elements, const uint64_t *offsets, size_t of
     HV_ITEMS(const uint64_t, offsets, offsets_len);
     HV_ITEMS(const uint64_t, sizes, sizes_len);
     HV_BITS(validity);
-    return (hv_lists)(hv_lent(elements), offsets, offsets_len, sizes, sizes_len, HV_PARTS(validity), out, HV_FIELDS);
+    return hv_about(HV_ABOUT_LISTS, (hv_lists)(hv_lent(elements), offsets, offsets_len, sizes, sizes_len,
+                                               HV_PARTS(validity), out, HV_FIELDS), HV_FIELDS);
 }
 HV_ANSWER hv_clone(const hv_column *column, hv_column *out, hv_error *error) {
     hv_error ignored;

@@ -40,6 +40,15 @@ extern "C" {
     X(HV_NO_COLUMN, "there is no column: it was never made, freed, moved away, or lent twice to one call") \
     X(HV_BAD_NUMBER, "the number is not that of a type or of an operator")
 
+/* The sentences of refusals whose third field says what they are about (hivevigil.h). */
+#define HV_ERRORS_ABOUT(X) \
+    X(HV_NO_RUNS_WINDOW, HV_ABOUT_TEXTS, "there is no offset of texts: there is one more than rows") \
+    X(HV_ENDS_NOT_STRICT, HV_ABOUT_TEXTS, "the offset after row %1 is below the one before it, or one is negative") \
+    X(HV_ENDS_NOT_STRICT, HV_ABOUT_LISTS, "the offset after list %1 is below the one before it, or one is negative") \
+    X(HV_OUT_OF_BOUNDS, HV_ABOUT_TEXTS, "row %1 of %2 is not within the bytes") \
+    X(HV_OUT_OF_BOUNDS, HV_ABOUT_LISTS, "list %1 is not within the %2 elements") \
+    X(HV_COLUMN_LENGTH, HV_ABOUT_NULL, "a pointer is null next to a length of %1")
+
 /* Room for every sentence: the longest, with three numbers of 20 digits. */
 enum { HV_ERROR_TEXT = 160 };
 
@@ -65,13 +74,23 @@ static inline const char *hv_error_sentence(int32_t number) {
     }
 }
 
+/* The sentence of a number that is about something else than runs or rows; null of any other. */
+static inline const char *hv_error_sentence_about(int32_t number, uint64_t about) {
+#define HV_SENTENCE(name, what, sentence) \
+    if (number == name && about == what) return sentence;
+    HV_ERRORS_ABOUT(HV_SENTENCE)
+#undef HV_SENTENCE
+    return NULL;
+}
+
 /* Writes the refusal as a sentence with its fields into `text`, which has room for HV_ERROR_TEXT bytes, and returns
  * `text`. A number that is not of hivevigil.h is written with its fields. An index of 2^64 - 1 is written in words: it
  * means one that no uint64_t has. */
 static inline char *hv_error_text(int32_t number, const hv_error *error, char *text) {
     const uint64_t fields[] = {error->first, error->second, error->third};
-    const char *sentence = hv_error_sentence(number);
+    const char *sentence = hv_error_sentence_about(number, error->third);
     size_t used = 0;
+    if (!sentence) sentence = hv_error_sentence(number);
     if (number == HV_OUT_OF_BOUNDS && fields[0] == UINT64_MAX)
         sentence = "an index that is negative, or past 64 bits, is not among %2 rows";
     if (!sentence) {

@@ -1,13 +1,10 @@
 /* Bytes that grow, and files of bytes, which are read from any place and written whole or not at all. A header only,
- * C99 and C++17, POSIX; nothing here is proved. Where C is strict (-std=c11), it comes before all headers of the
- * system, or _XOPEN_SOURCE is 700. hivevigil_table_file.h includes it.
+ * C99 and C++17, POSIX, also where C is strict (-std=c11), before or after headers of the system; nothing here is
+ * proved. hivevigil_table_file.h includes it.
  *
  * A call answers 0, 21, or 203 (errno) where the system refuses. After a refusal of a save the file is as it was. */
 #ifndef HIVEVIGIL_STORED_FILE_H
 #define HIVEVIGIL_STORED_FILE_H
-#if defined(__STRICT_ANSI__) && !defined(_GNU_SOURCE) && !defined(_XOPEN_SOURCE)
-#define _XOPEN_SOURCE 700
-#endif
 #include "hivevigil_table_errors.h"
 #include <errno.h>
 #include <fcntl.h>
@@ -17,11 +14,27 @@
 #include <string.h>
 #include <sys/stat.h>
 #include <unistd.h>
-#if defined(__GLIBC__) && !defined(__USE_MISC) && !defined(__USE_XOPEN_EXTENDED)
-#error "include hivevigil_stored_file.h before all headers of the system, or define _XOPEN_SOURCE as 700"
-#endif
 #ifdef __cplusplus
 extern "C" {
+#endif
+
+/* What POSIX declares, and the headers of the system do not where C is strict. */
+#if !defined(__cplusplus) && defined(__GLIBC__) && !defined(__USE_XOPEN2K8)
+int fchmod(int descriptor, mode_t mode);
+int fsync(int descriptor);
+char *realpath(const char *path, char *real);
+#endif
+#ifdef O_CLOEXEC
+enum { HV_CLOSED_BY_EXEC = O_CLOEXEC };
+#elif defined(__linux__) && defined(__x86_64__)
+enum { HV_CLOSED_BY_EXEC = 02000000 };
+#else
+enum { HV_CLOSED_BY_EXEC = 0 };
+#endif
+#ifdef PATH_MAX
+enum { HV_PATH_BYTES = PATH_MAX };
+#else
+enum { HV_PATH_BYTES = 4096 };
 #endif
 
 /* ---- Bytes ---- */
@@ -127,7 +140,7 @@ static inline int32_t hv_stored_read_all(hv_stored_file *file, hv_error *error) 
 HV_ANSWER hv_stored_file_open(const char *path, hv_stored_file *out, hv_error *error) {
     hv_stored_file file = HV_STORED_FILE_EMPTY;
     struct stat found;
-    file.descriptor = open(path, O_RDONLY | O_CLOEXEC);
+    file.descriptor = open(path, O_RDONLY | HV_CLOSED_BY_EXEC);
     int32_t answer = file.descriptor < 0 || fstat(file.descriptor, &found) ? hv_stored_refused(error) : HV_OK;
     const bool is_regular = !answer && S_ISREG(found.st_mode);
     if (is_regular) file.size = (size_t)found.st_size;
@@ -174,7 +187,7 @@ static inline int32_t hv_stored_write(int descriptor, const uint8_t *bytes, size
 
 /* Writes to what is not a regular file. */
 static inline int32_t hv_stored_write_to(const uint8_t *bytes, size_t size, const char *path, hv_error *error) {
-    const int descriptor = open(path, O_WRONLY | O_TRUNC | O_CLOEXEC);
+    const int descriptor = open(path, O_WRONLY | O_TRUNC | HV_CLOSED_BY_EXEC);
     if (descriptor < 0) return hv_stored_refused(error);
     int32_t answer = hv_stored_write(descriptor, bytes, size, error);
     if (close(descriptor) && !answer) answer = hv_stored_refused(error);
@@ -190,7 +203,7 @@ static inline int hv_stored_create(char *name) {
     for (uint32_t tried = 0; tried < 1000; tried++) {
         uint32_t number = (uint32_t)getpid() * 2654435761u + tried;
         for (char *at = end - 6; at < end; number >>= 4) *at++ = digits[number % 16];
-        descriptor = open(name, O_WRONLY | O_CREAT | O_EXCL | O_CLOEXEC, 0666);
+        descriptor = open(name, O_WRONLY | O_CREAT | O_EXCL | HV_CLOSED_BY_EXEC, 0666);
         if (descriptor >= 0 || (errno != EEXIST && errno != EINTR)) return descriptor;
     }
     return descriptor;
@@ -220,7 +233,7 @@ static inline int32_t hv_stored_replace(const uint8_t *bytes, size_t size, const
 /* Writes the bytes as a file, which is replaced whole or not at all, with the mode that it had; where it is a link, the
  * file that this names is replaced. One that is not a regular file (/dev/stdout) is written to. */
 HV_ANSWER hv_save_bytes(const uint8_t *bytes, size_t size, const char *path, hv_error *error) {
-    char real[PATH_MAX];
+    char real[HV_PATH_BYTES];
     struct stat there;
     if (stat(path, &there)) return hv_stored_replace(bytes, size, path, NULL, error);
     if (!S_ISREG(there.st_mode)) return hv_stored_write_to(bytes, size, path, error);

@@ -59,6 +59,13 @@ HV_ANSWER hv_table_find(const hv_table *table, const char *name, size_t *place, 
 
 /* ---- What the calls below are made of ---- */
 
+/* 13 with a third field that says why. */
+static inline int32_t hv_table_unserved(uint64_t what, hv_error *error) {
+    hv_arrow_refuse(HV_OK, 0, 0, error);
+    if (error) error->third = what;
+    return HV_UNSUPPORTED;
+}
+
 /* Room for this number of columns, of which none is there yet. */
 static inline int32_t hv_table_room(hv_table *table, size_t count, hv_error *error) {
     memset(table, 0, sizeof *table);
@@ -414,6 +421,7 @@ HV_ANSWER hv_table_export_stream(const hv_session *session, const hv_table *tabl
     hv_column *lent = (hv_column *)calloc(count + 1, sizeof *lent);
     hv_arrow_options *options = (hv_arrow_options *)calloc(count + 1, sizeof *options);
     int32_t answer = lent && options ? HV_OK : hv_arrow_refuse(HV_OUT_OF_MEMORY, 0, 0, error);
+    if (!answer && !count) answer = hv_table_unserved(HV_TABLE_WITHOUT_COLUMNS, error);
     if (!answer) answer = hv_table_lend(table, lent, options, error);
     if (!answer)
         answer = hv_arrow_export_stream(session, lent, (const char *const *)table->names, count, chunk_rows, options,
@@ -441,14 +449,15 @@ static inline int32_t hv_table_plan(const struct ArrowSchema *schema, const char
 
 /* The rows of all batches after one another, where the columns have names. */
 static inline int32_t hv_table_read(const hv_session *session, struct ArrowArrayStream *stream,
-                                    const struct ArrowSchema *schema, hv_table *out, hv_error *error) {
+                                    const struct ArrowSchema *schema, char *words, size_t words_len, hv_table *out,
+                                    hv_error *error) {
     const size_t count = (size_t)schema->n_children;
     const char **names = (const char **)calloc(2 * count + 1, sizeof *names);
     uint8_t *how = (uint8_t *)calloc(count + 1, 1);
     hv_column *columns = (hv_column *)calloc(count + 1, sizeof *columns);
     int32_t answer = names && how && columns ? HV_OK : hv_arrow_refuse(HV_OUT_OF_MEMORY, 0, 0, error);
     if (!answer) answer = hv_table_plan(schema, names, names + count, how, error);
-    if (!answer) answer = hv_arrow_import_stream(session, stream, columns, count, how, NULL, 0, error);
+    if (!answer) answer = hv_arrow_import_stream(session, stream, columns, count, how, words, words_len, error);
     for (size_t i = 0; !answer && i < count; i++)
         if (how[i] == HV_ARROW_READ_BITS) answer = hv_table_of_bits(session, &columns[i], error);
     if (!answer) answer = hv_table_new(names, names + count, columns, count, out, error);
@@ -459,20 +468,33 @@ static inline int32_t hv_table_read(const hv_session *session, struct ArrowArray
     return answer;
 }
 
+/* What a stream says of its failure, as much of it as there is room for, ended by 0; empty where it says nothing. */
+static inline void hv_table_hear(struct ArrowArrayStream *stream, char *words, size_t words_len) {
+    const char *said = stream->release && stream->get_last_error ? stream->get_last_error(stream) : NULL;
+    if (words_len) snprintf(words, words_len, "%s", said ? said : "");
+}
+
 /* All batches of a stream, which is released for its caller, also where the call is refused: 103 where it fails, 13
- * where it has arrays and not batches of columns, and as hv_arrow_import_stream and hv_table_new. */
-HV_ANSWER hv_table_import_stream(const hv_session *session, struct ArrowArrayStream *stream, hv_table *out,
-                                 hv_error *error) {
+ * where it has arrays and not batches of columns, and as hv_arrow_import_stream and hv_table_new. What the stream said
+ * of its failure goes to `words`, as hv_arrow_import_stream has them; nothing does where words_len is 0. */
+HV_ANSWER hv_table_import_stream_words(const hv_session *session, struct ArrowArrayStream *stream, char *words,
+                                       size_t words_len, hv_table *out, hv_error *error) {
     struct ArrowSchema schema;
     memset(&schema, 0, sizeof schema);
+    if (words_len) words[0] = 0;
     int failed = stream->release ? stream->get_schema(stream, &schema) : EINVAL;
+    if (failed) hv_table_hear(stream, words, words_len);
     int32_t answer = failed ? hv_arrow_refuse(HV_ARROW_STREAM_FAILED, (uint64_t)failed, 0, error) : HV_OK;
     const bool is_batch = !answer && schema.format && strcmp(schema.format, "+s") == 0 && schema.n_children > 0;
-    if (!answer && !is_batch) answer = hv_arrow_refuse(HV_UNSUPPORTED, 0, 0, error);
-    if (!answer) answer = hv_table_read(session, stream, &schema, out, error);
+    if (!answer && !is_batch) answer = hv_table_unserved(HV_TABLE_WITHOUT_BATCHES, error);
+    if (!answer) answer = hv_table_read(session, stream, &schema, words, words_len, out, error);
     if (schema.release) schema.release(&schema);
     if (stream->release) stream->release(stream);
     return answer;
+}
+HV_ANSWER hv_table_import_stream(const hv_session *session, struct ArrowArrayStream *stream, hv_table *out,
+                                 hv_error *error) {
+    return hv_table_import_stream_words(session, stream, NULL, 0, out, error);
 }
 
 #ifdef __cplusplus

@@ -12,6 +12,9 @@
 // column is named. Any thread may use a table, one thread at a time.
 #ifndef HIVEVIGIL_TABLE_HPP
 #define HIVEVIGIL_TABLE_HPP
+#if __cplusplus < 201703L
+#error "hivevigil_table.hpp is for C++17 and later: -std=c++17"
+#else
 #include "hivevigil_stored_file.hpp"
 #include "hivevigil_arrow_errors.h"
 #include "hivevigil_float_bits.hpp"
@@ -462,4 +465,5 @@ inline Table Table::append(const Table &other) const {
 #include "hivevigil_table_groups.hpp"
 #include "hivevigil_table_file.hpp"
 #include "hivevigil_table_arrow.hpp"
+#endif
 #endif

@@ -1,6 +1,5 @@
 /* Tables in C in files: the messages of their columns and a footer, as docs/table.proto and docs/BYTES.md say it. A
- * header only, C11 and C++17, POSIX, over hivevigil_table.h; nothing here is proved. Where C is strict (-std=c11), it
- * comes before all headers of the system, or _XOPEN_SOURCE is 700.
+ * header only, C11 and C++17, POSIX, over hivevigil_table.h; nothing here is proved.
  *
  *     answer = hv_table_save(&table, "readings.hv", 0, &error);
  *     answer = hv_table_load_columns("readings.hv", names, 2, &part, &error);
@@ -233,7 +232,7 @@ static inline int32_t hv_table_of_file(const hv_stored_file *file, const char *c
         answer = hv_table_add_stored(&made, file, &footer, places[i], error);
         has_zero |= hv_table_has_zero(&footer.columns[places[i]]);
     }
-    if (has_zero && !answer) answer = hv_arrow_refuse(HV_UNSUPPORTED, 0, 0, error);
+    if (has_zero && !answer) answer = hv_table_unserved(HV_TABLE_WITH_ZERO_BYTE, error);
     free(places);
     hv_table_footer_free(&footer);
     return hv_table_done(answer, &made, out);

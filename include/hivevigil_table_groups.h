@@ -349,8 +349,8 @@ static inline int32_t hv_table_ask(const hv_session *session, const hv_table_gro
     if (fold != HV_FOLD_SUM) return hv_table_choose(session, groups, column, fold, out, error);
     if (is_float) return hv_table_add_up_floats(session, groups, column, out, error);
     if (hv_kind_of(column).number == HV_DECIMAL) return hv_table_add_up(session, groups, column, out, error);
-    if (hv_table_is_logical_type(format) && strncmp(format, "tD", 2) != 0) /* a sum of dates is not one */
-        return hv_arrow_refuse(HV_UNSUPPORTED, 0, 0, error);
+    const bool is_date = hv_table_is_logical_type(format) && strncmp(format, "tD", 2) != 0;
+    if (is_date || !hv_table_is_integer(column)) return hv_table_unserved(HV_TABLE_WITHOUT_SUM, error);
     return hv_table_fold(groups, column, HV_FOLD_SUM, out, error);
 }
 
@@ -415,7 +415,7 @@ HV_ANSWER hv_table_group_by(const hv_session *session, const hv_table *table, co
                             hv_error *error) {
     hv_table by = HV_TABLE_EMPTY, made = HV_TABLE_EMPTY;
     hv_table_groups groups = HV_TABLE_NO_GROUPS;
-    if (key_count == 0) return hv_arrow_refuse(HV_UNSUPPORTED, 0, 0, error);
+    if (key_count == 0) return hv_table_unserved(HV_TABLE_WITHOUT_KEYS, error);
     int32_t answer = hv_table_check_answers(keys, key_count, answers, answer_count, error);
     if (!answer) answer = hv_table_select(table, keys, key_count, &by, error);
     if (!answer) answer = hv_table_groups_of(by.columns, by.count, &groups, error);

@@ -116,7 +116,9 @@ inline std::string words_of_fold(const NamedColumn &values, Fold by, int32_t ans
     if (answer == HV_CAST_OUT_OF_RANGE) return words_of_group(kind, fields);
     if (answer != HV_UNSUPPORTED) return "";
     const bool is_logical = by == Fold::sum && is_integer(kind) && is_logical_type(values.logical_type);
-    return is_logical ? "rows of the logical type " + values.logical_type + " have no sum" : "";
+    if (is_logical) return "rows of the logical type " + values.logical_type + " have no sum";
+    const bool is_summed = is_integer(kind) || kind.number == HV_DECIMAL;
+    return by == Fold::sum && !is_summed ? "rows of " + to_string(kind) + " have no sum" : "";
 }
 
 } // namespace detail

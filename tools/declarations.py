@@ -22,6 +22,8 @@ BEGIN, END = "made by tools/declarations.py from", "end of what tools/declaratio
 WIDTH = 120
 # The inline calls that do more than pass their arguments on: they are written by hand in hivevigil_calls.h.
 BY_HAND = {"hv_session_initial", "hv_free", "hv_builder_free"}
+# The inline calls whose refusals of offsets and rows say what they are about, in the third field.
+ABOUT = {"hv_texts": "HV_ABOUT_TEXTS", "hv_large_texts": "HV_ABOUT_TEXTS", "hv_lists": "HV_ABOUT_LISTS"}
 # What stands for a type of the exports in another language. Rust's and Python's names are those of their modules.
 RUST = {
     "uint8_t": "u8", "uint16_t": "u16", "uint32_t": "u32", "uint64_t": "u64", "int8_t": "i8", "int16_t": "i16",
@@ -181,7 +183,10 @@ def inline(call: Call) -> str:
     shown = filled(head, [str(each) for each in call.parameters], ") {", len(head))
     body = f"    return ({call.name})("
     lines = ["    hv_error ignored;", *tested(call)] if answer else []
-    lines.append(filled(body, [passed(each) for each in call.parameters], ");", len(body)))
+    arguments, tail = [passed(each) for each in call.parameters], ");"
+    if call.name in ABOUT:
+        body, tail = f"    return hv_about({ABOUT[call.name]}, ({call.name})(", "), HV_FIELDS);"
+    lines.append(filled(body, arguments, tail, len(body)))
     return "\n".join([shown, *lines, "}"])
 
 

@@ -58,6 +58,8 @@ class Declarations(unittest.TestCase):
         self.assertIn("(hv_bools)(truths, truths_len, count, HV_PARTS(validity), out, HV_FIELDS);", made)
         self.assertIn("(hv_sum)(hv_settings_of(session), hv_lent(column), total, HV_FIELDS);", made)
         self.assertIn("HV_CALL size_t hv_builder_rows(const hv_builder *builder) {", made)
+        lists = calls_of("HV_ANSWER hv_lists(const hv_column *elements, hv_column *out, hv_error *error);")
+        self.assertIn("hv_about(HV_ABOUT_LISTS, (hv_lists)(hv_lent(elements), out, HV_FIELDS), HV_FIELDS);", inlines(lists))
         self.assertNotIn("hv_free", made)
 
     def test_rust_and_python_declare_the_exports(self) -> None:

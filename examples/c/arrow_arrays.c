@@ -301,7 +301,7 @@ static void check_invalid_arrays(void) {
     array = array_of(2, INT64_MAX, 2, BUFFERS(NULL, items));
     CHECK(IMPORT(&schema, &array) == HV_ARROW_INVALID);
     schema.format = "u", array = array_of(2, 0, 3, BUFFERS(NULL, falling, "ab"));
-    CHECK_REFUSED(IMPORT(&schema, &array), HV_ENDS_NOT_STRICT, 1, 0, 0);
+    CHECK_REFUSED(IMPORT(&schema, &array), HV_ENDS_NOT_STRICT, 1, 0, HV_ABOUT_TEXTS);
     CHECK(hv_arrow_import(&session, NULL, &array, &column, &error) == HV_ARROW_INVALID);
     hv_free(&column);
     CHECK(EXPORT(&column) == HV_NO_COLUMN);

@@ -185,9 +185,9 @@ static void check_refusals(void) {
                                .release = release_array};
     CHECK(!hv_arrow_import(&session, &schema, &array, &column, &error) && hv_form(&column) == HV_FORM_LISTS);
     buffers[1] = falls;
-    CHECK_REFUSED(hv_arrow_import(&session, &schema, &array, &column, &error), HV_ENDS_NOT_STRICT, 1, 0, 0);
+    CHECK_REFUSED(hv_arrow_import(&session, &schema, &array, &column, &error), HV_ENDS_NOT_STRICT, 1, 0, HV_ABOUT_LISTS);
     buffers[1] = below_zero;
-    CHECK_REFUSED(hv_arrow_import(&session, &schema, &array, &column, &error), HV_ENDS_NOT_STRICT, 0, 0, 0);
+    CHECK_REFUSED(hv_arrow_import(&session, &schema, &array, &column, &error), HV_ENDS_NOT_STRICT, 0, 0, HV_ABOUT_LISTS);
     buffers[1] = past;
     CHECK_REFUSED(hv_arrow_import(&session, &schema, &array, &column, &error), HV_ARROW_INVALID, HV_ARROW_LENGTH, 0, 0);
     buffers[1] = NULL;

@@ -346,11 +346,11 @@ static void check_slices_of_texts(void) {
     CHECK(!IMPORT(&schema, &array));
     CHECK_ROWS(&column, "\"c\" \"\" \"de\"");
     schema.format = "u", array.buffers[1] = falling;
-    CHECK_REFUSED(IMPORT(&schema, &array), HV_ENDS_NOT_STRICT, 0, 0, 0);
+    CHECK_REFUSED(IMPORT(&schema, &array), HV_ENDS_NOT_STRICT, 0, 0, HV_ABOUT_TEXTS);
     array.buffers[1] = below_first;
-    CHECK_REFUSED(IMPORT(&schema, &array), HV_ENDS_NOT_STRICT, 1, 0, 0);
+    CHECK_REFUSED(IMPORT(&schema, &array), HV_ENDS_NOT_STRICT, 1, 0, HV_ABOUT_TEXTS);
     array.buffers[1] = negative, array.offset = 0;
-    CHECK_REFUSED(IMPORT(&schema, &array), HV_ENDS_NOT_STRICT, 0, 0, 0);
+    CHECK_REFUSED(IMPORT(&schema, &array), HV_ENDS_NOT_STRICT, 0, 0, HV_ABOUT_TEXTS);
     array.buffers[1] = offsets;
     CHECK_REFUSED(IMPORT(&schema, &array), HV_TYPE_MISMATCH, 0, 0, 0); /* row 0 is not UTF-8 */
     /* nor is row 1 of these three, whose row 0 is null and may have any bytes; then as views */

@@ -242,7 +242,7 @@ static void concat(void) {
     check_encoding(&out, "1 1 1 2 2 2 3", "3 6 7", "1 2 3");
     CHECK(hv_concat(parts, 4, &out, &error) == HV_NO_COLUMN && hv_concat(parts + 3, 1, &out, &error) == HV_NO_COLUMN);
     CHECK(hv_concat(parts, 0, &out, &error) == HV_NO_COLUMN && hv_concat(NULL, 0, &out, &error) == HV_NO_COLUMN);
-    CHECK_REFUSED(hv_concat(NULL, 4, &out, &error), HV_COLUMN_LENGTH, 4, 0, 0); /* a null pointer for four columns */
+    CHECK_REFUSED(hv_concat(NULL, 4, &out, &error), HV_COLUMN_LENGTH, 4, 0, HV_ABOUT_NULL); /* for four columns */
     CHECK(hv_concat(NULL, SIZE_MAX, &out, NULL) == HV_COLUMN_LENGTH);
     CHECK(!hv_u8((const uint8_t *)rows, 3, NOT_NULLABLE, parts + 3, &error));
     CHECK_REFUSED(hv_concat(parts, 4, &out, &error), HV_TYPE_MISMATCH, 0, 0, 0);

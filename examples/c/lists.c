@@ -108,9 +108,9 @@ static void refusals(void) {
     CHECK(!hv_lists(&elements, FIVE, NULLS_BY(all_but_row_2, 0), &out, &error));
     CHECK_REFUSED(hv_lists(&elements, FIVE, NULLS_BY(all_but_row_2, 4), &out, &error), HV_COLUMN_LENGTH, 5, 1, 0);
     CHECK_REFUSED(hv_lists(&elements, offsets, 5, sizes, 4, NOT_NULLABLE, &out, &error), HV_COLUMN_LENGTH, 5, 4, 0);
-    CHECK_REFUSED(hv_lists(&elements, past, 2, two, 2, NOT_NULLABLE, &out, &error), HV_OUT_OF_BOUNDS, 1, 6, 0);
-    CHECK_REFUSED(hv_lists(&elements, huge, 2, two, 2, NOT_NULLABLE, &out, &error), HV_OUT_OF_BOUNDS, 0, 6, 0);
-    CHECK_REFUSED(hv_lists(&elements, FIVE, NOT_NULLABLE, &out, &error), HV_OUT_OF_BOUNDS, 2, 6, 0);
+    CHECK_REFUSED(hv_lists(&elements, past, 2, two, 2, NOT_NULLABLE, &out, &error), HV_OUT_OF_BOUNDS, 1, 6, HV_ABOUT_LISTS);
+    CHECK_REFUSED(hv_lists(&elements, huge, 2, two, 2, NOT_NULLABLE, &out, &error), HV_OUT_OF_BOUNDS, 0, 6, HV_ABOUT_LISTS);
+    CHECK_REFUSED(hv_lists(&elements, FIVE, NOT_NULLABLE, &out, &error), HV_OUT_OF_BOUNDS, 2, 6, HV_ABOUT_LISTS);
     CHECK(!hv_encode(&session, &elements, &runs, &error));
     CHECK_REFUSED(hv_lists(&runs, FIVE, NOT_NULLABLE, &out, &error), HV_UNSUPPORTED, 0, 0, 0);
     CHECK_REFUSED(hv_lists(&lists, FIVE, NOT_NULLABLE, &out, &error), HV_UNSUPPORTED, 0, 0, 0);

@@ -52,16 +52,16 @@ static void check_makers(void) {
     REFUSED(hv_bools(items, 1, 5, 4, NOT_NULLABLE, &out, &error), HV_COLUMN_LENGTH, 4, 1, 0);
     REFUSED(hv_bools(items, 1, 1, SIZE_MAX, NOT_NULLABLE, &out, &error), HV_COLUMN_LENGTH, SIZE_MAX, 1, 0);
     REFUSED(hv_decimals(pairs, 2, 10, 2, NULLS_BY(bits, 7), &out, &error), HV_COLUMN_LENGTH, 2, 1, 0);
-    REFUSED(hv_texts(0, offsets, 3, bytes, 3, NOT_NULLABLE, &out, &error), HV_ENDS_NOT_STRICT, 1, 0, 0);
-    REFUSED(hv_large_texts(1, large, 3, bytes, 3, NOT_NULLABLE, &out, &error), HV_ENDS_NOT_STRICT, 1, 0, 0);
-    REFUSED(hv_texts(0, negative, 2, bytes, 3, NOT_NULLABLE, &out, &error), HV_ENDS_NOT_STRICT, 0, 0, 0);
-    REFUSED(hv_texts(0, far, 2, bytes, 3, NOT_NULLABLE, &out, &error), HV_OUT_OF_BOUNDS, 0, 1, 0);
-    REFUSED(hv_texts(0, NULL, 0, NULL, 0, NOT_NULLABLE, &out, &error), HV_NO_RUNS_WINDOW, 0, 0, 0);
+    REFUSED(hv_texts(0, offsets, 3, bytes, 3, NOT_NULLABLE, &out, &error), HV_ENDS_NOT_STRICT, 1, 0, HV_ABOUT_TEXTS);
+    REFUSED(hv_large_texts(1, large, 3, bytes, 3, NOT_NULLABLE, &out, &error), HV_ENDS_NOT_STRICT, 1, 0, HV_ABOUT_TEXTS);
+    REFUSED(hv_texts(0, negative, 2, bytes, 3, NOT_NULLABLE, &out, &error), HV_ENDS_NOT_STRICT, 0, 0, HV_ABOUT_TEXTS);
+    REFUSED(hv_texts(0, far, 2, bytes, 3, NOT_NULLABLE, &out, &error), HV_OUT_OF_BOUNDS, 0, 1, HV_ABOUT_TEXTS);
+    REFUSED(hv_texts(0, NULL, 0, NULL, 0, NOT_NULLABLE, &out, &error), HV_NO_RUNS_WINDOW, 0, 0, HV_ABOUT_TEXTS);
     REFUSED(hv_texts(0, two, 2, broken, 2, NOT_NULLABLE, &out, &error), HV_TYPE_MISMATCH, 0, 0, 0);
     REFUSED(hv_texts(0, two, 2, cut, 2, NOT_NULLABLE, &out, &error), HV_TYPE_MISMATCH, 0, 0, 0);
     REFUSED(hv_texts(0, two, 2, bytes, 3, NULLS_BY(bits, 8), &out, &error), HV_COLUMN_LENGTH, 1, 1, 0);
-    REFUSED(hv_large_texts(0, NULL, 0, bytes, 3, NOT_NULLABLE, &out, &error), HV_NO_RUNS_WINDOW, 0, 0, 0);
-    REFUSED(hv_large_texts(0, large_far, 3, bytes, 3, NOT_NULLABLE, &out, &error), HV_OUT_OF_BOUNDS, 1, 2, 0);
+    REFUSED(hv_large_texts(0, NULL, 0, bytes, 3, NOT_NULLABLE, &out, &error), HV_NO_RUNS_WINDOW, 0, 0, HV_ABOUT_TEXTS);
+    REFUSED(hv_large_texts(0, large_far, 3, bytes, 3, NOT_NULLABLE, &out, &error), HV_OUT_OF_BOUNDS, 1, 2, HV_ABOUT_TEXTS);
     REFUSED(hv_large_texts(0, large_two, 2, broken, 2, NOT_NULLABLE, &out, &error), HV_TYPE_MISMATCH, 0, 0, 0);
 }
 
@@ -333,7 +333,7 @@ static void check_no_items(void) {
 }
 
 /* A null pointer where there are to be items: 11, with how many, before all else, also where the handle is empty. */
-#define MISSING(call, items) REFUSED(call, HV_COLUMN_LENGTH, items, 0, 0)
+#define MISSING(call, items) REFUSED(call, HV_COLUMN_LENGTH, items, 0, HV_ABOUT_NULL)
 
 static void check_missing_numbers(void) {
     const hv_validity no_bits = hv_valid_bits(NULL, 2, 0);

@@ -493,7 +493,7 @@ static void check_zero_byte(const char *path) {
     const char *const place[] = {"place"};
     memcpy(bytes, days, days_size);
     bytes[13 + 43 + 16 + 2 + 2 + 2 + 3] = 0; /* the second letter of "day" */
-    CHECK_REFUSED(hv_table_from_bytes(bytes, days_size, &kept, &error), HV_UNSUPPORTED, 0, 0, 0);
+    CHECK_REFUSED(hv_table_from_bytes(bytes, days_size, &kept, &error), HV_UNSUPPORTED, 0, 0, HV_TABLE_WITH_ZERO_BYTE);
     bytes[13 + 43 + 15] ^= 1; /* the last letter of the second column, which is damaged, so that this is not a table */
     CHECK_REFUSED(hv_table_from_bytes(bytes, days_size, &kept, &error), HV_BAD_METADATA, 0, 0, 0);
     bytes[13 + 43 + 15] ^= 1;

@@ -136,14 +136,16 @@ static bool check_random(const hv_table *table) {
     const hv_table_answer answer = {"answer", fold, fold == HV_FOLD_ROWS ? NULL : asked->name};
     hv_table found = HV_TABLE_EMPTY;
     bool is_served = is_asked(asked, fold);
+    uint64_t why = fold == HV_FOLD_SUM ? HV_TABLE_WITHOUT_SUM : 0;
     for (size_t i = 0; i < count; i++) {
         places[i] = (first + i) % plain.count;
         keys[i] = plain.columns[places[i]].name;
         is_served &= plain.columns[places[i]].kind.number != HV_LIST;
+        if (plain.columns[places[i]].kind.number == HV_LIST) why = 0;
     }
     if (!is_served) {
         CHECK_REFUSED(hv_table_group_by(&session, table, keys, count, &answer, 1, &found, &error), HV_UNSUPPORTED, 0,
-                      0, 0);
+                      0, why);
         CHECK(!found.columns);
         return false;
     }
@@ -234,13 +236,15 @@ static void check_refusals(const hv_table *table) {
     const char *const twice[] = {"text", "station", "text"}, *const gone[] = {"to"};
     hv_table out = HV_TABLE_EMPTY;
     CHECK(!hv_table_slice(&session, table, 0, 1, &out, &error));
-    CHECK_REFUSED(hv_table_group_by(&session, table, station, 0, sum, 1, &out, &error), HV_UNSUPPORTED, 0, 0, 0);
+    CHECK_REFUSED(hv_table_group_by(&session, table, station, 0, sum, 1, &out, &error), HV_UNSUPPORTED, 0, 0,
+                  HV_TABLE_WITHOUT_KEYS);
     CHECK_REFUSED(hv_table_group_by(&session, table, twice, 3, sum, 1, &out, &error), HV_TABLE_NAME_TWICE, 0, 2, 0);
     CHECK_REFUSED(hv_table_group_by(&session, table, station, 1, names, 2, &out, &error), HV_TABLE_NAME_TWICE, 0, 2, 0);
     CHECK_REFUSED(hv_table_group_by(&session, table, gone, 1, sum, 1, &out, &error), HV_TABLE_NO_COLUMN, 0, 0, 0);
     CHECK_REFUSED(hv_table_group_by(&session, table, station, 1, none, 1, &out, &error), HV_TABLE_NO_COLUMN, 0, 0, 0);
     CHECK_REFUSED(hv_table_group_by(&session, table, station, 1, sum, 2, &out, &error), HV_CAST_OUT_OF_RANGE, 1, 0, 0);
-    CHECK_REFUSED(hv_table_group_by(&session, table, station, 1, text, 1, &out, &error), HV_UNSUPPORTED, 0, 0, 0);
+    CHECK_REFUSED(hv_table_group_by(&session, table, station, 1, text, 1, &out, &error), HV_UNSUPPORTED, 0, 0,
+                  HV_TABLE_WITHOUT_SUM);
     CHECK(hv_table_group_by(&session, table, station, 1, bad, 1, &out, &error) == HV_BAD_NUMBER);
     CHECK(hv_table_group_by(&session, table, station, 1, bytes, 1, &out, &error) == HV_TYPE_MISMATCH);
     CHECK(out.rows == 1 && out.count == 5);

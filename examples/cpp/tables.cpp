@@ -195,6 +195,8 @@ static void check_groups() {
     CHECK(std::isnan(*hv::Floats<double>(odd["first"].clone()).at(2)));
     check_refused(HV_UNSUPPORTED, "column 'at': rows of the logical type tts have no sum",
                   [&] { groups.fold({"sum", Fold::sum, "at"}); });
+    check_refused(HV_UNSUPPORTED, "column 'station': rows of utf8 have no sum",
+                  [&] { groups.fold({"sum", Fold::sum, "station"}); });
     check_refused(HV_TABLE_NO_COLUMN, no_to, [&] { groups.fold({"sum", Fold::sum, "to"}); });
     check_refused(HV_TABLE_NAME_TWICE, "two columns have the name 'station'",
                   [&] { groups.agg({{"station", Fold::rows}}); });
@@ -243,6 +245,7 @@ static void check_refusals() {
         table["to"];
     } catch (const hv::Error &error) { CHECK(std::string(error.name()) == "HV_TABLE_NO_COLUMN"); }
     check_refused(HV_TABLE_NO_COLUMN, "no column has the name 'to': the table has none", [] { Table()["to"]; });
+    CHECK(std::string(hv::TableError(HV_ARROW_STREAM_FAILED, {5, 0, 0}).name()) == "HV_ARROW_STREAM_FAILED");
     CHECK(table == copy && table.to_bytes() == before);
 }
 
