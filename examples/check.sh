@@ -166,15 +166,15 @@ headers_alone() {
         $cc -std=c99 $warned "$work/alone.c" && $cxx -std=c++17 $warned "$work/alone.cpp" || return 1
     done
     # where C is strict, also after other headers; C++ before 17 says so, and nothing else
-    printf '#include <stdio.h>\n#include <hivevigil.h>\n#include <hivevigil_table_file.h>\n' >"$work/alone.c"
-    for standard in c11 gnu11 c17; do $cc -std=$standard $warned "$work/alone.c" || return 1; done
+    printf '#include <stdio.h>\n#include <hivevigil.h>\n#include <hivevigil_table_file.h>\n' >"$work/strict.c"
+    for standard in c11 gnu11 c17; do $cc -std=$standard $warned "$work/strict.c" || return 1; done
     for header in hivevigil hivevigil_table; do
-        echo "#include <$header.hpp>" >"$work/alone.cpp"
-        $cxx -std=c++14 -Iinclude -fsyntax-only "$work/alone.cpp" 2>"$work/said" && return 1
+        echo "#include <$header.hpp>" >"$work/refused.cpp"
+        $cxx -std=c++14 -Iinclude -fsyntax-only "$work/refused.cpp" 2>"$work/said" && return 1
         [ "$(grep -c 'error' "$work/said")" -le 2 ] && grep -q "for C++17 and later" "$work/said" || return 1
     done
-    printf '#include <hivevigil.hpp>\nint main() { hv::Column::of(std::vector<double>{1.5}); }\n' >"$work/alone.cpp"
-    $cxx -std=c++17 -Iinclude -fsyntax-only "$work/alone.cpp" 2>"$work/said" && return 1
+    printf '#include <hivevigil.hpp>\nint main() { hv::Column::of(std::vector<double>{1.5}); }\n' >"$work/refused.cpp"
+    $cxx -std=c++17 -Iinclude -fsyntax-only "$work/refused.cpp" 2>"$work/said" && return 1
     grep -q "made by hv::Floats" "$work/said" || return 1
     for test in demo numbers decimal_casts decimal_scales spans tables table_rows table_tool; do
         $cxx -std=c++17 $warned "examples/cpp/$test.cpp" && $cxx -std=c++20 $warned "examples/cpp/$test.cpp" || return 1

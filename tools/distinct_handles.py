@@ -105,10 +105,10 @@ def owed(header: str) -> Pairs:
     pairs: Pairs = {}
     for call in calls_of(header):
         pointers = [(place, each) for place, each in enumerate(call.parameters) if each.is_pointer]
-        alone = {place for place, each in pointers
+        written = {place for place, each in pointers
                  if each.base in ("hv_column", "hv_builder") or not each.type.startswith("const ")}
         pairs[call.name] = {(one, other) for one, _ in pointers for other, _ in pointers
-                            if one < other and {one, other} & alone}
+                            if one < other and {one, other} & written}
     return pairs
 
 

@@ -59,7 +59,7 @@ pub enum TableError {
         path: Option<PathBuf>,
         /// Counts the bytes.
         bytes: u64,
-        /// Is the limit that was given, or that of [`LoadOptions::default`](crate::LoadOptions).
+        /// Has the limit that was given, or that of [`LoadOptions::default`](crate::LoadOptions).
         limit: u64,
     },
     /// Says that a file is not read or not written.
