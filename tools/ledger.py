@@ -46,9 +46,9 @@ OPEN = "tools/ledger_open.txt"
 MOST_OPEN = 0
 HEAD = """# Which goal refused each wrong body
 
-`python3 tools/ledger.py try {crate}` tries them and writes this page. A line has the name, the hash of the edit and of
-what it changes, the toolchain, the function, the goal, how it was refused, and the processor seconds; `tools/ledger.py`
-says more of each.
+`python3 tools/ledger.py try {crate}` tries them and writes this page.
+A line has the name, the hash of the edit and of what it changes, the toolchain, the function, the goal, how it was
+refused, and the processor seconds; `tools/ledger.py` says more of each.
 
 """
 FUNCTION = re.compile(r"^([ \t]*)(?:pub(?:\([^)]*\))? )?(?:const |unsafe |extern \"C\" )*fn (\w+)", re.M)
