@@ -6,8 +6,8 @@
 # sanitizers, valgrind, cargo, python3, NumPy, GDAL, Dask) is named and skipped; nothing is installed. The status is 0
 # where all that ran ended well.
 set -u
-quick=
-[ "${1:-}" = --quick ] && quick=1
+quick= level=-O2 own_tests=--test
+[ "${1:-}" = --quick ] && quick=1 level=-O0 own_tests=
 top=$(cd "$(dirname "$0")/.." && pwd)
 cd "$top" || exit 1
 cc=${CC:-cc} cxx=${CXX:-c++} python=${PYTHON:-python3}
@@ -56,7 +56,7 @@ for library in lib/libhivevigil.a lib/libhivevigil.so; do
 done
 
 # every line of vectors over the library as it ships; without a C++ compiler this fails
-run "vectors, the stored lines" sh examples/vectors/run.sh --test
+run "vectors, the stored lines" sh examples/vectors/run.sh $own_tests
 
 # the header's names are the library's, and the other way round, but for the calls over Arrow for callers without a C
 # header
@@ -88,11 +88,11 @@ else
 fi
 
 for test in first errors layout answers refusals levels forms constants lists groups pairs sorts sums totals floats float_casts float_pairs decimals decimal_casts builders messages typed_messages arrow_arrays; do
-    run "c/$test.c" built "$cc" "$c_flags -O2" "examples/c/$test.c"
+    run "c/$test.c" built "$cc" "$c_flags $level" "examples/c/$test.c"
 done
 wraps="-Wl,--wrap=malloc,--wrap=calloc,--wrap=realloc,--wrap=free"
-run "c/refused_memory.c" built "$cc" "$c_flags -O2 $wraps" examples/c/refused_memory.c
-run "c/helpers.c" built "$cc" "$c_flags -O2" examples/c/helpers.c
+run "c/refused_memory.c" built "$cc" "$c_flags $level $wraps" examples/c/refused_memory.c
+run "c/helpers.c" built "$cc" "$c_flags $level" examples/c/helpers.c
 if [ "$quick" ]; then
     has "$cxx" && run "cpp/demo.cpp" built "$cxx" "$cxx_flags -O0" examples/cpp/demo.cpp
     has "$python" && run "python/demo.py" timeout 60 "$python" examples/python/demo.py
