@@ -13,12 +13,9 @@ extern "C" {
 
 /* The number's name, as hv_error_name has those of hivevigil.h. */
 static inline const char *hv_arrow_error_name(int32_t number) {
-    switch (number) {
-    case HV_ARROW_INVALID: return "HV_ARROW_INVALID";
-    case HV_ARROW_ENDS_TOO_LARGE: return "HV_ARROW_ENDS_TOO_LARGE";
-    case HV_ARROW_STREAM_FAILED: return "HV_ARROW_STREAM_FAILED";
-    default: return hv_error_name(number);
-    }
+    if (number == HV_ARROW_INVALID) return "HV_ARROW_INVALID";
+    if (number == HV_ARROW_ENDS_TOO_LARGE) return "HV_ARROW_ENDS_TOO_LARGE";
+    return number == HV_ARROW_STREAM_FAILED ? "HV_ARROW_STREAM_FAILED" : hv_error_name(number);
 }
 
 /* Why an array is not valid, by the first field of HV_ARROW_INVALID. */

@@ -5,6 +5,9 @@
  * A call answers 0, 21, or 203 (errno) where the system refuses. After a refusal of a save the file is as it was. */
 #ifndef HIVEVIGIL_STORED_FILE_H
 #define HIVEVIGIL_STORED_FILE_H
+#if defined(__STRICT_ANSI__) && !defined(_GNU_SOURCE) && !defined(_XOPEN_SOURCE)
+#define _XOPEN_SOURCE 700 /* for a program whose first header this is */
+#endif
 #include "hivevigil_table_errors.h"
 #include <errno.h>
 #include <fcntl.h>

@@ -2,7 +2,7 @@
  * hivevigil_table_file.h, which includes it. Nothing here is proved. */
 #ifndef HIVEVIGIL_TABLE_FOOTER_H
 #define HIVEVIGIL_TABLE_FOOTER_H
-#include "hivevigil_stored_file.h"
+#include "hivevigil_stored_file.h" /* before all headers of the system, which then declare POSIX in strict C */
 #include "hivevigil_table_differences.h"
 #ifdef __cplusplus
 extern "C" {

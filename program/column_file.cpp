@@ -9,8 +9,8 @@ static const std::string line_of_type = "hivevigil type 1 ";
 Kept kept_as(std::string_view begun) {
     const auto begins = [&](std::string_view with) { return begun.substr(0, with.size()) == with; };
     if (begins("\x0a\x09hivevigil\x10")) return Kept::table;
-    // fields 1, the version, and 2, the type, of a message
-    if (begins("\x08\x01\x10") || begins("\x08\x02\x10")) return Kept::column;
+    // fields 1, the version, and 2, the type, or 22, the logical type, of a message
+    if (begins("\x08\x01\x10") || begins("\x08\x02\xb2\x01")) return Kept::column;
     const size_t line = begins(line_of_type) ? begun.find('\n') : begun.npos;
     const bool is_after_line = line != begun.npos && begun.substr(line + 1, 3) == "\x08\x01\x10";
     return is_after_line ? Kept::column : Kept::nothing;

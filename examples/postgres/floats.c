@@ -6,6 +6,7 @@
 #include "float_total.h"
 #include "hivevigil_helpers.h"
 #include "utils/builtins.h"
+#include <math.h>
 
 Datum hv_float_datum(uint8_t kind, uint64_t bits) {
     const uint32_t narrow = (uint32_t)bits;
