@@ -61,7 +61,7 @@ extern "C" {
  * major * 1000000 + minor * 1000 + patch, and hv_abi its interface: a program runs with a library of its own HV_ABI,
  * and finds there every call of a header that is not newer than the library. */
 #define HV_VERSION_MAJOR 1
-#define HV_VERSION_MINOR 7
+#define HV_VERSION_MINOR 8
 #define HV_VERSION_PATCH 0
 #define HV_VERSION (HV_VERSION_MAJOR * 1000000 + HV_VERSION_MINOR * 1000 + HV_VERSION_PATCH)
 #define HV_ABI 1

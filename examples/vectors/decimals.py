@@ -15,6 +15,8 @@ from writer import (
 )
 
 Has = Callable[[int], bool]
+# Decimals have 1 to 38 digits.
+NO_SUCH_TYPE = Refusal("23")
 
 
 def has_digits(precision: int, number: int) -> bool:
@@ -90,7 +92,9 @@ def decimal_numeric(writer: Writer, left: Column, operation: str, right: Column)
 def rescale(writer: Writer, asked: Column, precision: int, scale: int) -> None:
     """Writes a line of `rescale`."""
     outcome: Outcome = UNSUPPORTED
-    if asked.type.is_decimal:
+    if not 1 <= precision <= MOST_DIGITS:
+        outcome = NO_SUCH_TYPE
+    elif asked.type.is_decimal:
         outcome = rescaled(asked.rows, asked.type.kind[1], scale, partial(has_digits, precision))
     work = f"rescale decimal({precision},{scale}) {asked.name}"
     writer.answer(work, (asked,), outcome, Type((precision, scale), asked.type.nullable))
@@ -99,7 +103,9 @@ def rescale(writer: Writer, asked: Column, precision: int, scale: int) -> None:
 def decimals_of(writer: Writer, asked: Column, precision: int, scale: int) -> None:
     """Writes a line of `decimals_of`."""
     outcome: Outcome = UNSUPPORTED
-    if asked.type.is_integer:
+    if not 1 <= precision <= MOST_DIGITS:
+        outcome = NO_SUCH_TYPE
+    elif asked.type.is_integer:
         outcome = rescaled(asked.rows, 0, scale, partial(has_digits, precision))
     work = f"decimals_of decimal({precision},{scale}) {asked.name}"
     writer.answer(work, (asked,), outcome, Type((precision, scale), asked.type.nullable))
