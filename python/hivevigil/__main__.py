@@ -9,6 +9,7 @@ import sys
 from collections.abc import Callable
 
 from . import _files, report
+from ._table_files import LIMIT
 from .column import Column
 from .csv_files import BadFile
 from .errors import HivevigilError
@@ -25,6 +26,8 @@ def _arguments() -> argparse.Namespace:
     parser.add_argument("--plot", metavar="FILE.svg", help="draws how long the runs are (needs Matplotlib)")
     parser.add_argument("--batch", type=int, default=65536, metavar="ROWS", help="rows that are read at once")
     parser.add_argument("--reader", choices=("gdal", "csv"), help="GDAL (where it is there), or Python's csv module")
+    limit_help = "what columns kept as differences may take in memory"
+    parser.add_argument("--limit", type=int, default=LIMIT, metavar="BYTES", help=limit_help)
     parser.add_argument("--version", action="version", version=f"hivevigil {version()}")
     chosen = parser.parse_args()
     if chosen.batch < 1:
@@ -54,7 +57,7 @@ def _convert(chosen: argparse.Namespace) -> None:
             raise ValueError(f"{chosen.file}: the file of a column, and only tables have columns as differences")
         Column.load(chosen.file).save(chosen.to)
         return
-    table = Table.load(chosen.file) if kind else Table.from_csv(chosen.file, chosen.batch)
+    table = Table.load(chosen.file, limit=chosen.limit) if kind else Table.from_csv(chosen.file, chosen.batch)
     table.save(chosen.to, chosen.differences)
 
 

@@ -13,13 +13,13 @@ from . import _reading, _runs
 from ._library import Kind, ask, calls
 from ._making import numbers_of, validity_of
 from ._protobuf import Damaged
-from ._types import LETTERS, TYPES, WHOLE_NUMBERS, WIDTHS, range_of
+from ._types import LETTERS, TYPES, WHOLE_NUMBERS, range_of
 
 if TYPE_CHECKING:
     from .column import Column
 
 FORMS = ("", "flat", "runs")  # of columns that are kept so, as docs/table.proto numbers them
-MOST = 2**26  # rows that are written out, or runs, since a few bytes may say that there are many
+MOST = 2**26  # rows that are written out, or runs, in any file, since a few bytes may say that there are many
 
 _OTHER = bytes.maketrans(b"\0\1", b"\1\0")
 
@@ -88,8 +88,8 @@ def _of_items(column: Column, items: array.array[int], valid: Union[bytes, bytea
 class _Totals:
     """Rows of a type, which are added in stretches: the running totals of differences."""
 
-    def __init__(self, name: str, by_runs: bool) -> None:
-        self._letter, self._width, self._fits, self._by_runs = LETTERS[name], WIDTHS[name], range_of(name), by_runs
+    def __init__(self, name: str, by_runs: bool, most: int) -> None:
+        self._letter, self._fits, self._by_runs, self._most = LETTERS[name], range_of(name), by_runs, most
         self.items: array.array[int] = array.array(self._letter)
         self.ends: array.array[int] = array.array("Q")  # of runs, where rows are not written out
         self.valid = bytearray()
@@ -129,15 +129,15 @@ class _Totals:
 
     def _room(self, rows: int) -> int:
         """A number of items that are added, where there are not too many."""
-        if len(self.items) + rows > MOST:
+        if len(self.items) + rows > self._most:
             raise Damaged
         return rows
 
 
-def totals(steps: Column, kind: Kind, form: int) -> Column:
+def totals(steps: Column, kind: Kind, form: int, most: int = MOST) -> Column:
     """The column of a type, in a form by its number, that has these differences, which are i64 in runs. Damaged where
-    there is none, or it has more than MOST rows or runs."""
-    made = _Totals(TYPES[kind.number], FORMS[form] == "runs")
+    there is none, or it has more than this many rows or runs."""
+    made = _Totals(TYPES[kind.number], FORMS[form] == "runs", min(most, MOST))
     shown = _runs.visible(steps)
     numbers, nulls = _reading.numbers(shown.values, 0, shown.runs), _reading.null_flags(shown.values)
     for step, rows, null in zip(numbers, _runs.lengths(shown.stops), nulls):
@@ -149,10 +149,10 @@ def totals(steps: Column, kind: Kind, form: int) -> Column:
     return steps.from_runs(made.ends, values).to_runs() if FORMS[form] == "runs" else values
 
 
-def read(steps: Column, message: bytes, kind: Kind, form: int) -> Column:
-    """The column that has these differences, of which a message is read. Damaged where none has them, or where they
-    are not in as few runs as possible."""
+def read(steps: Column, message: bytes, kind: Kind, form: int, most: int) -> Column:
+    """The column that has these differences, of which a message is read. Damaged where none has them, where it has more
+    rows or runs than its footer says, or where they are not in as few runs as possible."""
     is_ours = steps.form == "runs" and steps.type == ("i64?" if kind.nullable else "i64")
     if not is_ours or TYPES[kind.number] not in WHOLE_NUMBERS or steps.to_runs().to_bytes() != message:
         raise Damaged
-    return totals(steps, kind, form)
+    return totals(steps, kind, form, most)

@@ -10,8 +10,9 @@ from . import _comparing, _decimals, _float_pairs, _floats
 from ._library import calls
 from ._making import is_array
 from ._rows import constant_of
-from ._values import is_whole
+from ._values import is_missing, is_whole
 from .errors import CastOutOfRange, TypeMismatch, Unsupported, in_words
+from .logical import sort_of_class
 
 if TYPE_CHECKING:
     from .column import Column
@@ -112,7 +113,8 @@ def worked(column: Any, sign: str, other: Any, is_left: bool = True) -> Column:
         said = f"row {row} is {left.at(row)} {sign} {right.at(row)}, which does not fit {_type_of(left)}"
         raise past.saying(said) from None
     except (TypeMismatch, Unsupported) as refused:
-        raise refused.saying(f"{_type_of(left)} and {_type_of(right)} are not {done}") from None
+        hint = f": comparisons are put in parentheses, as (column > 1) {sign} (column < 5)" if sign in "&|" else ""
+        raise refused.saying(f"{_type_of(left)} and {_type_of(right)} are not {done}{hint}") from None
 
 
 def _refuse_other_times(left: Any, right: Any, sign: str) -> None:
@@ -130,6 +132,15 @@ def _refuse_other_times(left: Any, right: Any, sign: str) -> None:
         raise TypeMismatch().saying(f"{one} and {other} are not {SIGNS[sign][1]}: {hint}")
 
 
+def _refuse_times(column: Any, sign: str, value: Any) -> None:
+    """Refuses a date or a time next to rows of times, whose integers are worked; says what does it."""
+    if sort_of_class(type(value)) not in ("date", "time", "timestamp", "duration") or is_missing(value):
+        return
+    logical = column._logical
+    how = f"column {sign} 5 is their integers, which .cast('{logical}') makes times again"
+    raise TypeError(f"rows of type {logical} are worked by their integers, and not with {in_words(value)}: {how}")
+
+
 def _type_of(column: Any) -> str:
     return str(column._logical) if _floats.is_float(column._logical) else str(column.type.rstrip("?"))
 
@@ -141,6 +152,7 @@ def _constant(column: Any, sign: str, value: Any) -> Column:
         raise TypeError(f"a column is worked with a column or one value: {made}")
     is_time = column._logical is not None and not _floats.is_float(column._logical)
     if is_time and (sign not in _PICKS or is_whole(value)):  # work is on the integers
+        _refuse_times(column, sign, value)
         column = column.storage()
     if sign in "+-*" and _decimals.is_decimal(column):
         return _decimals.beside(column, sign, value)

@@ -12,6 +12,7 @@ from typing import TYPE_CHECKING, Any, Optional
 from . import _runs, _times
 from ._types import TYPES, WHOLE_NUMBERS
 from ._values import Scalar
+from .logical import LogicalType
 
 if TYPE_CHECKING:
     from .column import Column
@@ -33,6 +34,20 @@ def _word(value: Scalar) -> str:
     if len(text) <= _LETTERS_SHOWN or not isinstance(value, (str, bytes)):
         return text
     return repr(value[: _LETTERS_SHOWN - len("'...'")])[:-1] + "..." + text[-1]
+
+
+def _word_of(logical: Optional[LogicalType], stored: Any) -> str:
+    """What a row stores as it is shown: a time of which Python has no value as the text that it would have."""
+    try:
+        return _word(_times.value_of(logical, stored))
+    except (OverflowError, ValueError):
+        return _times.written(logical, stored) if logical is not None else repr(stored)
+
+
+def _words(column: Column) -> list[str]:
+    """Each row as it is shown."""
+    logical = column._logical
+    return [_word_of(logical, stored) for stored in (column if logical is None else column.storage())]
 
 
 def _counted(number: int, what: str) -> str:
@@ -62,15 +77,15 @@ def text(column: Column) -> str:
         return f"<{_head(column)}>"
     if runs is None:
         return f"<{_head(column)}>\n{_first_rows(column)}"
-    first = list(_runs.stored_runs(column, _RUNS_SHOWN))
+    first = list(_runs.stored_runs(column.storage(), _RUNS_SHOWN))
     width = max((len(f"{run.start}:{run.stop}") for run in first), default=0)
-    lines = [f"  {f'{run.start}:{run.stop}'.ljust(width)}  {_word(run.value)}" for run in first]
+    lines = [f"  {f'{run.start}:{run.stop}'.ljust(width)}  {_word_of(column._logical, run.value)}" for run in first]
     more = [f"  and {_counted(runs - len(first), 'more run')}"] if runs > len(first) else []
     return "\n".join([f"<{_head(column)}>", *lines, *more])
 
 
 def _first_rows(column: Column) -> str:
-    words = list(map(_word, column.slice(0, min(_ROWS_SHOWN, column._length))))
+    words = _words(column.slice(0, min(_ROWS_SHOWN, column._length)))
     return f"  [{', '.join(words + ['...'] * (column._length > _ROWS_SHOWN))}]"
 
 
@@ -98,7 +113,7 @@ def _strip(column: Column) -> str:
     colour_of = _colours(stored)
     starts = [stretch[0][0] for stretch in stretches]
     rects = [
-        _rect(start, stop, length, _times.value_of(column._logical, stretch[0][1]), colour_of(stretch[0][1]))
+        _rect(start, stop, length, _word_of(column._logical, stretch[0][1]), colour_of(stretch[0][1]))
         for start, stop, stretch in zip(starts, [*starts[1:], length], stretches)
     ]
     frame = f'<rect width="{_SAMPLES}" height="{_HEIGHT}" fill="none" stroke="currentColor" stroke-opacity="0.4"/>'
@@ -108,11 +123,11 @@ def _strip(column: Column) -> str:
     )
 
 
-def _rect(start: int, stop: int, length: int, value: Scalar, colour: str) -> str:
+def _rect(start: int, stop: int, length: int, word: str, colour: str) -> str:
     left, right = _SAMPLES * start / length, _SAMPLES * stop / length
     about = "" if length <= _SAMPLES else "about "
     rows = f"rows {start:,} to {stop - 1:,}" if stop - start > 1 else f"row {start:,}"
-    title = f"{about}{rows}: {_word(value)}"
+    title = f"{about}{rows}: {word}"
     return (
         f'<rect x="{left:.2f}" width="{right - left:.2f}" height="{_HEIGHT}" fill="{colour}">'
         f"<title>{escape(title)}</title></rect>"
@@ -143,9 +158,10 @@ def _table(column: Column) -> str:
     runs = _runs_of(column)
     if not runs:
         return f"<pre>{escape(_first_rows(column))}</pre>" if runs is None else ""
-    first = _runs.stored_runs(column, _RUNS_SHOWN)
+    first = _runs.stored_runs(column.storage(), _RUNS_SHOWN)
     cells = "".join(
-        f"<tr><td>{run.start:,}</td><td>{run.stop:,}</td><td>{escape(_word(run.value))}</td></tr>" for run in first
+        f"<tr><td>{run.start:,}</td><td>{run.stop:,}</td><td>{escape(word)}</td></tr>"
+        for run, word in ((run, _word_of(column._logical, run.value)) for run in first)
     )
     more = f"<br>and {_counted(runs - _RUNS_SHOWN, 'more run')}" if runs > _RUNS_SHOWN else ""
     return f"<table><tr><th>from row</th><th>to before</th><th>value</th></tr>{cells}</table>{more}"

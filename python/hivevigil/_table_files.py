@@ -13,16 +13,18 @@ from . import _differences, _files, _float_columns, _floats
 from ._making import decimals_of, flat_of, validity_of, view_of
 from ._protobuf import Damaged, Fields, number_field, sized_field, sized_head
 from ._table_making import about, refuse_twice
-from ._types import TYPES, WHOLE_NUMBERS
-from ._values import Scalar
+from ._types import TYPES, WHOLE_NUMBERS, WIDTHS
+from ._values import MOST_ROWS, Scalar, size_of
 from .column import Column
-from .errors import BadMetadata, NoName, in_words
+from .errors import BadMetadata, NoName, OverLimit, in_words
 
 # by the version: 2 where a column is kept as differences, which earlier readers refuse
 _HEADS = {version: sized_field(1, b"hivevigil") + number_field(2, version) for version in (1, 2)}
 _HEAD_SIZE = len(_HEADS[1])
 _COLUMN, _FOOTER, _FOOTER_SIZE = 3, 4, bytes([5 * 8 + 1])
 _TAIL = len(_FOOTER_SIZE) + 8  # bytes at the end, which say how many the footer has
+LIMIT = 2**30  # bytes that columns kept as differences may take in memory, where a caller gives no other number
+_END = 8  # bytes of the end of a run while the runs are made
 
 
 @dataclass(frozen=True, eq=False)
@@ -54,6 +56,17 @@ class ColumnFooter:
     def greatest(self) -> Scalar:
         """The greatest row that is not null, None where there is none."""
         return self._bound(1)
+
+    def kept_items(self, rows: int) -> int:
+        """How many rows are written out of a column that is kept as differences, or runs; 0 of another column."""
+        return {"flat": rows, "runs": self.runs or 0}[self.form] if self.form else 0
+
+    def kept_bytes(self, rows: int) -> int:
+        """How many bytes these take in memory: each as wide as its type, and 8 for the end of a run."""
+        if self.bounds is None or not self.form:
+            return 0
+        each = WIDTHS[TYPES[self.bounds._kind.number]] + (_END if self.form == "runs" else 0)
+        return self.kept_items(rows) * each
 
     def may_have(self, operator: str, value: Any) -> bool:
         """Whether `row operator value` may be true of a row, as Column.compare has it: where not, the column need not
@@ -216,7 +229,7 @@ class TableFile:
         data = self._read(entry.start, len(entry.head) + entry.footer.nbytes)
         if not data.startswith(entry.head):
             raise Damaged
-        column = _column_of_entry(entry, data[len(entry.head) :])
+        column = _column_of_entry(entry, data[len(entry.head) :], self.rows)
         form = entry.form if self._version == 2 else None
         known = _column_footer(name, column, entry.footer.logical_type or "", entry.footer.nbytes, form)
         if column._length != self.rows or known != entry.data:
@@ -247,12 +260,12 @@ def _is_of_bounds(message: bytes) -> bool:
     return form == 1 and rows in (0, 2) and validity in (1, 2)  # as docs/column.proto numbers them
 
 
-def _column_of_entry(entry: _Entry, message: bytes) -> Column:
-    """The column of an entry by its message."""
+def _column_of_entry(entry: _Entry, message: bytes, rows: int) -> Column:
+    """The column of an entry by its message, in a table of this many rows."""
     bounds = entry.footer.bounds
     if not entry.form or bounds is None:
         return _column_of(message)
-    return _differences.read(_column_of(message), message, bounds._kind, entry.form)
+    return _differences.read(_column_of(message), message, bounds._kind, entry.form, entry.footer.kept_items(rows))
 
 
 def _column_of(message: bytes) -> Column:
@@ -268,32 +281,36 @@ def _column_of(message: bytes) -> Column:
 Contents = tuple[dict[str, Column], int, dict[str, str]]  # the columns, the rows, the logical types
 
 
-def _chosen(file: TableFile, names: Optional[Any]) -> Contents:
-    """The columns of these names, or all."""
+def _chosen(file: TableFile, names: Optional[Any], limit: int) -> Contents:
+    """The columns of these names, or all, where those that are kept as differences take no more bytes than the limit."""
     chosen = list(file.entries) if names is None else list(names)
     for name in chosen:
         if name not in file.entries:
             raise NoName(name, file.entries)
     refuse_twice(chosen)
+    size = sum(file.entries[name].footer.kept_bytes(file.rows) for name in chosen)
+    if size > limit:
+        raise OverLimit(min(size, MOST_ROWS), limit)
     formats = {name: entry.footer.logical_type for name, entry in file.entries.items()}
     logical = {name: format for name, format in formats.items() if format is not None}
     return {name: file.column(name) for name in chosen}, file.rows, logical
 
 
-def read_bytes(data: Any) -> Contents:
+def read_bytes(data: Any, limit: int) -> Contents:
+    most = size_of(limit, "the limit")
     try:
-        return _chosen(TableFile(io.BytesIO(view_of(data))), None)
+        return _chosen(TableFile(io.BytesIO(view_of(data))), None, most)
     except Damaged:
         raise BadMetadata().saying("Table.from_bytes: the bytes are not what Table.to_bytes writes") from None
 
 
-def load(path: Any, names: Optional[Any]) -> Contents:
+def load(path: Any, names: Optional[Any], limit: int) -> Contents:
     if isinstance(names, str):
         raise TypeError(f"columns are named by a list, not by {in_words(names)}")
-    name = _files.name_of(path)
+    name, most = _files.name_of(path), size_of(limit, "the limit")
     with open(name, "rb") as file:
         with _refused(name, file) as source:
-            return _chosen(TableFile(source), names)
+            return _chosen(TableFile(source), names, most)
 
 
 def read_footer(path: Any) -> TableFooter:
@@ -315,6 +332,8 @@ class _refused:
         return self._file
 
     def __exit__(self, kind: Any, error: Any, _: Any) -> None:
+        if kind is OverLimit:
+            raise error.saying(f"load: {self._name}: {error}; Table.load(path, limit={error.fields[0]}) reads it")
         if kind is Damaged:
             size = self._file.seek(0, os.SEEK_END)
             self._file.seek(0)

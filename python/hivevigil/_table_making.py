@@ -42,6 +42,11 @@ def checked_name(name: Any) -> str:
     return name
 
 
+def what_is(value: Any) -> str:
+    """What a sentence calls a value that is not a table: a frame of pandas by its class."""
+    return f"a {type(value).__name__}" if hasattr(value, "iloc") else in_words(value)
+
+
 def checked_types(types: Any) -> Mapping[str, Any]:
     """Types by the names of columns, where they are given."""
     if types is not None and not isinstance(types, Mapping):
@@ -118,7 +123,8 @@ def meanings(columns: Mapping[str, Column], formats: Mapping[str, str]) -> dict[
 def check_names(table: Table, other: Any) -> None:
     """Refuses a table that cannot be appended, since it has other names."""
     if type(other) is not type(table):
-        raise TypeError(f"a table is appended to a table, not {in_words(other)}")
+        hint = ": Table.from_pandas(frame) makes one" if hasattr(other, "iloc") else ""
+        raise TypeError(f"a table is appended to a table, not {what_is(other)}{hint}")
     if set(table) != set(other):
         only = [f"{'only the first' if name in table else 'only the other'} has {in_words(name)}"
                 for name in [*table, *other] if (name in table) != (name in other)]
@@ -162,7 +168,10 @@ def frame_of(columns: Mapping[str, Column], rows: int, in_runs: bool) -> Any:
 
         made = {name: pandas.Series(RunEndArray(column)) for name, column in columns.items()}
     else:
-        made = {name: column.to_pandas() for name, column in columns.items()}
+        made = {}
+        for name, column in columns.items():
+            with about(name):
+                made[name] = column.to_pandas()
     return pandas.DataFrame(made, index=pandas.RangeIndex(rows))
 
 

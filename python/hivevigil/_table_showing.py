@@ -4,7 +4,8 @@ from __future__ import annotations
 from collections.abc import Mapping
 from html import escape
 
-from ._showing import _counted, _runs_of, _strip, _word
+from ._showing import _counted, _runs_of, _strip, _words
+from ._common_types import written_type
 from .column import Column
 from .errors import in_words
 
@@ -25,12 +26,8 @@ def _rows_of(column: Column) -> str:
     if column.type.startswith("list"):
         words = [str(in_words(row)) for row in column.slice(0, min(_ROWS_SHOWN, column._length))]
     else:
-        words = list(map(_word, column.slice(0, min(_ROWS_SHOWN, column._length))))
+        words = _words(column.slice(0, min(_ROWS_SHOWN, column._length)))
     return ", ".join(words + ["..."] * (column._length > _ROWS_SHOWN))
-
-
-def _type_of(name: str, column: Column, logical: Mapping[str, str]) -> str:
-    return f"{column.type} {logical[name]}" if name in logical else column.type
 
 
 def _more(columns: Mapping[str, Column]) -> str:
@@ -38,10 +35,10 @@ def _more(columns: Mapping[str, Column]) -> str:
     return f"and {_counted(left, 'more column')}" if left > 0 else ""
 
 
-def text(columns: Mapping[str, Column], rows: int, logical: Mapping[str, str]) -> str:
+def text(columns: Mapping[str, Column], rows: int) -> str:
     """Rows and columns, then each column's name, type, form and first rows."""
     cells = [
-        (_short(name), _type_of(name, column, logical), _form_of(column), _rows_of(column))
+        (_short(name), written_type(column), _form_of(column), _rows_of(column))
         for name, column in list(columns.items())[:_COLUMNS_SHOWN]
     ]
     widths = [max(map(len, part)) for part in zip(*cells)][:3]
@@ -56,10 +53,10 @@ def _short(name: str) -> str:
     return word if len(word) <= _NAME_LETTERS else word[: _NAME_LETTERS - 3] + "..."
 
 
-def html(columns: Mapping[str, Column], rows: int, logical: Mapping[str, str]) -> str:
+def html(columns: Mapping[str, Column], rows: int) -> str:
     """The same as a table, with a strip for each column on which its rows lie from left to right."""
     lines = "".join(
-        f"<tr><td>{escape(_short(name))}</td><td>{escape(_type_of(name, column, logical))}</td>"
+        f"<tr><td>{escape(_short(name))}</td><td>{escape(written_type(column))}</td>"
         f"<td>{escape(_form_of(column))}</td><td>{escape(_rows_of(column))}</td><td>{_strip_of(column)}</td></tr>"
         for name, column in list(columns.items())[:_COLUMNS_SHOWN]
     )

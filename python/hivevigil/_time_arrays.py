@@ -103,6 +103,17 @@ def to_numpy(column: Column, logical: LogicalType) -> Any:
     return items.view(dtype(logical))
 
 
+def _past_pandas(column: Column, logical: LogicalType) -> OverflowError:
+    """What says which row the nanoseconds of pandas do not have."""
+    fits = range(-(2**63) + 1, 2**63)
+    for start, _, number in column.storage().to_runs().runs():
+        if isinstance(number, int) and number * logical.nanoseconds not in fits:
+            limit = "292 years" if logical.sort == "duration" else "the years 1678 to 2261"
+            said = f"to_pandas: row {start} is {_times.written(logical, number)}, past {limit} of pandas' nanoseconds"
+            return OverflowError(f"{said}: column.to_list() has the rows, and column.storage() the integers")
+    return OverflowError(f"to_pandas: a row of {logical} is past what pandas has")
+
+
 def to_pandas(column: Column, logical: LogicalType) -> Any:
     """The rows as a Series: of timestamps, in their zone, and durations; dates and times of day are objects.
     OverflowError where pandas has no such time."""
@@ -112,5 +123,8 @@ def to_pandas(column: Column, logical: LogicalType) -> Any:
 
     if logical.sort in ("date", "time"):
         return pandas.Series(_objects(column), dtype=object)
-    series = pandas.Series(to_numpy(column, logical))
+    try:
+        series = pandas.Series(to_numpy(column, logical))
+    except (pandas.errors.OutOfBoundsDatetime, pandas.errors.OutOfBoundsTimedelta):
+        raise _past_pandas(column, logical) from None
     return series.dt.tz_localize("UTC").dt.tz_convert(_times.pandas_zone(logical.zone)) if logical.zone else series

@@ -233,6 +233,23 @@ def _of_pandas(logical: LogicalType, number: int) -> Any:
     return value.tz_localize("UTC").tz_convert(pandas_zone(logical.zone)) if logical.zone else value
 
 
+def written(logical: LogicalType, number: int) -> str:
+    """The text of a time, of a unit or a year that Python has no value of; one of a zone is in UTC."""
+    nanoseconds = number * logical.nanoseconds
+    days, rest = divmod(nanoseconds, _DAY)
+    seconds, fraction = divmod(rest, _SECOND)
+    clock = f"{seconds // 3600:02}:{seconds // 60 % 60:02}:{seconds % 60:02}"
+    clock += f".{fraction:09}".rstrip("0") if fraction else ""
+    if logical.sort == "duration":
+        return f"{f'{days:,} days, ' if days else ''}{clock.lstrip('0') if clock[:2] != '00' else clock[1:]}"
+    if logical.sort == "time":
+        return clock if days == 0 else f"{number} of {logical}"
+    cycles, day = divmod(days + _FIRST_DAY - 1, 146_097)  # the calendar is the same after 400 years
+    found = date.fromordinal(day + 1)
+    text = f"{found.year + 400 * cycles:04}-{found.month:02}-{found.day:02}"
+    return text if logical.sort == "date" and not rest else f"{text} {clock}{'+00:00' if logical.zone else ''}"
+
+
 # ---- Zones ----
 
 

@@ -5,10 +5,10 @@ import array
 import ctypes
 import sys
 from collections.abc import Iterator
-from typing import Any, Optional
+from typing import TYPE_CHECKING, Any, Optional
 
 from . import (
-    _arrow, _casting, _comparing, _copying, _files, _float_columns, _floats, _indexing, _lists, _making, _pairs,
+    _arrow, _casting, _comparing, _copying, _files, _float_columns, _floats, _indexing, _lists, _making, _other_names, _pairs,
     _questions, _reading, _rows, _runs, _showing, _sorting, _statistics, _times, _totals, _ufuncs,
 )
 from ._library import Handle, Kind, ask, calls, session
@@ -111,6 +111,11 @@ class Column(_comparing.Comparisons, _pairs.Pairs, _ufuncs.Ufuncs):
 
     def __dask_tokenize__(self) -> tuple[str, str]:
         return _copying.token(self)
+
+    if not TYPE_CHECKING:  # which would take any name for one of a column
+
+        def __getattr__(self, name: str) -> Any:
+            raise _other_names.refused(self, name, _other_names.OF_COLUMNS)
 
     # ---- Making ----
 
@@ -394,7 +399,10 @@ class Column(_comparing.Comparisons, _pairs.Pairs, _ufuncs.Ufuncs):
     def __bool__(self) -> bool:
         """Whether there is a row. A mask is refused, since `if a == b` asks for its rows: any(), all() or equals()."""
         if TYPES[self._kind.number] == "bool":
-            raise ValueError("a mask is not true or false: ask mask.any(), mask.all() or len(mask), and a.equals(b)")
+            raise ValueError(
+                "a mask is not true or false: ask mask.any(), mask.all() or len(mask), and a.equals(b); two conditions "
+                "are (a > 1) & (a < 5)"
+            )
         return self._length > 0
 
     def __contains__(self, value: Any) -> bool:

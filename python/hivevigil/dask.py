@@ -24,6 +24,7 @@ from dask import base, highlevelgraph, optimization, threaded, utils
 from . import _runs
 from . import chunks as _chunks
 from ._chunk_groups import Groups
+from ._table_files import LIMIT
 from ._types import kind_of, text_of
 from ._values import Scalar, size_of
 from .chunks import Partial
@@ -209,19 +210,20 @@ class ChunkedColumn(Chunked):
 
     @classmethod
     def from_tables(
-        cls, paths: Iterable[Any], column: str, where: Optional[tuple[str, str, Any]] = None
+        cls, paths: Iterable[Any], column: str, where: Optional[tuple[str, str, Any]] = None, limit: int = LIMIT
     ) -> ChunkedColumn:
         """A column of the tables that Table.save wrote, one chunk for each file, which a task reads. With `where`, the
         name of a column, an operator and a value, only the rows at which it is true: files whose footers say that they
-        have none are left out. Footers are read at once."""
+        have none are left out. Footers are read at once. `limit` is that of Table.load, for each file."""
         if isinstance(paths, (str, bytes, os.PathLike)):
             raise TypeError(f"from_tables takes the names of several files, not {in_words(paths)}")
         if where is not None and (not isinstance(where, tuple) or len(where) != 3):
             raise TypeError(f"where is a name, an operator and a value, not {in_words(where)}")
         names = [os.path.abspath(os.fsdecode(path)) for path in paths]
         kept = [name for name in names if where is None or Table.footer(name).may_have(*where)]
-        tasks = [(_column_of_table, name, column, (_same, where)) for name in kept or names[:1]]
-        made: ChunkedColumn = cls._made("tables", tasks, column, where, *map(_stamp, kept or names[:1]))
+        most = size_of(limit, "the limit")
+        tasks = [(_column_of_table, name, column, (_same, where), most) for name in kept or names[:1]]
+        made: ChunkedColumn = cls._made("tables", tasks, column, where, most, *map(_stamp, kept or names[:1]))
         made._from([_of_column(name, column) for name in kept or names[:1]])
         return made
 
@@ -447,12 +449,12 @@ def _column_of(rows: Any, type: Optional[str]) -> Column:
     return Column.of(rows, type).to_runs()
 
 
-def _column_of_table(path: str, name: str, where: Optional[tuple[str, str, Any]]) -> Column:
+def _column_of_table(path: str, name: str, where: Optional[tuple[str, str, Any]], limit: int) -> Column:
     """A column of the table of a file, of which no other is read but that of the condition."""
     if where is None:
-        column: Column = Table.load(path, [name])[name]
+        column: Column = Table.load(path, [name], limit)[name]
         return column
-    chosen: Column = Table.load(path, {name: None, where[0]: None}).filter_by(*where)[name]
+    chosen: Column = Table.load(path, {name: None, where[0]: None}, limit).filter_by(*where)[name]
     return chosen
 
 

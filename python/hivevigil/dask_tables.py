@@ -18,6 +18,7 @@ from dataclasses import dataclass, replace
 from typing import Any, Optional
 
 from . import _chunk_groups
+from ._table_files import LIMIT
 from ._values import size_of
 from .column import Column
 from .dask import Answer, Chunked, ChunkedColumn, _asked, _dask, _of_column, _same, _stamp
@@ -33,10 +34,11 @@ _Condition = tuple[str, str, Any]
 @dataclass(frozen=True)
 class _Files:
     """Files of which nothing was read but footers: their names as they were found, which columns are asked for (None:
-    all), the conditions on rows, and how many files were left out since no row of theirs meets one."""
+    all), the limit of each, the conditions on rows, and how many files were left out since no row of theirs meets one."""
 
     stamps: tuple[tuple[str, int, int], ...]
     columns: Optional[tuple[str, ...]]
+    limit: int
     conditions: tuple[_Condition, ...] = ()
     skipped: int = 0
 
@@ -52,7 +54,7 @@ class _Files:
 
     def tasks(self, function: Callable[..., Any], *arguments: Any) -> list[Any]:
         quoted = [(_same, argument) for argument in arguments]
-        return [(function, name, (_same, self.conditions), *quoted) for name, _, _ in self.stamps]
+        return [(function, name, self.limit, (_same, self.conditions), *quoted) for name, _, _ in self.stamps]
 
 
 class ChunkedTable(Chunked):
@@ -64,14 +66,18 @@ class ChunkedTable(Chunked):
     # ---- Making ----
 
     @classmethod
-    def from_files(cls, paths: Iterable[Any], columns: Optional[Iterable[str]] = None) -> ChunkedTable:
+    def from_files(
+        cls, paths: Iterable[Any], columns: Optional[Iterable[str]] = None, limit: int = LIMIT
+    ) -> ChunkedTable:
         """The tables that Table.save wrote, or their columns of these names, one chunk for each file. Columns that no
-        answer needs are not read, where `filter_by`, `select` and `table[name]` come before all else."""
+        answer needs are not read, where `filter_by`, `select` and `table[name]` come before all else. `limit` is that
+        of Table.load, for each file."""
         for given, what in (paths, "files"), (columns, "columns"):
             if isinstance(given, (str, bytes, os.PathLike)):
                 raise TypeError(f"from_files takes the names of several {what}, not {in_words(given)}")
         stamps = tuple(_stamp(os.path.abspath(os.fsdecode(path))) for path in paths)
-        return cls._of_files(_Files(stamps, None if columns is None else tuple(columns)))
+        most = size_of(limit, "the limit")
+        return cls._of_files(_Files(stamps, None if columns is None else tuple(columns), most))
 
     @classmethod
     def from_tables(cls, tables: Iterable[Table]) -> ChunkedTable:
@@ -227,17 +233,19 @@ class ChunkedTableGroups:
 # ---- What tasks do ----
 
 
-def _table_of_file(path: str, conditions: tuple[_Condition, ...], columns: Optional[tuple[str, ...]]) -> Table:
+def _table_of_file(
+    path: str, limit: int, conditions: tuple[_Condition, ...], columns: Optional[tuple[str, ...]]
+) -> Table:
     """The rows of a file that meet the conditions, of which no column is read that is not asked for."""
     names = None if columns is None else {**dict.fromkeys(columns), **{name: None for name, _, _ in conditions}}
-    table = Table.load(path, names)
+    table = Table.load(path, names, limit)
     for condition in conditions:
         table = table.filter_by(*condition)
     return table if columns is None else table.select(*columns)
 
 
-def _column_of_file(path: str, conditions: tuple[_Condition, ...], name: str) -> Column:
-    return _table_of_file(path, conditions, (name,))._column(name)
+def _column_of_file(path: str, limit: int, conditions: tuple[_Condition, ...], name: str) -> Column:
+    return _table_of_file(path, limit, conditions, (name,))._column(name)
 
 
 def _table_of(first: Column, *others: Any) -> Table:

@@ -211,6 +211,13 @@ class ArrowStreamFailed(HivevigilError, OSError):
         return f"{super()._in_words()}: {self.words}" if self.words else super()._in_words()
 
 
+class OverLimit(HivevigilError, ValueError):
+    """A file whose columns kept as differences would take more bytes in memory than the caller lets them."""
+
+    number = 204  # of hivevigil_table_errors.h
+    sentence = "the columns kept as differences take {0} bytes in memory, above the limit of {1}"
+
+
 CLASSES: dict[int, type[HivevigilError]] = {kind.number: kind for kind in HivevigilError.__subclasses__()}
 
 

@@ -7,7 +7,7 @@ from typing import TYPE_CHECKING, Any, Callable
 from . import _float_columns, _floats, _questions, _statistics
 from ._library import Handle, ask, calls
 from ._types import GREATEST_PRECISION, TYPES, WHOLE_NUMBERS
-from .errors import CastOutOfRange
+from .errors import CastOutOfRange, Unsupported
 
 if TYPE_CHECKING:
     from .column import Column
@@ -45,6 +45,9 @@ class Groups:
             return self._each(_decimal_sum, f"decimal({GREATEST_PRECISION}, {self._values._kind.scale})?")
         if logical is not None and logical.sort != "duration":
             raise TypeError(f"sum: rows of type {logical} have no sum; values.storage() are their integers")
+        if not self._holds(*WHOLE_NUMBERS):
+            said = f"sum: rows of type {self._values.type.rstrip('?')} have no sum; ask min, max, first, last, count or size"
+            raise Unsupported().saying(said)
         try:
             return self._folded("sum")
         except CastOutOfRange as large:

@@ -39,6 +39,7 @@ class RunEndDtype(ExtensionDtype):
 
     na_value = pandas.NA
     _metadata = ("column_type",)
+    _are_objects = False  # booleans of which some are null, which pandas 1.5 would count as numbers of 8 bits
 
     def __init__(self, type: Any = "i64") -> None:
         self.column_type = text_of(kind_of(type)).rstrip("?")
@@ -50,7 +51,7 @@ class RunEndDtype(ExtensionDtype):
     @property
     def type(self) -> Any:
         """The class of a row."""
-        return _CLASSES.get(self.column_type, Decimal)
+        return numpy.object_ if self._are_objects else _CLASSES.get(self.column_type, Decimal)
 
     @property
     def _is_numeric(self) -> bool:
@@ -107,6 +108,9 @@ class RunEndArray(ExtensionArray):
 
     @classmethod
     def _from_sequence(cls, scalars: Any, *, dtype: Any = None, copy: bool = False) -> RunEndArray:
+        is_bits = dtype is not None and getattr(scalars, "dtype", None) == numpy.uint8 and _dtype_of(dtype)._is_boolean
+        if is_bits and len(scalars) and scalars.max() < 2:  # as which pandas 1.5 has booleans when it counts them
+            scalars = scalars.astype(bool)
         return cls(scalars, dtype)
 
     @classmethod
@@ -124,7 +128,9 @@ class RunEndArray(ExtensionArray):
 
     @property
     def dtype(self) -> RunEndDtype:
-        return RunEndDtype(self._column.type)
+        found = RunEndDtype(self._column.type)
+        found._are_objects = found._is_boolean and self._hasna
+        return found
 
     @property
     def nbytes(self) -> int:

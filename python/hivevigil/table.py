@@ -6,8 +6,10 @@ import operator
 from collections.abc import Callable, Iterable, Iterator, Mapping, Sequence
 from typing import TYPE_CHECKING, Any, Optional
 
-from . import _arrow, _files, _indexing, _joins, _sorting, _table_files, _table_making, _table_showing, csv_files
-from ._table_files import TableFooter
+from . import (
+    _arrow, _files, _indexing, _joins, _other_names, _sorting, _table_files, _table_making, _table_showing, csv_files,
+)
+from ._table_files import LIMIT, TableFooter
 from ._table_making import Names, about, checked_name, each_of, refuse_twice
 from ._values import MOST_ROWS, Scalar, is_whole, row_of, size_of
 from .column import Column
@@ -57,6 +59,11 @@ class Table(Mapping[str, Column]):
         table._logical = _table_making.meanings(columns, logical)
         return table
 
+    if not TYPE_CHECKING:  # which would take any name for one of a table
+
+        def __getattr__(self, name: str) -> Any:
+            raise _other_names.refused(self, name, _other_names.OF_TABLES)
+
     # ---- Making ----
 
     @classmethod
@@ -85,15 +92,17 @@ class Table(Mapping[str, Column]):
         return cls._of(columns, imported.columns[0]._length, imported.logical_types())
 
     @classmethod
-    def from_bytes(cls, data: bytes) -> Table:
-        """The table that `to_bytes` wrote, each column in the form that it had. `BadMetadata` for other bytes."""
-        return cls._of(*_table_files.read_bytes(data))
+    def from_bytes(cls, data: bytes, limit: int = LIMIT) -> Table:
+        """The table that `to_bytes` wrote, each column in the form that it had. `BadMetadata` for other bytes. Columns
+        that are kept as differences, of which a few bytes may say many rows, take no more than `limit` bytes in memory
+        together: else `OverLimit`, before one is read."""
+        return cls._of(*_table_files.read_bytes(data, limit))
 
     @classmethod
-    def load(cls, path: Any, columns: Optional[Iterable[str]] = None) -> Table:
+    def load(cls, path: Any, columns: Optional[Iterable[str]] = None, limit: int = LIMIT) -> Table:
         """The table that `save` wrote to a file, or its columns of these names, which are read without the others.
-        `BadMetadata` for a file of other bytes, OSError for none."""
-        return cls._of(*_table_files.load(path, columns))
+        `BadMetadata` for a file of other bytes, OSError for none; `OverLimit` as `from_bytes`, of these columns."""
+        return cls._of(*_table_files.load(path, columns, limit))
 
     @staticmethod
     def footer(path: Any) -> TableFooter:
@@ -236,7 +245,8 @@ class Table(Mapping[str, Column]):
         their bits are. With `how="left"` each row of this table comes at least once, with nulls where no other is
         equal. Refused where both have another column of one name. The cost goes by the runs of both."""
         if not isinstance(other, Table):
-            raise TypeError(f"a table is joined with a Table, not with {in_words(other)}")
+            hint = ": Table.from_pandas(frame) makes one" if hasattr(other, "iloc") else ""
+            raise TypeError(f"a table is joined with a Table, not with {_table_making.what_is(other)}{hint}")
         columns, rows = _joins.joined(self, other, on, how)
         return self._of(columns, rows, {**other._logical, **self._logical})
 
@@ -381,10 +391,10 @@ class Table(Mapping[str, Column]):
         return _unpickled, (type(self), self._columns, self._rows, self._logical)
 
     def __repr__(self) -> str:
-        return _table_showing.text(self._columns, self._rows, self._logical)
+        return _table_showing.text(self._columns, self._rows)
 
     def _repr_html_(self) -> str:
-        return _table_showing.html(self._columns, self._rows, self._logical)
+        return _table_showing.html(self._columns, self._rows)
 
 
 def _unpickled(kind: type[Table], columns: dict[str, Column], rows: int, logical: dict[str, str]) -> Table:

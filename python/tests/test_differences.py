@@ -2,6 +2,11 @@
 and reads by docs/table.proto, and each column comes back in its form, byte for byte."""
 import os
 import random
+import resource
+import subprocess
+import sys
+import tempfile
+from pathlib import Path
 
 import pytest
 from hivevigil import Column, Table, _differences, errors
@@ -82,7 +87,7 @@ def test_damaged_tables(model, seed):  # noqa: F811
         message = model.table(data)
         try:
             found = Table.from_bytes(data)
-        except errors.BadMetadata:
+        except (errors.BadMetadata, errors.OverLimit):
             found, refused = None, refused + 1
         assert (found is not None) == (message is not None), data.hex()
         if found is not None:
@@ -162,14 +167,90 @@ def test_each_byte_counts(tmp_path):
                 # names, days and texts may be others; all else is held against something
                 found = Table.from_bytes(other)
                 assert found.rows == 12 and found.to_bytes(differences=True) == other
-            except errors.BadMetadata:
+            except (errors.BadMetadata, errors.OverLimit):
                 refused += 1
             (tmp_path / "other").write_bytes(other)
             try:
                 assert Table.load(tmp_path / "other", ["number"]).names == ["number"]
-            except (errors.BadMetadata, KeyError):
+            except (errors.BadMetadata, errors.OverLimit, KeyError):
                 pass
     assert refused > 3 * len(data)
+
+
+# ---- How much memory a file may ask for
+
+
+def due_bytes(table, footer, names):
+    """What columns that are kept as differences take: each row as wide as its type, or each run and 8 for its end."""
+    total = 0
+    for name in names:
+        width, form = BITS.get(table[name].type.rstrip("?"), 0) // 8, footer.columns[name].form
+        rows = table[name].storage().to_list()
+        runs = sum(place == 0 or row != rows[place - 1] for place, row in enumerate(rows))
+        total += {None: 0, "flat": width * len(rows), "runs": (width + 8) * runs}[form]
+    return total
+
+
+@given(steady_tables(), st.data())
+def test_a_limit_of_what_is_read(table, data):
+    """Exactly the files are refused of which the columns that are read take more, and what they take is said."""
+    with tempfile.TemporaryDirectory() as folder:
+        path = Path(folder) / "kept.hv"
+        table.save(path, differences=True)
+        footer = Table.footer(path)
+        names = data.draw(st.lists(st.sampled_from(table.names), unique=True))
+        for chosen in (None, names):
+            due = due_bytes(table, footer, table.names if chosen is None else chosen)
+            for limit in {due, due + 1, 2**30, 2**64 - 1}:
+                assert Table.load(path, chosen, limit=limit).equals(table if chosen is None else table.select(*names))
+            for limit in {0, due // 2, due - 1} & set(range(due)):
+                with pytest.raises(errors.OverLimit) as refused:
+                    Table.load(path, chosen, limit=limit)
+                said = f"load: {path}: the columns kept as differences take {due} bytes in memory, above the limit of {limit}"
+                assert refused.value.fields[:2] == (due, limit) and str(refused.value).startswith(said)
+                if chosen is None:
+                    with pytest.raises(errors.OverLimit):
+                        Table.from_bytes(path.read_bytes(), limit=limit)
+
+
+def test_few_bytes_take_no_memory_before_they_are_refused():
+    """A hundred columns of as many rows as a file has at most: they would take 53 GB."""
+    rows = 2**20
+    column = Column.from_runs([rows], Column.of([7])).decode()
+    kept = Table({"a": column}).to_bytes(differences=True)
+    assert len(kept) < 200
+    table = Table({str(number): column for number in range(200)})
+    data = table.to_bytes(differences=True)
+    del table, column
+    before = resource.getrusage(resource.RUSAGE_SELF).ru_maxrss
+    with pytest.raises(errors.OverLimit, match=f"take {200 * 8 * rows} bytes in memory, above the limit of 1073741824"):
+        Table.from_bytes(data)
+    assert resource.getrusage(resource.RUSAGE_SELF).ru_maxrss - before < 64 * 1024
+    assert Table.from_bytes(kept, limit=8 * rows).rows == rows
+    for limit, kind in ((-1, ValueError), (2**64, OverflowError), ("1", TypeError), (1.5, TypeError)):
+        with pytest.raises(kind, match="the limit"):
+            Table.from_bytes(kept, limit=limit)
+
+
+def test_chunks_and_the_program_have_the_limit(tmp_path):
+    path = tmp_path / "kept.hv"
+    Table({"a": list(range(1000))}).save(path, differences=True)
+    command = [sys.executable, "-m", "hivevigil", str(path), "--to", str(tmp_path / "to.hv")]
+    env = {**os.environ, "PYTHONPATH": str(Path(__file__).parents[1])}
+    ended = subprocess.run([*command, "--limit", "7999"], capture_output=True, text=True, env=env)
+    assert ended.returncode == 1 and "take 8000 bytes in memory, above the limit of 7999" in ended.stderr
+    assert subprocess.run([*command, "--limit", "8000"], env=env).returncode == 0
+    pytest.importorskip("dask")
+    from hivevigil.dask import ChunkedColumn
+    from hivevigil.dask_tables import ChunkedTable
+
+    for chunks in (lambda limit: ChunkedTable.from_files([path], limit=limit)["a"],
+                   lambda limit: ChunkedTable.from_files([path], limit=limit).to_runs()["a"],
+                   lambda limit: ChunkedColumn.from_tables([path], "a", limit=limit),
+                   lambda limit: ChunkedColumn.from_tables([path], "a", ("a", ">=", 0), limit)):
+        assert chunks(8000).sum().compute(scheduler="sync") == 499_500
+        with pytest.raises(errors.OverLimit):
+            chunks(7999).sum().compute(scheduler="sync")
 
 
 # ---- What only a file says
@@ -201,8 +282,10 @@ def test_many_rows_in_few_runs(model):  # noqa: F811
         ([(1, half)], half, half, half, model.AS_RUNS), ([(1, half)], half, half, half, model.AS_FLAT),
         ([(7, 1), (0, half)], half + 1, 1, 7, model.AS_FLAT),
     ):  # fmt: skip
-        with pytest.raises(errors.BadMetadata):
+        with pytest.raises(errors.OverLimit, match="bytes in memory, above the limit of 1073741824"):
             Table.from_bytes(forged(model, steps, rows, runs, min(7, greatest), greatest, form))
+        with pytest.raises(errors.BadMetadata):
+            Table.from_bytes(forged(model, steps, rows, 7, min(7, greatest), greatest, form), limit=2**64 - 1)
 
 
 def test_how_many_there_may_be(model, monkeypatch):  # noqa: F811
@@ -237,7 +320,7 @@ def test_rows_that_the_type_does_not_have(model, kind, fits, past):  # noqa: F81
         data = forged(model, fits, len(rows), runs, min(rows), max(rows), model.AS_FLAT, kind)
         assert Table.from_bytes(data)["a"].to_list() == rows
     count = sum(rows for _, rows in past)
-    with pytest.raises(errors.BadMetadata):
+    with pytest.raises(errors.OverLimit if count > 2**60 else errors.BadMetadata):
         Table.from_bytes(forged(model, past, count, count, 0, 1, model.AS_FLAT, kind))
 
 
