@@ -10,7 +10,7 @@ from collections import Counter
 from collections.abc import Iterable, Iterator
 from concurrent.futures import ThreadPoolExecutor, as_completed
 from dataclasses import dataclass, field
-from itertools import repeat
+from itertools import chain, repeat
 from pathlib import Path
 from typing import Any
 
@@ -21,6 +21,8 @@ from proved_libraries import toolchain
 from wrong_bodies import Unfit, WrongBody
 
 PARTS = ("src", "specs", "proofs")
+# How many wrong bodies a check of a sample has at most.
+SAMPLED = 6
 # What is read of the lines of a check. A function's proof files are in the folder of its path.
 STATUS = re.compile(r"^fn (\w+)::([\w:+]+): (.*)$", re.M)
 UNPROVED = re.compile(r"`search` did not prove (.*)$")
@@ -286,30 +288,33 @@ class Clock:
             self.left += expected - used
 
 
-Try = tuple[Refusal | str, float]
+Try = tuple[WrongBody, Refusal | str, float]
 
 
-def try_in_time(prover: Prover, clock: Clock, wrong: WrongBody, line: Line | None) -> Try | None:
-    """What a try of a wrong body came to, and its seconds; None where no time is left or a library is not built."""
-    expected = max(30, 2 * line.seconds if line else 0)
-    if prover.lacks(wrong.crate().name) or not clock.takes(expected):
-        return None
-    _, found, seconds = next(try_batch(prover, batches([wrong], 1)[0]))
-    clock.correct(expected, seconds)
-    return found, seconds
+def try_in_time(prover: Prover, clock: Clock, batch: Batch, expected: float) -> list[Try]:
+    """What the prover says of each of a batch, and the seconds; nothing if no time is left or a library is lacking."""
+    if prover.lacks(batch.crate) or not clock.takes(expected):
+        return []
+    tries = list(try_batch(prover, batch))
+    clock.correct(expected, sum(seconds for _, _, seconds in tries))
+    return tries
 
 
 def sample(prover: Prover, wrongs: list[WrongBody], limit: float) -> int:
-    """Tries wrong bodies one by one, in their order, until the processor seconds are used; each has to be refused."""
+    """Tries wrong bodies in their order until the processor seconds are used; each has to be refused.
+
+    A check begins with the next one, and has others of its crate that come soon: functions below are proved once.
+    """
     clock, known, count = Clock(limit), ledger.kept_lines(), Counter()
+    found = batches(wrongs, SAMPLED)
+    lines = [[known[name] for name in map(ledger.name_of, batch.wrongs) if name in known] for batch in found]
+    expected = [30 + sum(line.seconds for line in each) for each in lines]
     with ThreadPoolExecutor(workers()) as pool:
-        lines = [known.get(ledger.name_of(wrong)) for wrong in wrongs]
-        tries = pool.map(try_in_time, repeat(prover), repeat(clock), wrongs, lines)
-        for wrong, done in zip(wrongs, tries):
-            if done:
-                print(told(wrong, *done), flush=True)
-                is_known = isinstance(done[0], Refusal) or not done[0].startswith("no verdict")
-                count["passed" if isinstance(done[0], Refusal) else "failed" if is_known else "skipped"] += 1
+        tries = pool.map(try_in_time, repeat(prover), repeat(clock), found, expected)
+        for wrong, said, seconds in chain.from_iterable(tries):
+            print(told(wrong, said, seconds), flush=True)
+            is_known = isinstance(said, Refusal) or not said.startswith("no verdict")
+            count["passed" if isinstance(said, Refusal) else "failed" if is_known else "skipped"] += 1
     if not count:
         print("skipped: the sample of wrong bodies, no library is built to try them over")
         count["skipped"] = 1

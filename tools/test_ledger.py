@@ -349,7 +349,12 @@ class TryTests(Tree):
         self.stand_in(mock.patch.object(ledger_tries, "workers", lambda: 1))
         run = ledger_tries.run
         self.stand_in(mock.patch.object(ledger_tries, "run", lambda *args: ledger_tries.Run(run(*args).text, 45)))
-        self.sampled(40)
+        with mock.patch.object(ledger_tries, "SAMPLED", 1):
+            self.sampled(40)
+        self.assertEqual(len(self.calls()), 1)
+
+    def test_a_check_of_a_sample_has_several_of_a_crate(self) -> None:
+        self.sampled(3600)
         self.assertEqual(len(self.calls()), 1)
 
     def test_a_sample_begins_with_what_is_stale(self) -> None:
