@@ -26,7 +26,7 @@ A line of crates/NAME/must-fail/ledger.md, indented by four spaces, has in this 
 A wrong body is refused where a goal of a function that it changes is, or of a caller that its page names by a line
 `by:`. An edit that the prover cannot read and a refusal without a goal do not count. What a callee promises is not in
 the hash: the sample, which comes to each in turn, is for that. tools/ledger_open.txt names the wrong bodies that have
-no line yet, as CRATE/NAME. It may only become shorter.
+no line yet, as CRATE/NAME: a look counts them as skipped. It may only become shorter.
 """
 
 import argparse
@@ -251,7 +251,9 @@ def look() -> int:
     told += [f"{name}: {'changed since it was tried' if name in known else 'was never tried'}" for name in stale]
     for fault in told:
         print(fault)
-    print(f"{len(all_of) - len(stale)} passed, {len(told)} failed")
+    untried = len(open_ones & set(names))
+    skipped = f", {untried} skipped" if untried else ""
+    print(f"{len(all_of) - len(stale) - untried} passed, {len(told)} failed{skipped}")
     return 1 if told or not all_of else 0
 
 
