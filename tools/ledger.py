@@ -5,6 +5,7 @@
     python3 tools/ledger.py try NAME ..          tries these (CRATE, CRATE/NAME, or `stale`) and writes their lines
     python3 tools/ledger.py sample MINUTES KEY   tries stale ones, then the others in the order that KEY (a commit)
                                                  gives, for that many processor minutes; fails if one is not refused
+    python3 tools/ledger.py open                 takes those that have a line by now out of tools/ledger_open.txt
 
 A try checks the functions that an edit changes, in a copy of the crate, over the libraries in crates/*/out/rlib of this
 clone or, by `--libraries CLONE`, of another. `try` puts edits of a crate into one check, one for each function and
@@ -30,6 +31,7 @@ no line yet, as CRATE/NAME: a look counts them as skipped. It may only become sh
 """
 
 import argparse
+import functools
 import hashlib
 import re
 import subprocess
@@ -42,8 +44,9 @@ import wrong_bodies
 from wrong_bodies import WrongBody
 
 OPEN = "tools/ledger_open.txt"
-# How many wrong bodies may be without a line. Lower it as they get theirs.
-MOST_OPEN = 901
+OPEN_HEAD = "# {number} wrong bodies have no verdict yet; `python3 tools/ledger.py open` takes out those that have one\n"
+# The pages that say how many have no verdict.
+SAID_IN = ("docs/PROVED.md", "docs/GATE.md")
 HEAD = """# Which goal refused each wrong body
 
 `python3 tools/ledger.py try {crate}` tries them and writes this page.
@@ -92,7 +95,8 @@ def line_of(text: str) -> Line | None:
 def owner_of(head: str) -> str:
     """The name by which the prover has the methods of an `impl`: of the type, followed by those of the trait if any.
 
-    The words of the trait's arguments follow too, but for parameters: `impl<A> Index<u8, A> for Bits` is `BitsIndexU8`.
+    The words of the trait's arguments follow too, but for parameters and the type itself: `impl<A> Index<u8, A> for
+    Bits` is `BitsIndexU8`.
     """
     text = head.split("{")[0].split("\n")[0].split(" where ")[0].removeprefix("unsafe ").removeprefix("impl")
     depth = end = 0
@@ -103,8 +107,8 @@ def owner_of(head: str) -> str:
                 break
     parameters = re.findall(r"(?:^<|, )(?:const )?('?\w+)", text[:end])
     trait, _, owner = text[end:].strip().rpartition(" for ")
-    words = [word for word in re.findall(r"'?\w+", trait) if word not in parameters and word[0] != "'"]
     name = re.split(r"[<({\[]", owner.strip("&").split("::")[-1])[0].split(" ")[-1]
+    words = [word for word in re.findall(r"'?\w+", trait) if word not in (*parameters, name) and word[0] != "'"]
     return "".join(word[0].upper() + word[1:] for word in (name, *words)) if trait else name
 
 
@@ -140,6 +144,24 @@ def places(wrong: WrongBody) -> list[tuple[Path, str]]:
     return found
 
 
+@functools.cache
+def homes(sources: Path, owner: str) -> list[Path]:
+    """The sources that declare a type."""
+    declared = re.compile(rf"^(?:pub(?:\([^)]*\))? )?(?:struct|enum) {owner}\b", re.M)
+    return [path for path in sorted(sources.rglob("*.rt")) if declared.search(wrong_bodies.read(path))]
+
+
+def at_home(wrong: WrongBody, found: Function) -> Function:
+    """A function by the path that the prover has for it: a type's own methods are in the module that declares it."""
+    *_, owner, name = ["", *found.path.split("::")]
+    of_type = homes(wrong.crate() / "src", owner) if owner[:1].isupper() else []
+    modules = [module_of(wrong, path) for path in of_type]
+    module = found.path.rpartition(f"{owner}::")[0].removesuffix("::")
+    if not modules or module in modules:
+        return found
+    return Function("::".join(filter(None, [modules[0], owner, name])), found.text)
+
+
 def functions_of(wrong: WrongBody) -> list[Function]:
     """The functions that an edit changes. What it changes outside of functions is a function without a path."""
     found = []
@@ -147,7 +169,8 @@ def functions_of(wrong: WrongBody) -> list[Function]:
         source = wrong_bodies.read(path)
         at = source.find(old)
         outside = Function("", source[source.rfind("\n\n", 0, at) + 1 : source.find("\n\n", at)])
-        found.append(function_at(module_of(wrong, path), source, at) or outside)
+        function = function_at(module_of(wrong, path), source, at)
+        found.append(at_home(wrong, function) if function else outside)
     return list(dict.fromkeys(each for each in found if each.path or not each.text.strip().startswith("use ")))
 
 
@@ -191,7 +214,7 @@ def ledger_of(crate: str) -> Path:
 def read(path: Path, indent: str = "    ") -> list[str]:
     """The indented lines of a file, without what they are indented by; none where the file is not there."""
     lines = path.read_text(encoding="utf-8").splitlines() if path.is_file() else []
-    return [line.removeprefix(indent) for line in lines if line.startswith(indent) and line]
+    return [line.removeprefix(indent) for line in lines if line.startswith(indent) and line and line[0] != "#"]
 
 
 def kept_lines() -> dict[str, Line]:
@@ -232,13 +255,32 @@ def faults_of_ledgers(names: list[str]) -> list[str]:
 
 
 def faults_of_open(names: list[str], known: dict[str, Line]) -> list[str]:
-    """What is wrong with the list of those that have no line yet."""
-    names_open = read(wrong_bodies.ROOT / OPEN, "")
+    """What is wrong with the list of those that have no line yet, and with the pages that say how many these are."""
+    path = wrong_bodies.ROOT / OPEN
+    names_open = read(path, "")
     found = [f"{name}: is in {OPEN}, and is no wrong body" for name in names_open if name not in names]
-    found += [f"{name}: has a line, so take it out of {OPEN}" for name in names_open if name in known]
-    if len(names_open) != MOST_OPEN:
-        found.append(f"{OPEN} has {len(names_open)} names, and MOST_OPEN is {MOST_OPEN}: it may only become shorter")
+    found += [f"{name}: has a line, so take it out of {OPEN}: open" for name in names_open if name in known]
+    head = path.read_text(encoding="utf-8").splitlines()[:1] if path.is_file() else []
+    most = int(re.sub(r"\D", "", head[0]) or 0) if head else 0
+    if len(names_open) > most:
+        found.append(f"{OPEN} has {len(names_open)} names, and {most} may be: it may only become shorter")
+    for page in SAID_IN if head else []:
+        said = re.findall(r"(\d+)\s+wrong\s+bodies\s+have\s+no\s+verdict", wrong_bodies.read(wrong_bodies.ROOT / page))
+        if said != [str(len(names_open))]:
+            found.append(f"{page}: does not say once that {len(names_open)} wrong bodies have no verdict")
     return found
+
+
+def write_open() -> int:
+    """Takes what has a line by now out of the list of those that have none, and out of the numbers that pages say."""
+    known, names, path = kept_lines(), [name_of(wrong) for wrong in every()], wrong_bodies.ROOT / OPEN
+    left = [name for name in read(path, "") if name in names and name not in known]
+    path.write_text(OPEN_HEAD.format(number=len(left)) + "".join(f"{name}\n" for name in left), encoding="utf-8")
+    for page in (wrong_bodies.ROOT / page for page in SAID_IN):
+        text = re.sub(r"\d+(\s+wrong\s+bodies\s+have\s+no\s+verdict)", rf"{len(left)}\1", wrong_bodies.read(page))
+        page.write_text(text, encoding="utf-8")
+    print(f"{len(left)} wrong bodies have no verdict yet")
+    return 0
 
 
 def look() -> int:
@@ -269,25 +311,22 @@ def chosen(words: list[str]) -> list[WrongBody]:
 
 
 def in_turn(key: str) -> list[WrongBody]:
-    """The wrong bodies of pages in the order in which a sample tries them: stale ones first, the others by the key.
-
-    Those that have no line yet are left to `try`.
-    """
-    known, open_ones = kept_lines(), read(wrong_bodies.ROOT / OPEN, "")
-    of_pages = [wrong for wrong in every() if wrong.page.suffix == ".md" and name_of(wrong) not in open_ones]
+    """All wrong bodies of pages in the order in which a sample tries them: stale ones first, the others by the key."""
+    known = kept_lines()
+    of_pages = [wrong for wrong in every() if wrong.page.suffix == ".md"]
     ranks = {name_of(wrong): hashlib.sha256(f"{key} {name_of(wrong)}".encode()).digest() for wrong in of_pages}
     return sorted(of_pages, key=lambda wrong: (not is_stale(wrong, known), ranks[name_of(wrong)]))
 
 
 def main() -> int:
     parser = argparse.ArgumentParser(description="The ledger of wrong bodies.")
-    parser.add_argument("words", nargs="*", metavar="try NAME .. | sample MINUTES KEY")
+    parser.add_argument("words", nargs="*", metavar="try NAME .. | sample MINUTES KEY | open")
     parser.add_argument("--libraries", type=Path, default=wrong_bodies.ROOT, metavar="CLONE")
     parser.add_argument("--most", type=int, default=8, metavar="N")
     options = parser.parse_args()
     words = options.words
-    if not words:
-        return look()
+    if words in ([], ["open"]):
+        return write_open() if words else look()
     import ledger_tries
 
     prover = ledger_tries.Prover(options.libraries.resolve())
@@ -295,7 +334,7 @@ def main() -> int:
         return ledger_tries.try_all(prover, found, options.most)
     if words[0] == "sample" and len(words) == 3 and words[1].isdigit():
         return ledger_tries.sample(prover, in_turn(words[2]), 60 * int(words[1]))
-    parser.error("the words are: try NAME .. (a crate, CRATE/NAME or stale), or sample MINUTES KEY")
+    parser.error("the words are: try NAME .. (a crate, CRATE/NAME or stale), sample MINUTES KEY, or open")
 
 
 if __name__ == "__main__":
