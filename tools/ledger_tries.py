@@ -301,8 +301,9 @@ def try_in_time(prover: Prover, clock: Clock, batch: Batch, expected: float) -> 
 
 
 def sample(prover: Prover, wrongs: list[WrongBody], limit: float) -> int:
-    """Tries wrong bodies in their order until the processor seconds are used; each has to be refused.
+    """Tries wrong bodies in their order until the processor seconds are used; each that was refused before has to be.
 
+    One without a line that is not refused is told and counted as skipped: it is in the list of those without a verdict.
     A check begins with the next one, and has others of its crate that come soon: functions below are proved once.
     """
     clock, known, count = Clock(limit), ledger.kept_lines(), Counter()
@@ -313,8 +314,8 @@ def sample(prover: Prover, wrongs: list[WrongBody], limit: float) -> int:
         tries = pool.map(try_in_time, repeat(prover), repeat(clock), found, expected)
         for wrong, said, seconds in chain.from_iterable(tries):
             print(told(wrong, said, seconds), flush=True)
-            is_known = isinstance(said, Refusal) or not said.startswith("no verdict")
-            count["passed" if isinstance(said, Refusal) else "failed" if is_known else "skipped"] += 1
+            has_failed = ledger.name_of(wrong) in known and not str(said).startswith("no verdict")
+            count["passed" if isinstance(said, Refusal) else "failed" if has_failed else "skipped"] += 1
     if not count:
         print("skipped: the sample of wrong bodies, no library is built to try them over")
         count["skipped"] = 1
