@@ -198,7 +198,8 @@ static bool is_refused_table(const uint8_t *bytes, size_t size) {
         make_times(&kept);
         return false;
     }
-    CHECK((answer == HV_BAD_METADATA || answer == HV_UNSUPPORTED) && !error.first && !error.second && !error.third);
+    CHECK((answer == HV_BAD_METADATA || answer == HV_UNSUPPORTED) && !error.first && !error.second);
+    CHECK(error.third == (answer == HV_UNSUPPORTED ? HV_TABLE_WITH_ZERO_BYTE : 0));
     with_zeros += answer == HV_UNSUPPORTED;
     CHECK(kept.columns == columns && kept.count == 1 && kept.rows == 6);
     return true;
