@@ -218,7 +218,7 @@ static void check_constants(void) {
     hv_free(&counts);
 }
 
-/* 23 for a type that is not one of integers, then 22 for no column, then 13 for a column of another type. */
+/* 23 for a type that is not one of integers, and for decimals of no digit or more than 38, then 22 for no column, then 13 for a column of another type. */
 static void check_refusals(void) {
     const int64_t numbers[2] = {4, 5};
     const uint8_t truths[1] = {1};
@@ -231,6 +231,15 @@ static void check_refusals(void) {
     CHECK(hv_decimal_to_integers(&none, HV_I64, &out, &error) == HV_NO_COLUMN);
     for (int to = HV_BOOL; to < 256; to++)
         CHECK(hv_decimal_to_integers(&none, (uint8_t)to, &out, &error) == HV_BAD_NUMBER);
+    for (int precision = 0; precision < 256; precision++) { /* decimals have 1 to 38 digits */
+        const bool is_one = precision >= 1 && precision <= 38;
+        FILL(error);
+        const int32_t answer = hv_decimal_cast(&integers, (uint8_t)precision, 0, &out, &error);
+        CHECK(answer == (is_one ? HV_OK : HV_BAD_NUMBER));
+        CHECK(hv_kind_of(&out).precision == precision || !is_one);
+        if (is_one) hv_free(&out);
+        CHECK(!out.at);
+    }
     CHECK(hv_form(&out) == HV_FORM_NONE);
     hv_free(&integers);
     hv_free(&flags);
