@@ -2,14 +2,13 @@
 and reads by docs/table.proto, and each column comes back in its form, byte for byte."""
 import os
 import random
-import resource
 import subprocess
 import sys
 import tempfile
 from pathlib import Path
 
 import pytest
-from hivevigil import Column, Table, _differences, errors
+from hivevigil import Column, Table, _differences, _table_files, errors
 from hypothesis import given
 from hypothesis import strategies as st
 from rows import BITS, least_and_greatest, samples
@@ -213,23 +212,20 @@ def test_a_limit_of_what_is_read(table, data):
                         Table.from_bytes(path.read_bytes(), limit=limit)
 
 
-def test_few_bytes_take_no_memory_before_they_are_refused():
-    """A hundred columns of as many rows as a file has at most: they would take 53 GB."""
-    rows = 2**20
+def test_no_column_is_read_of_a_file_over_the_limit(monkeypatch):
+    """A few bytes for each of some columns, of which none is made before the file is refused."""
+    rows = 2**12
     column = Column.from_runs([rows], Column.of([7])).decode()
-    kept = Table({"a": column}).to_bytes(differences=True)
-    assert len(kept) < 200
-    table = Table({str(number): column for number in range(200)})
-    data = table.to_bytes(differences=True)
-    del table, column
-    before = resource.getrusage(resource.RUSAGE_SELF).ru_maxrss
-    with pytest.raises(errors.OverLimit, match=f"take {200 * 8 * rows} bytes in memory, above the limit of 1073741824"):
-        Table.from_bytes(data)
-    assert resource.getrusage(resource.RUSAGE_SELF).ru_maxrss - before < 64 * 1024
-    assert Table.from_bytes(kept, limit=8 * rows).rows == rows
+    data = Table({str(number): column for number in range(9)}).to_bytes(differences=True)
+    assert len(data) < 1200
+    with monkeypatch.context() as patched:
+        patched.setattr(_table_files.TableFile, "column", lambda *_: pytest.fail("a column is read"))
+        with pytest.raises(errors.OverLimit, match=f"take {9 * 8 * rows} bytes in memory, above the limit of {2**18}"):
+            Table.from_bytes(data, limit=2**18)
+    assert Table.from_bytes(data, limit=9 * 8 * rows).rows == rows
     for limit, kind in ((-1, ValueError), (2**64, OverflowError), ("1", TypeError), (1.5, TypeError)):
         with pytest.raises(kind, match="the limit"):
-            Table.from_bytes(kept, limit=limit)
+            Table.from_bytes(data, limit=limit)
 
 
 def test_chunks_and_the_program_have_the_limit(tmp_path):
