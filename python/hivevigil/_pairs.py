@@ -99,7 +99,7 @@ def worked(column: Any, sign: str, other: Any, is_left: bool = True) -> Column:
     if is_of_floats and sign in _float_pairs.NUMBERS and _float_pairs.are_numbers(left, right):
         return _float_pairs.worked(left, sign, right)
     if is_of_floats and (sign != "coalesce" or left._logical != right._logical):  # keys of floats are not integers
-        raise TypeMismatch().saying(f"{_type_of(left)} and {_type_of(right)} are not {done}")
+        raise TypeMismatch().saying(_not_done(left, sign, right))
     _refuse_other_times(left, right, sign)
     if sign not in ("*", "&", "|"):
         left, right = _decimals.together(left, right, sign)
@@ -113,8 +113,13 @@ def worked(column: Any, sign: str, other: Any, is_left: bool = True) -> Column:
         said = f"row {row} is {left.at(row)} {sign} {right.at(row)}, which does not fit {_type_of(left)}"
         raise past.saying(said) from None
     except (TypeMismatch, Unsupported) as refused:
-        hint = f": comparisons are put in parentheses, as (column > 1) {sign} (column < 5)" if sign in "&|" else ""
-        raise refused.saying(f"{_type_of(left)} and {_type_of(right)} are not {done}{hint}") from None
+        raise refused.saying(_not_done(left, sign, right)) from None
+
+
+def _not_done(left: Any, sign: str, right: Any) -> str:
+    """The sentence that two columns are not worked; & and | are taken before comparisons."""
+    hint = f": comparisons are put in parentheses, as (column > 1) {sign} (column < 5)" if sign in "&|" else ""
+    return f"{_type_of(left)} and {_type_of(right)} are not {SIGNS[sign][1]}{hint}"
 
 
 def _refuse_other_times(left: Any, right: Any, sign: str) -> None:

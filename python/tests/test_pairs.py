@@ -255,7 +255,8 @@ def test_constants_of_many_rows():
     [
         (lambda one: one + Column.of([1, 2, 3], "i8"), errors.TypeMismatch, "i64 and i8 are not added"),
         (lambda one: one - Column.of(["a"] * 3), errors.Unsupported, "i64 and utf8 are not subtracted"),
-        (lambda one: one & one, errors.Unsupported, "i64 and i64 are not connected"),
+        (lambda one: one & one, errors.Unsupported,
+         "i64 and i64 are not connected: comparisons are put in parentheses, as (column > 1) & (column < 5)"),
         (lambda one: one | True, TypeError, "a value of type i64 is an integer, not True"),
         (lambda one: Column.of(["a"]).coalesce("b"), errors.Unsupported, "utf8 and utf8 are not picked from"),
         (lambda one: ~one, errors.Unsupported, "~ is of booleans, not of i64"),
@@ -275,7 +276,8 @@ def test_constants_of_many_rows():
         (lambda one: one.shift(1.5), TypeError, "the number of rows is an integer, not 1.5"),
         (lambda one: one.equals(5), TypeError, "a Column is expected here, not 5"),
         (lambda one: bool(one == one), ValueError,
-         "a mask is not true or false: ask mask.any(), mask.all() or len(mask), and a.equals(b)"),
+         "a mask is not true or false: ask mask.any(), mask.all() or len(mask), and a.equals(b); two conditions are "
+         "(a > 1) & (a < 5)"),
     ],
 )
 def test_refusals(call, kind, said):

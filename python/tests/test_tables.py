@@ -330,7 +330,7 @@ T = Table({"a": [1, 2, None], "b": ["x", "y", "z"]}, {"a": "tiM"})
         (lambda: T.group_by("b").agg(c=("a", "median")), TypeError,
          "agg: 'c' is asked by 'size', or a column and one of sum, mean, size, count, min, max, first, last, not by ('a', "),
         (lambda: T.group_by("b").agg(c=("d", "min")), KeyError, "no column has the name 'd': the names are 'a', 'b'"),
-        (lambda: T.group_by("a").agg(c=("b", "sum")), errors.Unsupported, "column 'b': fold_by does not serve columns"),
+        (lambda: T.group_by("a").agg(c=("b", "sum")), errors.Unsupported, "column 'b': sum: rows of type utf8 have no sum; ask min"),
         (lambda: T.equals(3), TypeError, "a table is compared with a Table, not with 3"),
     ],
 )  # fmt: skip
