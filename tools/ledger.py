@@ -4,7 +4,8 @@
     python3 tools/ledger.py                      looks: each has a line, none is stale; ends in 'N passed, M failed'
     python3 tools/ledger.py try NAME ..          tries these (CRATE, CRATE/NAME, or `stale`) and writes their lines
     python3 tools/ledger.py sample MINUTES KEY   tries stale ones, then the others in the order that KEY (a commit)
-                                                 gives, for that many processor minutes; fails if one is not refused
+                                                 gives, for that many processor minutes; fails if one with a line is
+                                                 not refused any more
     python3 tools/ledger.py open                 takes those that have a line by now out of tools/ledger_open.txt
 
 A try checks the functions that an edit changes, in a copy of the crate, over the libraries in crates/*/out/rlib of this

@@ -301,9 +301,8 @@ def try_in_time(prover: Prover, clock: Clock, batch: Batch, expected: float) -> 
 
 
 def sample(prover: Prover, wrongs: list[WrongBody], limit: float) -> int:
-    """Tries wrong bodies in their order until the processor seconds are used; each that was refused before has to be.
+    """Tries wrong bodies in their order until the processor seconds are used; each has to be refused that once was.
 
-    One without a line that is not refused is told and counted as skipped: it is in the list of those without a verdict.
     A check begins with the next one, and has others of its crate that come soon: functions below are proved once.
     """
     clock, known, count = Clock(limit), ledger.kept_lines(), Counter()
@@ -314,8 +313,8 @@ def sample(prover: Prover, wrongs: list[WrongBody], limit: float) -> int:
         tries = pool.map(try_in_time, repeat(prover), repeat(clock), found, expected)
         for wrong, said, seconds in chain.from_iterable(tries):
             print(told(wrong, said, seconds), flush=True)
-            has_failed = ledger.name_of(wrong) in known and not str(said).startswith("no verdict")
-            count["passed" if isinstance(said, Refusal) else "failed" if has_failed else "skipped"] += 1
+            is_open = ledger.name_of(wrong) not in known or str(said).startswith("no verdict")
+            count["passed" if isinstance(said, Refusal) else "skipped" if is_open else "failed"] += 1
     if not count:
         print("skipped: the sample of wrong bodies, no library is built to try them over")
         count["skipped"] = 1

@@ -370,17 +370,18 @@ class TryTests(Tree):
         self.assertEqual([len(batch.wrongs) for batch in batches([first, first], 8)], [1, 1])
         self.assertEqual([len(batch.wrongs) for batch in batches(ledger.every(), 1)], [1, 1])
 
-    def test_a_sample_writes_nothing_and_fails_on_what_was_refused_and_is_proved(self) -> None:
+    def test_a_sample_fails_on_what_is_proved(self) -> None:
         self.write_true_lines()
         before = self.lines()
         status, lines = self.sampled(3600)
         self.assertEqual((status, lines[-1]), (1, "1 passed, 1 failed, 0 skipped"))
         self.assertEqual(self.lines(), before)
 
-    def test_what_has_no_line_and_is_proved_is_told_and_skipped(self) -> None:
+    def test_a_sample_says_what_is_proved_and_had_no_line(self) -> None:
         status, lines = self.sampled(3600)
-        self.assertIn("low/the-second-is-first: NOT refused: Bits::first proved in spite of it; 0 s", lines)
         self.assertEqual((status, lines[-1]), (0, "1 passed, 0 failed, 1 skipped"))
+        self.assertIn("low/the-second-is-first: NOT refused: Bits::first proved in spite of it; 0 s", lines)
+        self.assertFalse((self.root / "crates/low/must-fail/ledger.md").exists())
 
     def test_a_sample_ends_with_its_time(self) -> None:
         self.stand_in(mock.patch.object(ledger_tries, "workers", lambda: 1))
