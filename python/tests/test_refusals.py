@@ -244,7 +244,7 @@ ARGUMENTS = {
     **{name: (1,) for name in ("eq", "ne", "gt", "ge", "lt", "le", "__lt__", "__le__", "__gt__", "__ge__")},
     **{name: (1,) for name in ("__eq__", "__ne__", "__contains__")},
 }
-STAY = {"free", "freed", "__repr__", "__exit__", "__del__", "_repr_html_", "__hash__", "__sizeof__"}
+STAY = {"free", "freed", "__repr__", "__exit__", "__del__", "_repr_html_", "__hash__", "__sizeof__", "__getattr__"}
 MAKERS = {
     "of", "constant", "from_buffer", "from_lists", "from_runs", "from_record", "from_bytes", "from_arrow",
     "from_arrow_structs", "load", "is_message",

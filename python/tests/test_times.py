@@ -306,7 +306,8 @@ def test_columns_of_two_units_are_not_compared():
     assert utc.eq(Column.of([NOON.replace(tzinfo=timezone.utc).astimezone(BERLIN)])).to_list() == [True]
     with pytest.raises(TypeMismatch):
         utc.eq(micros)
-    for call in (lambda: concat([seconds, micros]), lambda: concat([micros, micros.storage()])):
+    assert concat([seconds, micros]).equals(concat([micros, micros]))
+    for call in (lambda: concat([utc, micros]), lambda: concat([micros, micros.storage()])):
         with pytest.raises(TypeMismatch, match="concat: .* are two types"):
             call()
 
