@@ -366,7 +366,7 @@ fi
 sqlite_parts="$(echo examples/sqlite/functions.c examples/sqlite/pairs.c examples/sqlite/appends.c examples/sqlite/steps.c \
     examples/sqlite/*_table.c examples/engines/*.c)"
 with_sqlite() {
-    $cc $c_flags -Iexamples/c -DSQLITE_CORE $2 "examples/sqlite/$1.c" $sqlite_parts lib/libhivevigil.a -lsqlite3 \
+    $cc $c_flags -Iexamples/c -DSQLITE_CORE $2 "examples/sqlite/$1.c" $sqlite_parts lib/libhivevigil.a -lsqlite3 -lm \
         -o "$work/program" && timeout 200 "$work/program"
 }
 sqlite_loaded() {

@@ -40,9 +40,9 @@ static void print_written(const hv_table *table, uint8_t differences) {
 static void answer(const uint8_t *bytes, size_t len) {
     hv_table table = HV_TABLE_EMPTY;
     hv_error error;
-    const int32_t read = hv_table_from_bytes(bytes, len, &table, &error);
+    const int32_t read = hv_table_from_bytes_within(bytes, len, UINT64_MAX, &table, &error);
     if (read != HV_OK) {
-        if (read != HV_UNSUPPORTED) expect(read, HV_BAD_METADATA, "hv_table_from_bytes");
+        if (read != HV_UNSUPPORTED) expect(read, HV_BAD_METADATA, "hv_table_from_bytes_within");
         puts(read == HV_UNSUPPORTED ? "zero" : "refused");
         return;
     }

@@ -13,6 +13,6 @@ echo '{ global: sqlite3_hivevigilsqlite_init; local: *; };' >"$work/exports"
 ${CC:-cc} -std=c11 -O2 -Wall -Wextra -Werror -shared -fPIC -Iinclude examples/sqlite/functions.c \
     examples/sqlite/pairs.c examples/sqlite/appends.c examples/sqlite/steps.c examples/sqlite/*_table.c \
     examples/engines/*.c lib/libhivevigil.a \
-    -Wl,--version-script="$work/exports" -Wl,--no-undefined -o "$work/hivevigil_sqlite.so"
+    -Wl,--version-script="$work/exports" -Wl,--no-undefined -lm -o "$work/hivevigil_sqlite.so"
 mv "$work/hivevigil_sqlite.so" "$folder/"
 ls -l "$folder/hivevigil_sqlite.so"
