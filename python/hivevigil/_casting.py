@@ -48,7 +48,7 @@ def recounted(
         raise TypeError(f"{call}: only floats are rounded")
     if before is not None and TYPES[kind.number] not in WHOLE_NUMBERS:
         how = "Column.of([str(row) for row in column]) has their texts, and column.storage() their integers"
-        raise TypeMismatch().saying(f"{call}: {before} is not cast to {TYPES[kind.number]}: {how}")
+        raise Unsupported().saying(f"{call}: {before} is not cast to {TYPES[kind.number]}: {how}")
     if before is None or logical is None or (before.sort, before.unit) == (logical.sort, logical.unit):
         if before is not None and logical is not None:
             _checked_kinds(before, logical, call)

@@ -68,8 +68,10 @@ def flat_nbytes(column: Column) -> int:
     rows, name = column._length, TYPES[column._kind.number]
     bits = -(-rows // 8)
     if name in ("utf8", "binary"):
-        parts = ((stop - start, value) for start, stop, value in column.runs() if value)
-        size = 24 * rows + sum(count * len(value.encode() if isinstance(value, str) else value) for count, value in parts)
+        size = 24 * rows
+        for start, stop, value in column.runs():
+            data = value.encode() if isinstance(value, str) else value
+            size += (stop - start) * len(data) if isinstance(data, bytes) else 0
     else:
         size = bits if name == "bool" else rows * WIDTHS[name]
     return size + bits * (column.null_count > 0)

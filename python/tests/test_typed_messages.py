@@ -322,7 +322,7 @@ def test_what_is_asked_of_types_that_rows_are_not_read_as():
     assert (months.sum(), months.max(), months.eq(7).to_list(), months.to_runs().run_count()) == (7, 7, [True, None], 2)
     assert (7 in months, months.fill(0).to_list(), months.fill(0).logical_type.format) == (True, [7, 0], "tiM")
     assert concat([months, months]).to_bytes() == message_of("tiM", concat([numbers, numbers]).to_bytes())
-    with pytest.raises(errors.TypeMismatch, match="^concat: tiM and i32 are two types"):
+    with pytest.raises(errors.TypeMismatch, match=r"^concat: i32 tiM \(column 0\) and i32 \(column 1\) are two types"):
         concat([months, numbers])
     assert months.cast("date?").to_list() == [date(1970, 1, 8), None] and months.cast("i64?").logical_type is None
     assert months.to_numpy().tolist() == [7, None] and months.to_pandas().tolist()[0] == 7
