@@ -26,6 +26,8 @@ SAMPLED = 6
 # What is read of the lines of a check. A function's proof files are in the folder of its path.
 STATUS = re.compile(r"^fn (\w+)::([\w:+]+): (.*)$", re.M)
 UNPROVED = re.compile(r"`search` did not prove (.*)$")
+# A goal that neither a written answer nor the search proves, of a function that has written answers.
+UNANSWERED = re.compile(r"^note: (?:\./)?(src/\S+?):(\d+):\d+: it is not proved that .*?\(`([\w/+.-]+)`\)", re.M)
 FALSE = re.compile(r"^note: `([\w/+.-]+)` of proofs/(\S+)/\w+\.antt may be false", re.M)
 ABSENT = r"is not in scope|has no field|was not admitted"
 WRITTEN = re.compile(rf"^(?:\./)?proofs/(\S+)/\w+\.antt:\d+:\d+: error: `([\w/+.-]+)`: (?!.*(?:{ABSENT}))", re.M)
@@ -147,11 +149,34 @@ def is_of(function: str, names: list[str]) -> bool:
     return any(path == name or not name or path.startswith(f"{name}::") for name in names)
 
 
-def refusal(text: str, crate: str, names: list[str]) -> Refusal | None:
+def function_of_line(batch: Batch, file: str, line: int) -> str | None:
+    """The function at a line of a source as a batch edits it, by its path below the crate."""
+    wrong = batch.wrongs[0]
+    path = wrong.crate() / file
+    source = batch.texts.get(path) or wrong_bodies.read(path)
+    place = sum(map(len, source.splitlines(keepends=True)[: line - 1]))
+    function = ledger.function_at(ledger.module_of(wrong, path), source, place)
+    return ledger.at_home(wrong, function).path if function else None
+
+
+def unanswered(text: str, batch: Batch) -> list[Refusal]:
+    """The goals without an answer that a check names by their places in the edited sources."""
+    found = [(function_of_line(batch, file, int(line)), label) for file, line, label in UNANSWERED.findall(text)]
+    return [Refusal(function, label, "goal") for function, label in found if function]
+
+
+def unread(text: str, batch: Batch) -> list[WrongBody]:
+    """The wrong bodies of a batch whose functions have lines that the prover cannot read."""
+    lines = re.findall(r"^(?:\./)?(src/\S+?):(\d+):\d+: error\[", text, re.M)
+    functions = [function_of_line(batch, file, int(line)) for file, line in lines]
+    return [wrong for wrong in batch.wrongs if any(each and is_of(each, asked(wrong)) for each in functions)]
+
+
+def refusal(text: str, crate: str, names: list[str], others: Iterable[Refusal] = ()) -> Refusal | None:
     """The goal at which a check refused one of these functions; one with a counterexample first."""
     false = {(path.replace("/", "::"), label) for label, path in FALSE.findall(text)}
     written = [(path.replace("/", "::"), label) for path, label in WRITTEN.findall(text)]
-    found = []
+    found = [each for each in others if is_of(each.function, names)]
     for library, function, status in STATUS.findall(text):
         if library != crate or not is_of(function, names) or status.startswith(PROVED):
             continue
@@ -168,13 +193,13 @@ def is_proved(text: str, crate: str, names: list[str]) -> bool:
     return bool(found) and all(status.startswith(PROVED) for status in found)
 
 
-def outcome(wrong: WrongBody, ran: Run) -> Refusal | str:
+def outcome(wrong: WrongBody, ran: Run, others: Iterable[Refusal] = ()) -> Refusal | str:
     """What a check of this wrong body, or of a batch that could be read, says of it: its refusal, or else why not."""
     crate, names = wrong.crate().name, asked(wrong)
     if wanted := wrong.value("prints"):
         named = re.search(r"\[([\w-]+)\]", wanted)
         return Refusal(names[0], named[1] if named else "error", "text") if wanted in ran.text else "NOT refused so"
-    if found := refusal(ran.text, crate, names):
+    if found := refusal(ran.text, crate, names, others):
         return found
     if no_name := NO_NAME.search(ran.text):
         return f"NOT tried: {no_name[0]}"
@@ -208,12 +233,16 @@ def try_batch(prover: Prover, batch: Batch) -> Iterator[tuple[WrongBody, Refusal
     """What the prover says of each of a batch, and the processor seconds: one by one where it cannot read them all."""
     functions = list(dict.fromkeys(name for wrong in batch.wrongs for name in asked(wrong)))
     ran = prover.check(batch.crate, batch.texts, functions)
-    is_whole = len(batch.wrongs) == 1 or is_read(ran)
+    if len(batch.wrongs) > 1 and not is_read(ran):
+        bad = unread(ran.text, batch)
+        rest = [wrong for wrong in batch.wrongs if wrong not in bad]
+        for each in [*batches(bad or rest, 1), *(batches(rest, len(rest)) if bad and rest else [])]:
+            yield from try_batch(prover, each)
+        return
+    others = unanswered(ran.text, batch)
     for wrong in batch.wrongs:
-        found = outcome(wrong, ran) if is_whole else ""
-        if not is_whole:
-            yield from try_batch(prover, batches([wrong], 1)[0])
-        elif isinstance(found, str) and BY_NAMES in found:
+        found = outcome(wrong, ran, others)
+        if isinstance(found, str) and BY_NAMES in found:
             yield try_bare(prover, wrong, ran.seconds / len(batch.wrongs))
         else:
             yield wrong, found, ran.seconds / len(batch.wrongs)

@@ -341,13 +341,13 @@ class TryTests(Tree):
         self.assertEqual(self.lines(), [f"two-are-added {mark} kit-9 next returns false 0"])
         self.assertEqual((self.root / "crates/low/src/lib.rt").read_text(encoding="utf-8"), SOURCE)
 
-    def test_where_one_cannot_be_read_each_is_tried_by_itself(self) -> None:
+    def test_one_that_cannot_be_read_is_tried_by_itself(self) -> None:
         page = self.root / "crates/low/must-fail/by-hand.md"
         page.write_text(page.read_text(encoding="utf-8").replace("self.bits[1]", "self.third"), encoding="utf-8")
         _, lines = self.tried()
         self.assertEqual(len(self.calls()), 3)
         self.assertIn("low/two-are-added: refused by returns of next, false; 0 s", lines)
-        self.assertIn("low/the-second-is-first: NOT tried: src/lib.rt:20:9: error[no-such-field]", lines[1])
+        self.assertIn("low/the-second-is-first: NOT tried: src/lib.rt:20:9: error[no-such-field]", lines[0])
 
     def test_where_only_names_of_a_proof_do_not_fit_a_counterexample_is_sought_without_it(self) -> None:
         page = self.root / "crates/low/must-fail/by-hand.md"
@@ -356,6 +356,12 @@ class TryTests(Tree):
         _, lines = self.tried()
         self.assertEqual(len(self.calls()), 2)
         self.assertIn("low/the-second-is-first: refused by bounds-other of Bits::first, false; 0 s", lines)
+
+    def test_a_goal_without_an_answer_is_of_the_function_of_its_place(self) -> None:
+        batch = batches(ledger.every(), 8)[0]
+        line = SOURCE[: SOURCE.find("self.bits[0]")].count("\n") + 1
+        text = f"note: src/lib.rt:{line}:9: it is not proved that the index is below the length (`bounds-self-bits`)"
+        self.assertEqual(ledger_tries.unanswered(text, batch), [Refusal("Bits::first", "bounds-self-bits", "goal")])
 
     def test_a_page_may_name_the_caller_that_refuses(self) -> None:
         page = self.root / "crates/low/must-fail/by-hand.md"
