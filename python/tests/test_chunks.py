@@ -2,6 +2,7 @@
 import functools
 import math
 import pickle
+import re
 import struct
 from concurrent.futures import ProcessPoolExecutor
 from decimal import Decimal
@@ -29,11 +30,20 @@ def key(row):
     return (row is not None, row if row is not None else 0)
 
 
+def summed(present, name):
+    """The numbers that are added: integers, and decimals in units of their least place; None of other types."""
+    if name.startswith("decimal"):
+        unit = Fraction(10) ** int(re.search(r", (-?\d+)\)", name)[1])
+        return [int(Fraction(row) * unit) for row in present]
+    return present if name in BITS else None
+
+
 def known(rows, name):
     """What a Partial has to know, from the rows as a list."""
     present = [row for row in rows if row is not None]
     runs = runs_of(rows)
-    ways = list(accumulate(present, initial=0)) if name in BITS else None
+    numbers = summed(present, name)
+    ways = None if numbers is None else list(accumulate(numbers, initial=0))
     ordered = [key(row) for row in rows]
     return {
         "rows": len(rows), "null_count": rows.count(None), "runs": len(runs), "count": len(present),
