@@ -150,7 +150,7 @@ class Groups:
         """Those of a table, by equal neighbouring rows of the column of a name."""
         columns = list(dict.fromkeys(column for column, _ in map(parts_of, asked, asked.values()) if column is not None))
         used = table.select(*dict.fromkeys([name, *columns]))
-        sources = {column: ((name_of(rows), ""),) for column, rows in used.items()}
+        sources: dict[str, Sources] = {column: ((name_of(rows), ""),) for column, rows in used.items()}
         for column in used:
             if _says_nothing(sources[column]):
                 used = used.with_column(column, Column.constant(None, used.rows, "i64?"))
