@@ -336,8 +336,8 @@ def sample(prover: Prover, wrongs: list[WrongBody], limit: float) -> int:
     """
     clock, known, count = Clock(limit), ledger.kept_lines(), Counter()
     found = batches(wrongs, SAMPLED)
-    lines = [[known[name] for name in map(ledger.name_of, batch.wrongs) if name in known] for batch in found]
-    expected = [30 + sum(line.seconds for line in each) for each in lines]
+    lines = [[known.get(ledger.name_of(wrong)) for wrong in batch.wrongs] for batch in found]
+    expected = [30 + sum(line.seconds if line else 30 for line in each) for each in lines]
     with ThreadPoolExecutor(workers()) as pool:
         tries = pool.map(try_in_time, repeat(prover), repeat(clock), found, expected)
         for wrong, said, seconds in chain.from_iterable(tries):
