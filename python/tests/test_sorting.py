@@ -81,7 +81,10 @@ def test_long_runs(drawn, flags, data):
         due = in_order(rows, keys, flags, "first")
         found = table.sort([f"column {at}" for at in keys], flags[: len(keys)])
         assert found.to_dict() == of_lines(list(columns), due)
-        assert all(column.form == "runs" and column.run_count() == len(runs_of(column.to_list())) for column in found.values())
+        # one run that is taken whole is a constant, and rows that are in order stay in the runs that they have
+        for name, column in found.items():
+            is_same = column.run_count() == table[name].run_count()
+            assert column.form != "flat" and (is_same or column.run_count() == len(runs_of(column.to_list())))
 
 
 def test_equal_rows_stay_in_their_order():
