@@ -1,5 +1,6 @@
 """What NumPy's functions give of columns. Those of Python's operators are the operators of columns, on whichever side a
-number of NumPy is; the others are worked on arrays, as NumPy has them."""
+number of NumPy is; the others are worked on arrays, as NumPy has them. Those of numpy.ma, which are the operators of a
+masked array on the left, do not ask a column: they take its rows without what is null, and are refused."""
 from __future__ import annotations
 
 from typing import Any
@@ -54,3 +55,9 @@ def _of_two(name: str, left: Any, right: Any) -> Any:
         return _pairs.worked(column, _WORKED[name], other, is_left)
     sign = _COMPARED[name]
     return column.compare(sign if is_left else _TURNED.get(sign, sign), other)
+
+
+def refused_as_masked() -> TypeError:
+    """What says that numpy.ma, which asks each operand for its `_data` and its mask, is given none of a column."""
+    hint = "Column.of(..) makes one of a masked array, and column.to_numpy() is an array for numpy.ma"
+    return TypeError(f"a column is worked and compared with a column or one value: {hint}")

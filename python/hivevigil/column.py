@@ -115,6 +115,8 @@ class Column(_comparing.Comparisons, _pairs.Pairs, _ufuncs.Ufuncs):
     if not TYPE_CHECKING:  # which would take any name for one of a column
 
         def __getattr__(self, name: str) -> Any:
+            if name == "_data":
+                raise _ufuncs.refused_as_masked()
             raise _other_names.refused(self, name, _other_names.OF_COLUMNS)
 
     # ---- Making ----

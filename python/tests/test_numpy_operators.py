@@ -121,6 +121,54 @@ def test_arrays_are_refused_on_either_side(name):
                     work(*two)
 
 
+MASKED = [
+    numpy.ma.array([1, 2], mask=[False, True]), numpy.ma.array([1, 2], "uint8"), numpy.ma.array([1.5, 2]),
+    numpy.ma.array([True, False]), numpy.ma.array([1, 2], object),
+]
+
+
+@pytest.mark.parametrize("array", MASKED, ids=repr)
+@pytest.mark.parametrize("rows", [[1, None], [1.5, None], [True, None], [Decimal("1.5"), None], [1, 2]])
+def test_masked_arrays_on_the_left_are_refused(array, rows):
+    """NumPy would take the rows without their nulls."""
+    column, in_place = Column.of(rows), (operator.iadd, operator.isub, operator.imul, operator.itruediv)
+    for work in (*WORKED.values(), *COMPARED.values(), operator.and_, operator.or_, operator.truediv, *in_place):
+        before = repr(array)
+        with pytest.raises(TypeError, match=r"a column is (worked and |)(compared|worked) with a column or one value"):
+            work(array, column)
+        assert repr(array) == before
+    for work in NOT_SERVED.values():
+        with pytest.raises(TypeError):
+            work(array, column)
+
+
+def test_masked_values():
+    """One on the left is refused as an array is, but for & and |, which NumPy asks a column for."""
+    for value in (numpy.ma.array(1), numpy.ma.array(1, mask=True), numpy.ma.masked):
+        for work in (*WORKED.values(), *COMPARED.values(), operator.truediv):
+            with pytest.raises(TypeError, match="a column is worked and compared with a column or one value"):
+                work(value, Column.of([1, None]))
+    assert (Column.of([1, None]) + numpy.ma.masked).to_list() == [None, None]
+    assert (numpy.ma.masked | Column.of([True, False])).to_list() == [True, None]
+
+
+@pytest.mark.parametrize("array", MASKED, ids=repr)
+def test_masked_arrays_on_the_right_are_refused(array):
+    for work in (*WORKED.values(), *COMPARED.values(), operator.and_, operator.or_, operator.truediv):
+        with pytest.raises(TypeError, match=r"a column is (worked|compared) with a column or one value"):
+            work(Column.of([1, 2]), array)
+
+
+def test_functions_of_masked_arrays():
+    column = Column.of([1, None])
+    unary = [numpy.ma.getdata, numpy.ma.negative]
+    for work in (*unary, lambda rows: numpy.ma.add(rows, 1), lambda rows: numpy.ma.equal(2, rows)):
+        with pytest.raises(TypeError, match=r"column.to_numpy\(\) is an array for numpy.ma"):
+            work(column)
+    assert numpy.ma.add(column.to_numpy(), 1).tolist() == [2, None]
+    assert (Column.of(numpy.ma.array([1, 2], mask=[False, True])) + column).to_list() == [2, None]
+
+
 @pytest.mark.parametrize("number", [numpy.int64(3), numpy.uint8(3), numpy.float64(3), numpy.array([3, 3, 3])])
 def test_operators_that_columns_do_not_have(number):
     for sign, work in NOT_SERVED.items():
