@@ -223,8 +223,16 @@ class Groups:
             sources = {**self.sources, **unknown}
             return replace(self._in_types(_types_of(sources)), sources=sources).table()
         ends = [None if edge is None else self._row(edge) for edge in (self.first, self.last)]
-        parts = [self.none, ends[0], *self.whole, ends[1]]
-        return self.none.append(*(part for part in parts[1:] if part is not None))
+        parts = [ends[0], *self.whole, ends[1]]
+        return self._none_of_all().append(*(part for part in parts if part is not None))
+
+    def _none_of_all(self) -> Table:
+        """The answer of no rows, whose key may be null where that of any part may."""
+        key = self.none._column(self.name)
+        if key.nullable or not any(type.endswith("?") for type, _ in self.sources[self.name]):
+            return self.none
+        wider = key.storage().cast(f"{key.storage().type}?")._meaning(key._logical or key._other)
+        return self.none._of({**dict(self.none.items()), self.name: wider}, 0, self.none.logical_types)
 
     def _row(self, edge: Edge) -> Table:
         """The answers of a group that is whole."""

@@ -177,10 +177,7 @@ def test_groups_of_parts(data, keys, values):
     due = [list(column) for column in zip(*answers_of(key_rows, value_rows, has_sums))] or [[] for _ in ["key", *asked]]
     found = groups.table()
     whole = tables[0].append(*tables[1:]).group_by("key").agg(asked)
-    # a part without rows says nothing of null in the key
-    for name in found.names:
-        assert found.types[name].rstrip("?" * (name == "key")) == whole.types[name].rstrip("?" * (name == "key"))
-    assert found.logical_types == whole.logical_types
+    assert found.types == whole.types and found.logical_types == whole.logical_types
     for name, rows in zip(found.names, due):
         assert found[name].to_list() == whole[name].to_list() == rows, name
     parts = [Groups.of(table, "key", asked) for table in tables]
