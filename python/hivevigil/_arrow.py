@@ -16,7 +16,7 @@ from ._arrow_structs import ArrowArray, ArrowArrayStream, ArrowSchema
 from ._library import ArrowOptions, Fields, Handle, ask, calls, calls_without_lock, session
 from ._values import checked_text
 from .errors import ArrowStreamFailed, HivevigilError, TypeMismatch, Unsupported, in_words, refusal
-from .logical import LogicalType
+from .logical import LogicalType, format_in_words
 
 if TYPE_CHECKING:
     from .column import Column
@@ -25,7 +25,14 @@ _AS_IT_IS, _AS_RUNS, _AS_FLAT = range(3)
 _READ, _READ_BITS = 0, 2
 _RUNS, _BATCH = b"+r", b"+s"
 _DEPTH = 65  # of runs and dictionaries, as hivevigil_arrow.h has it
-_NOT_SERVED = re.compile(r"n|\+[smwuv].*|d:.*,256|ti[Dn]|.* within a list", re.DOTALL)
+_IN_A_LIST = " within a list"
+# formats that are not served, and what a sentence calls what is in them
+_NOT_SERVED = {
+    r"n": "rows of the type null", r"\+s": "structs", r"\+m": "maps", r"\+w.*": "lists of one size",
+    r"\+v.*": "views of lists", r"\+u.*": "unions", r"d:.*,256": "decimals of 256 bits", r"tiD": "intervals of days and milliseconds",
+    r"tin": "intervals of months, days and nanoseconds", rf"\+[lL]{_IN_A_LIST}": "lists of lists",
+    rf"[efg]{_IN_A_LIST}": "lists of floats",
+}
 _WORDS = 512  # bytes of what a stream says of its failure
 
 
@@ -235,7 +242,8 @@ def _settled(name: str, column: Column, format: Optional[str], asked: Any) -> Ar
                 return options
             except TypeMismatch:
                 continue
-    raise TypeMismatch().saying(f"column {in_words(name)}: {column.type} has no format {format!r}")
+    said = f"rows of {column.type} are not of the logical type {format_in_words(format or '')}"
+    raise TypeMismatch().saying(f"column {in_words(name)}: {said}")
 
 
 # ---- In ----
@@ -352,24 +360,26 @@ def _meaning(column: Column, logical: Optional[LogicalType]) -> Column:
 
 
 def _in_words(refused: HivevigilError, not_served: str) -> HivevigilError:
-    """The refusal of what came in: a text, or a format, of which `not_served` says which."""
+    """The refusal of what came in: a text, or a type, of which `not_served` says which."""
     if isinstance(refused, TypeMismatch):
         return refused.saying(f"from_arrow: the text in row {refused.fields[0]} of an array is not UTF-8")
     return refused.saying(f"from_arrow: {not_served}") if isinstance(refused, Unsupported) else refused
 
 
 def _not_served(schema: Any, names: Optional[list[str]]) -> str:
-    """Which format is not served, and of which column."""
+    """What is not served, and of which column."""
     columns = {"": schema} if names is None else {
-        f"column {name!r} has ": schema.children[child].contents for child, name in enumerate(names)
+        name: schema.children[child].contents for child, name in enumerate(names)
     }
-    for whose, column in columns.items():
-        for format in filter(_NOT_SERVED.fullmatch, _formats(column)):
-            why = ": lists of floats are not among the types" if format[:1] in ("e", "f", "g") else ""
-            return f"{whose}Arrow's format {format!r}, which is not served{why}" if whose else (
-                f"Arrow's format {format!r} is not served{why}"
-            )
-    return "an Arrow format is not served"
+    for name, column in columns.items():
+        for what in filter(None, map(_unserved, _formats(column))):
+            return f"{what} are not served" if names is None else f"column {name!r} has {what}, which are not served"
+    return "a type of Arrow is not served"
+
+
+def _unserved(format: str) -> Optional[str]:
+    """What a sentence calls what has this format, where it is not served."""
+    return next((what for known, what in _NOT_SERVED.items() if re.fullmatch(known, format, re.DOTALL)), None)
 
 
 def _formats(schema: Any, is_within_list: bool = False) -> Iterator[str]:
@@ -378,7 +388,7 @@ def _formats(schema: Any, is_within_list: bool = False) -> Iterator[str]:
     format = (schema.format or b"").decode(errors="replace")
     is_list = format in ("+l", "+L")
     is_odd = is_list or format in ("e", "f", "g")
-    yield f"{format} within a list" if is_odd and is_within_list else format
+    yield format + _IN_A_LIST if is_odd and is_within_list else format
     for child in range(schema.n_children):
         yield from _formats(schema.children[child].contents, is_list)
     if schema.dictionary:

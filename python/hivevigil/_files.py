@@ -15,7 +15,7 @@ from ._library import Handle, ask, calls
 from ._protobuf import Fields
 from ._types import TYPES
 from .errors import BadMetadata, in_words
-from .logical import LogicalType
+from .logical import LogicalType, format_in_words
 
 if TYPE_CHECKING:
     from .column import Column
@@ -91,7 +91,7 @@ def _after_line(column: Column, format: str) -> Column:
     storage = column.type.rstrip("?")
     logical = _logical_of(format, storage)
     if logical is None:
-        said = f"from_bytes: {in_words(format)} does not name a logical type of a column of {storage}"
+        said = f"from_bytes: {format_in_words(format)} is not a logical type of a column of {storage}"
         raise BadMetadata().saying(said)
     return column._meaning(logical)
 

@@ -145,6 +145,12 @@ def _of_words(sort: str, unit: Optional[str], zone: Optional[str], asked: Any) -
         raise TypeError(f"{in_words(asked)} is not a type of columns: {error}") from None
 
 
+def format_in_words(format: str) -> str:
+    """What a sentence calls what a format of Arrow names: the logical type, and of any other the format itself."""
+    logical = LogicalType.of_format(format)
+    return in_words(format) if logical is None else str(logical)
+
+
 def sort_of_class(kind: type) -> Optional[str]:
     """What values of a class are: dates, times, timestamps, durations, floats; None of another class."""
     library = kind.__module__.partition(".")[0]

@@ -162,9 +162,6 @@ def texts(*rows):
     return Made("u", buffers, len(rows))
 
 
-FLOATS = "lists of floats are not among the types"
-
-
 def lists_of_floats(name=b""):
     offsets = ctypes.create_string_buffer(bytes(4) + b"\1\0\0\0")
     return Made("+l", [None, offsets], 1, name=name, children=[floats(b"item")])
@@ -173,13 +170,12 @@ def lists_of_floats(name=b""):
 @pytest.mark.parametrize(
     "source, kind, said",
     [
-        (lambda: lists_of_floats(), errors.Unsupported, f"Arrow's format 'g within a list' is not served: {FLOATS}"),
-        (lambda: MadeStream([lists_of_floats()]), errors.Unsupported,
-         f"Arrow's format 'g within a list' is not served: {FLOATS}"),
+        (lambda: lists_of_floats(), errors.Unsupported, "lists of floats are not served"),
+        (lambda: MadeStream([lists_of_floats()]), errors.Unsupported, "lists of floats are not served"),
         (lambda: Made("+s", [None], 1, children=[numbers([1], name=b"a"), lists_of_floats(b"b")]), errors.Unsupported,
-         f"column 'b' has Arrow's format 'g within a list', which is not served: {FLOATS}"),
+         "column 'b' has lists of floats, which are not served"),
         (lambda: Made("tin", [None, ctypes.create_string_buffer(16)], 1), errors.Unsupported,
-         "Arrow's format 'tin' is not served"),
+         "intervals of months, days and nanoseconds are not served"),
         (lambda: texts(b"a", b"b", b"\xff"), errors.TypeMismatch, "the text in row 2 of an array is not UTF-8"),
         (lambda: MadeStream([texts(b"a"), texts(b"a", b"\xff")]), errors.TypeMismatch,
          "the text in row 1 of an array is not UTF-8"),
@@ -189,6 +185,38 @@ def test_arrays_that_are_not_served(source, kind, said):
     with pytest.raises(kind) as refused:
         columns_from_arrow(source())
     assert str(refused.value) == f"from_arrow: {said}"
+
+
+# each with what is below it, and what a sentence calls it
+UNSERVED = {
+    "n": "rows of the type null", "+s l": "structs", "+m +s": "maps", "+w:2 l": "lists of one size",
+    "+vl l": "views of lists", "+ud:0 l": "unions", "d:40,2,256": "decimals of 256 bits",
+    "tiD": "intervals of days and milliseconds", "tin": "intervals of months, days and nanoseconds",
+    "+l +L l": "lists of lists", "+L e": "lists of floats",
+}
+
+
+def nested(formats, name=b""):
+    """An array without rows of a format, whose child is of the next one."""
+    format, *below = formats
+    buffers = [None] if format == "+s" else [None, None]
+    return Made(format, buffers, 0, name=name, children=[nested(below)] if below else [])
+
+
+@pytest.mark.parametrize("formats, words", UNSERVED.items(), ids=UNSERVED.values())
+def test_types_that_are_not_served_in_words(formats, words):
+    """No sentence shows Arrow's codes of types."""
+
+    def said(source):
+        with pytest.raises(errors.Unsupported) as refused:
+            columns_from_arrow(source)
+        return str(refused.value)
+
+    formats = formats.split()
+    if formats[0] != "+s":  # which by itself is a batch
+        assert said(nested(formats)) == said(MadeStream([nested(formats)])) == f"from_arrow: {words} are not served"
+    batch = Made("+s", [None], 0, children=[numbers([], name=b"a"), nested(formats, b"b")])
+    assert said(batch) == f"from_arrow: column 'b' has {words}, which are not served"
 
 
 def test_lists_by_streams():

@@ -90,7 +90,7 @@ def test_logical_types_go_out_and_come_in():
     capsule = table.__arrow_c_schema__()
     schema = ArrowSchema.from_address(arrow_model._pointer(capsule, b"arrow_schema"))
     assert [below(schema.children[at].contents) for at in range(3)] == ["tsu:UTC", "tdD", "l"]
-    with pytest.raises(errors.TypeMismatch, match="^column 'level': i64 has no format 'tdD'$"):
+    with pytest.raises(errors.TypeMismatch, match="^column 'level': rows of i64 are not of the logical type date$"):
         Table(table, {"level": "tdD"}).__arrow_c_stream__()
 
 

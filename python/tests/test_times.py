@@ -512,7 +512,7 @@ def test_damaged_files_are_refused(tmp_path, head):
     (tmp_path / "bad").write_bytes(head + Column.of([1]).to_bytes())
     with pytest.raises(BadMetadata, match="is not a file that save wrote"):
         Column.load(tmp_path / "bad")
-    with pytest.raises(BadMetadata, match="^from_bytes: (the bytes are not what|'.*' does not name a logical type of)"):
+    with pytest.raises(BadMetadata, match="^from_bytes: (the bytes are not what|(date|time|timestamp|duration|').* is not a logical type of)"):
         Column.from_bytes(head + Column.of([1]).to_bytes())
     assert not Column.is_message(head + Column.of([1]).to_bytes())
     with pytest.raises(BadMetadata, match="^from_bytes: the bytes are not what to_bytes writes$"):
