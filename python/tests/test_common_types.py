@@ -187,6 +187,24 @@ def test_groups_of_parts(data, keys, values):
     assert parts[0].table().equals(found)
 
 
+@pytest.mark.parametrize("name, value", [
+    ("i64", 7), ("utf8", "a"), ("bool", True), ("decimal(3, 1)", Decimal("1.5")), ("float32", 1.5),
+    ("date", date(2024, 2, 29)), ("timestamp[ms, UTC]", datetime(2024, 2, 29, tzinfo=UTC)),
+])
+@pytest.mark.parametrize("counts", [[1, 0], [0, 1], [0, 0], [1, 1], [2, 1, 0]])
+def test_a_key_that_may_be_null_in_one_part(name, value, counts):
+    """Of whichever part, also where it has no row, or no group of its own."""
+    for nullable in range(len(counts)):
+        for to_form in (Column.decode, Column.to_runs):
+            keys = [Column.of([value] * rows, name + "?" * (part == nullable)) for part, rows in enumerate(counts)]
+            tables = [Table({"key": to_form(key), "level": Column.of([1] * len(key), "i64")}) for key in keys]
+            asked = {"rows": "size", "most": ("level", "max")}
+            found = joined_groups([Groups.of(table, "key", asked) for table in tables])
+            whole = tables[0].append(*tables[1:]).group_by("key").agg(asked)
+            assert found.table().types == whole.types and whole.types["key"].endswith("?")
+            assert found.table().equals(whole)
+
+
 @given(st.data(), parts_of(least=2))
 def test_chunks_of_dask(data, parts):
     dask = pytest.importorskip("dask")
