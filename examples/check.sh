@@ -311,7 +311,7 @@ if found=$(python_with pytest,hypothesis,numpy,pandas); then
     run "python, its tests" $quick "$found" -m pytest -q -p no:cacheprovider python/tests
     "$found" -c 'import mypy' 2>/dev/null || skip "python, its types (python/tests/test_types.py)" "mypy for Python"
     "$found" -c 'import dask.array, distributed' 2>/dev/null ||
-        skip "python, its chunks (python/tests/test_dask.py)" "Dask for Python"
+        skip "python, its chunks (python/tests/test_dask*.py)" "Dask for Python"
 else
     skip "python, its tests" "pytest, Hypothesis, NumPy and pandas for Python"
 fi

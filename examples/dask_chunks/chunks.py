@@ -13,6 +13,7 @@ import argparse
 import os
 import sys
 import time
+from contextlib import contextmanager
 from pathlib import Path
 
 import dask
@@ -105,12 +106,16 @@ def run(count, chunk_counts, workers, memory):
     return agree
 
 
+@contextmanager
 def cluster_of(workers, memory=None):
-    """Processes of this machine, each with this much memory."""
-    return LocalCluster(
+    """Processes of this machine, each with this much memory. One that dies has an hour to be back: as Dask comes, a
+    LocalCluster gives up for good each that is not back after 15 s, as on a busy machine, and where it has given up all
+    of them no answer comes."""
+    with dask.config.set({"distributed.deploy.lost-worker-timeout": "1h"}), LocalCluster(
         n_workers=workers, threads_per_worker=1, host="127.0.0.1", dashboard_address=None,
         memory_limit=memory or "auto",
-    )
+    ) as cluster:
+        yield cluster
 
 
 def main():

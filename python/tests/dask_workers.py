@@ -1,4 +1,4 @@
-"""Chunked columns and tables on two processes; test_dask.py runs it, with a limit of time."""
+"""Chunked columns and tables on two processes; test_dask_workers.py runs it, with a limit of time."""
 import os
 import tempfile
 from pathlib import Path

@@ -1,10 +1,6 @@
-"""Columns in chunks of Dask answer as the whole column, on threads of this process and on processes of a cluster. What
-does not end is ended, and fails."""
-import os
+"""Columns in chunks of Dask answer as the whole column, on threads of this process; test_dask_workers.py has processes.
+What does not end is ended, and fails."""
 import signal
-import subprocess
-import sys
-from pathlib import Path
 
 import numpy
 import pandas
@@ -23,9 +19,6 @@ from dask.sizeof import sizeof  # noqa: E402
 from hivevigil import Column, Table, errors  # noqa: E402
 from hivevigil.chunks import Partial  # noqa: E402
 from hivevigil.dask import Answer, ChunkedColumn  # noqa: E402
-
-HERE = Path(__file__).resolve().parent
-
 
 @pytest.fixture(autouse=True)
 def in_time():
@@ -223,14 +216,3 @@ CHUNKS = ChunkedColumn.from_columns([Column.of([1, 2]), Column.of([3, 300])])
 def test_refusals(call, kind, said):
     with pytest.raises(kind, match=said):
         call()
-
-
-def test_workers_that_are_processes():
-    """On a cluster of its own, by a client that was there before; the workers have only the package."""
-    pytest.importorskip("distributed")
-    ended = subprocess.run(
-        [sys.executable, str(HERE / "dask_workers.py")], capture_output=True, text=True, timeout=180,
-        env={**os.environ, "PYTHONPATH": str(HERE.parent)},
-    )
-    assert ended.returncode == 0, ended.stderr[-3000:]
-    assert ended.stdout.splitlines()[-1] == "all hold"
