@@ -1,6 +1,8 @@
 //! Format strings, as the specification of Arrow's C data interface has them.
-use column_base::{DType, Nullability, PType};
-use logical_types::{Annotation, LogicalType, Operation, TimeUnit, push_format, read_format};
+use column_base::{DType, DecimalDType, Nullability, PType};
+use logical_types::{
+    Annotation, DecimalWidth, LogicalType, Operation, TimeUnit, push_format, read_format,
+};
 use std::alloc::Allocator;
 
 // Each as it is written.
@@ -85,13 +87,24 @@ static REFUSED: [&str; 40] = [
     "d:5,2,128,128",
 ];
 
+// Returns whether a type and zone are written as `expected`, which is read as these.
+fn is_written_as<A: Allocator + Copy>(alloc: A, written: Annotation<'_>, expected: &str) -> bool {
+    let mut text = String::new(alloc);
+    let is_done = push_format(&mut text, written).is_ok() && text.as_str() == expected;
+    match read_format(expected) {
+        Some(read) => {
+            is_done && read.logical() == written.logical() && read.zone() == written.zone()
+        }
+        None => false,
+    }
+}
+
 // Returns whether a format is written as `expected` once it was read.
 fn is_written<A: Allocator + Copy>(alloc: A, format: &str, expected: &str) -> bool {
-    let Some(annotation) = read_format(format) else {
-        return false;
-    };
-    let mut text = String::new(alloc);
-    push_format(&mut text, annotation).is_ok() && text.as_str() == expected
+    match read_format(format) {
+        Some(annotation) => is_written_as(alloc, annotation, expected),
+        None => false,
+    }
 }
 
 #[test]
@@ -117,6 +130,60 @@ fn other_formats_are_refused(rt: HostRuntime) {
     assert!(rt; REFUSED.iter().all(|format| read_format(format).is_none()));
 }
 
+// A type, a zone, and the format that names both, or `None` where none does.
+static MADE: [(LogicalType, &str, Option<&str>); 5] = [
+    (
+        LogicalType::Timestamp(TimeUnit::Second),
+        "UTC",
+        Some("tss:UTC"),
+    ),
+    (LogicalType::Timestamp(TimeUnit::Second), "", Some("tss:")),
+    (LogicalType::Integer(PType::U8), "", Some("C")),
+    (LogicalType::Integer(PType::U8), "UTC", None),
+    (LogicalType::Duration(TimeUnit::Second), "UTC", None),
+];
+
+// The precision of decimals with two digits after the point, their width, a zone, and the format that names all.
+static DECIMALS: [(u8, DecimalWidth, &str, Option<&str>); 7] = [
+    (9, DecimalWidth::Bits32, "", Some("d:9,2,32")),
+    (10, DecimalWidth::Bits32, "", None),
+    (18, DecimalWidth::Bits64, "", Some("d:18,2,64")),
+    (19, DecimalWidth::Bits64, "", None),
+    (39, DecimalWidth::Bits128, "", None),
+    (0, DecimalWidth::Bits128, "", None),
+    (9, DecimalWidth::Bits32, "UTC", None),
+];
+
+// Returns whether a type and a zone are made where a format names them, and written as that.
+fn is_made<A: Allocator + Copy>(
+    alloc: A,
+    logical: LogicalType,
+    zone: &str,
+    format: Option<&str>,
+) -> bool {
+    match (Annotation::try_new(logical, zone), format) {
+        (Some(made), Some(expected)) => is_written_as(alloc, made, expected),
+        (None, None) => true,
+        _ => false,
+    }
+}
+
+#[test]
+fn only_types_that_a_format_names_are_made(rt: HostRuntime) {
+    let alloc = rt.alloc();
+    for line in &MADE {
+        assert!(rt; is_made(alloc, line.0, line.1, line.2));
+    }
+    for line in &DECIMALS {
+        let decimal = DecimalDType {
+            precision: line.0,
+            scale: 2,
+        };
+        let logical = LogicalType::Decimal(decimal, line.1);
+        assert!(rt; is_made(alloc, logical, line.2, line.3));
+    }
+}
+
 // A format, and the integers in which its type is stored.
 static STORED: [(&str, PType); 9] = [
     ("tdD", PType::I32),
@@ -135,7 +202,7 @@ fn is_stored(line: &(&str, PType)) -> bool {
     let (format, ptype) = *line;
     match read_format(format) {
         Some(found) => {
-            found.logical.storage(Nullability::Nullable)
+            found.logical().storage(Nullability::Nullable)
                 == DType::Primitive(ptype, Nullability::Nullable)
         }
         None => false,
@@ -162,7 +229,7 @@ static SUMMED: [(&str, Option<LogicalType>); 7] = [
 fn is_summed(line: &(&str, Option<LogicalType>)) -> bool {
     let (format, expected) = *line;
     match read_format(format) {
-        Some(found) => found.logical.answer(Operation::Sum) == expected,
+        Some(found) => found.logical().answer(Operation::Sum) == expected,
         None => false,
     }
 }

@@ -47,7 +47,7 @@ static COUNTED: [(i64, &str, &str, Option<i64>); 22] = [
 fn is_counted(line: &(i64, &str, &str, Option<i64>)) -> bool {
     let (value, from, to, expected) = *line;
     match (read_format(from), read_format(to)) {
-        (Some(one), Some(other)) => recount(value, one.logical, other.logical) == expected,
+        (Some(one), Some(other)) => recount(value, one.logical(), other.logical()) == expected,
         _ => false,
     }
 }

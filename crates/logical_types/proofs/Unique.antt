@@ -5,8 +5,8 @@ use Rattle.logical_types.specs.declared.types.TimeUnit.{TimeUnit}
 use Rattle.logical_types.specs.declared.types.TimeUnit.TheVariants.{Second, Millisecond, Microsecond, Nanosecond}
 use Rattle.logical_types.specs.declared.types.LogicalType.{LogicalType}
 use Rattle.logical_types.specs.declared.types.LogicalType.TheVariants.{Integer, Float, Date, TimeOfDay, Timestamp, Duration, Decimal}
-use Rattle.logical_types.specs.Formats.{Names, SpellsDecimal, timestamp_format}
-use Rattle.logical_types.specs.Laws.{NamesAreUnique, WrittenFormatsAreRead}
+use Rattle.logical_types.specs.Formats.{IsNamed, Names, SpellsDecimal, format_of, timestamp_format}
+use Rattle.logical_types.specs.Laws.{NamesAreUnique, OnlyNamedAreRead, WrittenFormatsAreRead}
 use Rattle.logical_types.proofs.Cuts.{after}
 use Rattle.logical_types.proofs.Decimals.{one_decimal, written_decimal}
 use Rattle.logical_types.proofs.Names.{one_sort, sort_of}
@@ -76,11 +76,25 @@ names_unique word (Timestamp t) u zone other n m = one_plain word (Timestamp t) 
 names_unique word (Duration t) u zone other n m = one_plain word (Duration t) u zone other tt (one_sort word (Duration t) u zone other n m) n m
 names_unique word (Decimal d w) u zone other n m = one_of_decimals word (Decimal d w) u zone other (λ x. x) (one_sort word (Decimal d w) u zone other n m) n m
 
+written_names : (t : LogicalType) (zone : List ℕ) → IsNamed t zone → Names (format_of t zone) t zone
+written_names (Integer t) zone named = (refl, named)
+written_names (Float f) zone named = (refl, named)
+written_names (Date u) zone named = (refl, named)
+written_names (TimeOfDay u) zone named = (refl, named)
+written_names (Timestamp u) zone named = refl
+written_names (Duration u) zone named = (refl, named)
+written_names (Decimal d w) zone named = (_, refl, written_decimal d w named.1 named.2 named.3, named.0)
+
 pub written_read : WrittenFormatsAreRead
-written_read (Integer t) zone named = (refl, named)
-written_read (Float f) zone named = (refl, named)
-written_read (Date u) zone named = (refl, named)
-written_read (TimeOfDay u) zone named = (refl, named)
-written_read (Timestamp u) zone named = refl
-written_read (Duration u) zone named = (refl, named)
-written_read (Decimal d w) zone named = (_, refl, written_decimal d w named.1 named.2 named.3, named.0)
+written_read t zone named =
+    let names = written_names t zone named in
+    record { names = names; only = λ u other n. names_unique (format_of t zone) u t other zone n names }
+
+pub only_named : OnlyNamedAreRead
+only_named word (Integer t) zone n = n.1
+only_named word (Float f) zone n = n.1
+only_named word (Date u) zone n = n.1
+only_named word (TimeOfDay u) zone n = n.1
+only_named word (Timestamp u) zone n = tt
+only_named word (Duration u) zone n = n.1
+only_named word (Decimal d w) zone (rest, whole, spelled, none) = (none, spelled.some, spelled.room, spelled.fits)

@@ -1,5 +1,6 @@
 -- The format strings of Arrow's C data interface.
-use Rattle.std.specs.Prelude.{◌≡◌, ◌≢◌, ◌⊎◌, ◌≤◌, ◌<◌, ◌++◌, ℕ, List, [], codes, length, slice_index, FitsSigned}
+use Rattle.std.specs.Coded.{Unit-prop, le_prop, Coded-set, coded_ℕ, coded_list}
+use Rattle.std.specs.Prelude.{◌≡◌, ◌≢◌, ◌⊎◌, ◌≤◌, ◌<◌, ◌++◌, ℕ, ℤ, pos, negsuc, List, [], codes, length, slice_index, FitsSigned}
 use Rattle.std.specs.Int.{w8}
 use Rattle.std.specs.Fmt.{decimal, signed_decimal}
 use Rattle.column_base.specs.declared.dtype.DecimalDType.{DecimalDType}
@@ -117,7 +118,7 @@ format_of (Duration u) zone = duration_format u
 format_of (Decimal d w) zone =
     codes "d:" ++ (decimal d.precision ++ (codes "," ++ (signed_decimal d.scale ++ written_ending w)))
 
--- the type is one that a format names
+-- a format names the type with this zone
 abbrev pub IsNamed : LogicalType → List ℕ → Type 0
 IsNamed (Integer t) zone = zone ≡ []
 IsNamed (Float f) zone = zone ≡ []
@@ -126,3 +127,22 @@ IsNamed (TimeOfDay u) zone = zone ≡ []
 IsNamed (Timestamp u) zone = Unit {0}
 IsNamed (Duration u) zone = zone ≡ []
 IsNamed (Decimal d w) zone = (zone ≡ []) × (1 ≤ d.precision) × (d.precision ≤ most_digits w) × FitsSigned w8 d.scale
+
+fits_prop : (scale : ℤ) → IsProp (FitsSigned w8 scale)
+fits_prop (pos n) = λ a b i. record { sfits = le_prop a.sfits b.sfits i }
+fits_prop (negsuc n) = λ a b i. record { sfits = le_prop a.sfits b.sfits i }
+
+-- it names it in one way
+pub IsNamed-prop : (t : LogicalType) (zone : List ℕ) → IsProp (IsNamed t zone)
+IsNamed-prop (Integer t) zone = Coded-set (coded_list coded_ℕ) zone []
+IsNamed-prop (Float f) zone = Coded-set (coded_list coded_ℕ) zone []
+IsNamed-prop (Date u) zone = Coded-set (coded_list coded_ℕ) zone []
+IsNamed-prop (TimeOfDay u) zone = Coded-set (coded_list coded_ℕ) zone []
+IsNamed-prop (Timestamp u) zone = Unit-prop
+IsNamed-prop (Duration u) zone = Coded-set (coded_list coded_ℕ) zone []
+IsNamed-prop (Decimal d w) zone = λ a b i. (Coded-set (coded_list coded_ℕ) zone [] a.0 b.0 i, le_prop a.1 b.1 i, le_prop a.2 b.2 i, fits_prop d.scale a.3 b.3 i)
+
+-- the word is read as this type and zone: it is a format of them, and of no other
+pub record IsReadAs (word : List ℕ) (t : LogicalType) (zone : List ℕ) : Type 0 where
+  pub names : Names word t zone
+  pub only : (u : LogicalType) (other : List ℕ) → Names word u other → (u ≡ t) × (other ≡ zone)

@@ -1,5 +1,5 @@
 //! The format strings of Arrow's C data interface, read.
-ghost use Rattle.std.specs.Prelude.{◌≡◌, ◌≢◌, ◌++◌, ◌≤◌, ℕ, List, [], IfNone, IfSome, IsTrue, ◌↔◌, MatchOption, codes};
+ghost use Rattle.std.specs.Prelude.{◌≡◌, ◌≢◌, ◌++◌, ℕ, List, [], IfNone, IfSome, MatchOption, codes};
 ghost use Rattle.column_base.specs.declared.dtype.DecimalDType.{DecimalDType};
 ghost use Rattle.column_base.specs.declared.dtype.PType.{PType};
 ghost use Rattle.float_bits.specs.declared.formats.FloatFormat.{FloatFormat};
@@ -7,20 +7,13 @@ ghost use Rattle.logical_types.specs.declared.types.DateUnit.{DateUnit};
 ghost use Rattle.logical_types.specs.declared.types.DecimalWidth.{DecimalWidth};
 ghost use Rattle.logical_types.specs.declared.types.LogicalType.{LogicalType};
 ghost use Rattle.logical_types.specs.declared.types.TimeUnit.{TimeUnit};
-ghost use Rattle.logical_types.specs.Formats.{HasNoComma, IsEnding, Names, SpellsDecimal, date_format, duration_format, float_format, integer_format, most_digits, time_format, timestamp_format, width_format};
+ghost use Rattle.logical_types.specs.Formats.{HasNoComma, IsEnding, Names, SpellsDecimal, date_format, duration_format, float_format, integer_format, time_format, timestamp_format, width_format};
 
+use crate::annotation::Annotation;
 use crate::numbers::{read_number, read_whole_number};
 use crate::types::{DateUnit, DecimalWidth, LogicalType, TimeUnit};
 use column_base::{DecimalDType, PType};
 use float_bits::FloatFormat;
-
-/// Travels with a column: what its numbers mean, and, for timestamps, their zone.
-#[derive(Clone, Copy)]
-pub struct Annotation<'a> {
-    pub logical: LogicalType,
-    /// Names the zone of timestamps; empty where they have none, and for all other types.
-    pub zone: &'a str,
-}
 
 /// Returns the type that a format string names, and its zone. `None` for every other text: those of types that are not
 /// served, as texts, lists and intervals, and those that name no type.
@@ -187,18 +180,5 @@ fn read_width(word: &str) -> Option<DecimalWidth>
         "64" => Some(DecimalWidth::Bits64),
         "128" => Some(DecimalWidth::Bits128),
         _ => None,
-    }
-}
-
-impl DecimalWidth {
-    // Returns how many digits a decimal of this width may have.
-    fn most_digits(self) -> u8
-        ensures { result ≡ most_digits self }
-    {
-        match self {
-            DecimalWidth::Bits32 => 9,
-            DecimalWidth::Bits64 => 18,
-            DecimalWidth::Bits128 => 38,
-        }
     }
 }

@@ -2,7 +2,7 @@
 ghost use Rattle.std.specs.Prelude.{◌≡◌, ◌↔◌, IsTrue};
 ghost use Rattle.logical_types.specs.Operations.{IsCompared, answer_of, sum_of};
 
-use crate::formats::Annotation;
+use crate::annotation::Annotation;
 use crate::types::LogicalType;
 use column_base::PType;
 

@@ -1,4 +1,7 @@
 //! The types.
+ghost use Rattle.std.specs.Prelude.{◌≡◌};
+ghost use Rattle.logical_types.specs.Formats.{most_digits};
+
 use column_base::{DecimalDType, PType};
 use float_bits::FloatFormat;
 
@@ -43,4 +46,17 @@ pub enum LogicalType {
     Duration(TimeUnit),
     /// Decimals.
     Decimal(DecimalDType, DecimalWidth),
+}
+
+impl DecimalWidth {
+    // Returns how many digits a decimal of this width may have.
+    pub(crate) fn most_digits(self) -> u8
+        ensures { result ≡ most_digits self }
+    {
+        match self {
+            DecimalWidth::Bits32 => 9,
+            DecimalWidth::Bits64 => 18,
+            DecimalWidth::Bits128 => 38,
+        }
+    }
 }

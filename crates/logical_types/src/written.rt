@@ -1,23 +1,25 @@
 //! The format strings of Arrow's C data interface, written.
 ghost use Rattle.std.specs.Prelude.{◌≡◌, ◌++◌, [], OnErr, OnOk};
 ghost use Rattle.std.specs.String.{string_bytes};
-ghost use Rattle.logical_types.specs.Formats.{date_format, duration_format, float_format, format_of, integer_format, time_format, timestamp_format, written_ending};
+ghost use Rattle.logical_types.specs.Formats.{IsReadAs, date_format, duration_format, float_format, format_of, integer_format, time_format, timestamp_format, written_ending};
 ghost use Rattle.logical_types.specs.declared.types.LogicalType.TheVariants.{Decimal};
 
-use crate::formats::Annotation;
+use crate::annotation::Annotation;
 use crate::types::{DateUnit, DecimalWidth, LogicalType, TimeUnit};
 use column_base::{DecimalDType, PType};
 use float_bits::FloatFormat;
 use std::alloc::{AllocError, Allocator};
 
-/// Puts the format string of a type after the text, with the zone of timestamps. Refused only for memory, where the
-/// text stays as it was.
+/// Puts the format string of a type after the text, with the zone of timestamps: `read_format` reads that string as
+/// this type and zone. Refused only for memory, where the text stays as it was.
 pub fn push_format<A: Allocator + Copy>(
     text: &mut String<A>,
     annotation: Annotation<'_>,
 ) -> Result<(), AllocError>
     ensures written { OnOk result (string_bytes text.new ≡
         string_bytes text.old ++ format_of annotation.entry.logical annotation.entry.zone.now) }
+    ensures read { IsReadAs (format_of annotation.entry.logical annotation.entry.zone.now) annotation.entry.logical
+        annotation.entry.zone.now }
     ensures kept { OnErr result (string_bytes text.new ≡ string_bytes text.old) }
 {
     match annotation.logical {
