@@ -1,5 +1,5 @@
-//! Tests of the library as a program calls it: the lines that the pages show, calls that no line of vectors can make,
-//! and scripts that end early.
+//! Tests of the library as a program calls it: the lines that the pages show, and calls that no line of vectors can
+//! make.
 #![tactic(auto)]
 
 #[cfg(test)]
@@ -14,8 +14,6 @@ mod columns;
 mod constants;
 #[cfg(test)]
 mod decoders;
-#[cfg(test)]
-mod fakes;
 #[cfg(test)]
 mod functions;
 #[cfg(test)]
@@ -32,8 +30,6 @@ mod names;
 mod parts;
 #[cfg(test)]
 mod refusals;
-#[cfg(test)]
-mod scripts;
 #[cfg(test)]
 mod shown;
 #[cfg(test)]
