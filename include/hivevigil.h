@@ -62,7 +62,7 @@ extern "C" {
  * and finds there every call of a header that is not newer than the library. */
 #define HV_VERSION_MAJOR 1
 #define HV_VERSION_MINOR 8
-#define HV_VERSION_PATCH 0
+#define HV_VERSION_PATCH 1
 #define HV_VERSION (HV_VERSION_MAJOR * 1000000 + HV_VERSION_MINOR * 1000 + HV_VERSION_PATCH)
 #define HV_ABI 1
 uint32_t hv_version(void);
