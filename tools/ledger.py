@@ -7,6 +7,7 @@
                                                  gives, for that many processor minutes; fails if one with a line is
                                                  not refused any more
     python3 tools/ledger.py open                 takes those that have a line by now out of tools/ledger_open.txt
+    python3 tools/ledger.py evidence FILE        gives the lines the evidence that FILE has, of tools/mutants.py
 
 A try checks the functions that an edit changes, in a copy of the crate, over the libraries in crates/*/out/rlib of this
 clone or, by `--libraries CLONE`, of another. `try` puts edits of a crate into one check, one for each function and
@@ -23,7 +24,8 @@ A line of crates/NAME/must-fail/ledger.md, indented by four spaces, has in this 
               `written`: a written proof did not fit, which shows less: it may refuse a right edit at this place too;
               `text`: the edit does not compile, as its page says
     seconds   of processor that the try took; its share, where one check tried several
-    evidence  may follow: a line of vectors or a test whose answer differs with the edit
+    evidence  may follow: a line of vectors or a test whose answer differs with the edit, or why there is none
+              (tools/evidence.py); it has to name what is there
 
 A wrong body is refused where a goal of a function that it changes is, or of a caller that its page names by a line
 `by:`. An edit that the prover cannot read and a refusal without a goal do not count. What a callee promises is not in
@@ -38,10 +40,12 @@ import re
 import subprocess
 import sys
 from collections.abc import Iterable
-from dataclasses import astuple, dataclass
+from dataclasses import astuple, dataclass, replace
 from pathlib import Path
 
+import evidence
 import wrong_bodies
+from evidence import Result, Vectors
 from wrong_bodies import WrongBody
 
 OPEN = "tools/ledger_open.txt"
@@ -272,6 +276,41 @@ def faults_of_open(names: list[str], known: dict[str, Line]) -> list[str]:
     return found
 
 
+def vectors() -> Vectors:
+    """The lines of the vectors; none where there is no file of them."""
+    path = wrong_bodies.ROOT / evidence.VECTORS
+    return Vectors(wrong_bodies.read(path) if path.is_file() else "")
+
+
+def faults_of_evidence(known: dict[str, Line]) -> list[str]:
+    """What is wrong with the evidence of lines."""
+    lines, root = vectors(), wrong_bodies.ROOT
+    told = {name: evidence.fault(line.evidence, root, lines) for name, line in known.items() if line.evidence}
+    return [f"{name}: {fault}" for name, fault in told.items() if fault]
+
+
+def write_evidence(results: Iterable[Result]) -> int:
+    """Gives lines the evidence of results of the same text. A line or test that one has stays, if it is still there."""
+    found, known = {result.name: result for result in results}, kept_lines()
+    faults = faults_of_evidence(known)
+    given: dict[str, list[Line]] = {}
+    for name, line in known.items():
+        is_kept = line.evidence.startswith(evidence.SEEN) and not any(fault.startswith(f"{name}: ") for fault in faults)
+        if name in found and found[name].mark == line.mark and not is_kept:
+            given.setdefault(name.split("/")[0], []).append(replace(line, evidence=found[name].evidence))
+    for crate, changed in given.items():
+        write(crate, changed)
+    print(f"{sum(map(len, given.values()))} lines were given evidence; {evidence_told(kept_lines())}")
+    return 0
+
+
+def evidence_told(known: dict[str, Line]) -> str:
+    """How many lines have evidence, and how many of those that have to show more than their proof."""
+    written = [line for line in known.values() if line.how == "written"]
+    shown = [sum(bool(line.evidence) for line in lines) for lines in (known.values(), written)]
+    return f"evidence of {shown[0]} of {len(known)}, and of {shown[1]} of {len(written)} that a written proof refused"
+
+
 def write_open() -> int:
     """Takes what has a line by now out of the list of those that have none, and out of the numbers that pages say."""
     known, names, path = kept_lines(), [name_of(wrong) for wrong in every()], wrong_bodies.ROOT / OPEN
@@ -289,11 +328,13 @@ def look() -> int:
     known, all_of, open_ones = kept_lines(), every(), set(read(wrong_bodies.ROOT / OPEN, ""))
     names = [name_of(wrong) for wrong in all_of]
     told = [f"{name}: two have this name" for name in sorted({name for name in names if names.count(name) > 1})]
-    told += faults_of_ledgers(names) + faults_of_open(names, known)
+    told += faults_of_ledgers(names) + faults_of_open(names, known) + faults_of_evidence(known)
     stale = [name_of(wrong) for wrong in all_of if is_stale(wrong, known) and name_of(wrong) not in open_ones]
     told += [f"{name}: {'changed since it was tried' if name in known else 'was never tried'}" for name in stale]
     for fault in told:
         print(fault)
+    if any(line.evidence for line in known.values()):
+        print(evidence_told(known))
     untried = len(open_ones & set(names))
     skipped = f", {untried} skipped" if untried else ""
     print(f"{len(all_of) - len(stale) - untried} passed, {len(told)} failed{skipped}")
@@ -321,13 +362,15 @@ def in_turn(key: str) -> list[WrongBody]:
 
 def main() -> int:
     parser = argparse.ArgumentParser(description="The ledger of wrong bodies.")
-    parser.add_argument("words", nargs="*", metavar="try NAME .. | sample MINUTES KEY | open")
+    parser.add_argument("words", nargs="*", metavar="try NAME .. | sample MINUTES KEY | open | evidence FILE")
     parser.add_argument("--libraries", type=Path, default=wrong_bodies.ROOT, metavar="CLONE")
     parser.add_argument("--most", type=int, default=8, metavar="N")
     options = parser.parse_args()
     words = options.words
     if words in ([], ["open"]):
         return write_open() if words else look()
+    if words[0] == "evidence" and len(words) == 2:
+        return write_evidence(evidence.results_of(Path(words[1]).read_text(encoding="utf-8")))
     import ledger_tries
 
     prover = ledger_tries.Prover(options.libraries.resolve())
@@ -335,7 +378,8 @@ def main() -> int:
         return ledger_tries.try_all(prover, found, options.most)
     if words[0] == "sample" and len(words) == 3 and words[1].isdigit():
         return ledger_tries.sample(prover, in_turn(words[2]), 60 * int(words[1]))
-    parser.error("the words are: try NAME .. (a crate, CRATE/NAME or stale), sample MINUTES KEY, or open")
+    names = "NAME .. (a crate, CRATE/NAME or stale)"
+    parser.error(f"the words are: try {names}, sample MINUTES KEY, open, or evidence FILE")
 
 
 if __name__ == "__main__":

@@ -10,9 +10,11 @@ from pathlib import Path
 from types import SimpleNamespace
 from unittest import mock
 
+import evidence
 import ledger
 import ledger_tries
 import wrong_bodies
+from evidence import Vectors
 from ledger import Line, function_at, line_of, owner_of
 from ledger_tries import Batch, Prover, Refusal, batches, refusal
 
@@ -150,6 +152,71 @@ class ReadTests(Tree):
         self.assertEqual(line_of(line.text().rstrip()), line)
         self.assertIsNone(line_of("a-slip 0123 kit f returns goal soon"))
         self.assertIsNone(line_of("a-slip 0123"))
+
+
+class EvidenceTests(Tree):
+    """What lines of the ledger say that a user sees."""
+
+    VECTORS = "# bits\nb = flat bool true\nb at 0 => true\nb at 0 => false\nb at 0 => false\n"
+
+    def setUp(self) -> None:
+        super().setUp()
+        self.write(evidence.VECTORS, self.VECTORS)
+        self.write("examples/c/bits.c", "")
+        self.write_true_lines()
+
+    def given(self, *results: str) -> list[str]:
+        """The evidence of both lines, after these results: a name without its crate, the hash or `MARK`, evidence."""
+        marks = {wrong.name: ledger.mark_of(wrong) for wrong in ledger.every()}
+        texts = [f"low/{result}".replace("MARK", marks[result.split()[0]]) for result in results]
+        with contextlib.redirect_stdout(io.StringIO()):
+            ledger.write_evidence(evidence.results_of("\n".join(texts)))
+        return [line_of(line).evidence for line in self.lines()]
+
+    def test_results_go_into_the_lines_of_the_same_text(self) -> None:
+        first, second = "two-are-added MARK line: b at 0 => true", "the-second-is-first 0123 test: examples/c/bits.c"
+        self.assertEqual(self.given(first, second), ["line: b at 0 => true", ""])
+        self.assertEqual(self.given(second.replace("0123", "MARK"))[1], "test: examples/c/bits.c")
+
+    def test_what_a_line_has_stays_while_it_is_there(self) -> None:
+        self.given("two-are-added MARK line: b at 0 => true", "the-second-is-first MARK none: cost")
+        later = ["two-are-added MARK test: examples/c/bits.c", "the-second-is-first MARK line: b at 0 => false"]
+        self.assertEqual(self.given(*later), ["line: b at 0 => true", "line: b at 0 => false"])
+        self.write(evidence.VECTORS, "b = flat bool true\n")
+        self.assertEqual(self.given(*later), ["test: examples/c/bits.c", "line: b at 0 => false"])
+
+    def test_evidence_that_is_not_there_fails(self) -> None:
+        for bad, why in [
+            ("line: b at 1", "is a line that is not in examples/vectors/lines.txt: b at 1"),
+            ("line: b at 0 => tru", "is a line that is not in examples/vectors/lines.txt: b at 0 => tru"),
+            ("test: examples/c/bytes.c", "is a test that is not there: examples/c/bytes.c"),
+            ("line 7", "is none of line:, test:, none:"),
+        ]:
+            self.write_true_lines()
+            self.given(f"two-are-added MARK {bad}")
+            out = io.StringIO()
+            with contextlib.redirect_stdout(out):
+                status = ledger.look()
+            self.assertEqual((status, out.getvalue().split("\n")[0]), (1, f"low/two-are-added: its evidence {why}"))
+
+    def test_a_look_counts_evidence(self) -> None:
+        self.given("two-are-added MARK line: b at 0", "the-second-is-first MARK none: only the cost changes")
+        out = io.StringIO()
+        with contextlib.redirect_stdout(out):
+            status = ledger.look()
+        self.assertEqual(status, 0)
+        self.assertIn("evidence of 2 of 2, and of 0 of 0 that a written proof refused\n", out.getvalue())
+
+    def test_a_line_is_named_by_words_that_no_other_begins_with(self) -> None:
+        rows = " ".join(["true"] * 20)
+        long = [f"b rows => {rows} {last}" for last in ("true false", "false true true", "false true")]
+        lines = Vectors("\n".join([self.VECTORS, *long]))
+        self.assertEqual(lines.name(3), "b at 0 => true")
+        self.assertEqual(lines.name(4), "b at 0 => false")
+        self.assertEqual(lines.name(7), long[0].removesuffix(" false"))
+        self.assertEqual(lines.name(8), long[1])
+        self.assertEqual(lines.places("b at 0 =>", 2), [4, 5])
+        self.assertEqual((lines.places(long[1], 2), lines.places("b at 0 => t", 2)), ([8], []))
 
 
 class LookTests(Tree):
