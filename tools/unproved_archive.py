@@ -35,6 +35,11 @@ for word; do
 done
 exec '{clang}' "$@"
 """
+# The check that `rt try` starts too, for a hint on names, ends at once: it would take as long as the rest.
+NO_HINT = """#!/bin/sh
+case "$*" in *'--start no function'*) exit 0 ;; esac
+exec '{rattle}' "$@"
+"""
 TARGET = ["--target=x86_64-unknown-linux-gnu", "-march=x86-64", "--no-default-config", "-x", "ir"]
 
 
@@ -85,6 +90,12 @@ def add_tests(crate: Path) -> list[str]:
     return names
 
 
+def write_script(path: Path, text: str) -> None:
+    """Writes a program of the shell."""
+    path.write_text(text)
+    path.chmod(0o755)
+
+
 def kit_that_keeps(kit: Path, at: Path, module: Path) -> Path:
     """A kit of links to the machine's, but for the compiler that `rt try` calls. rt takes the kit that it is in."""
     for folder in (at / "bin", at / "toolchain/bin"):
@@ -98,9 +109,10 @@ def kit_that_keeps(kit: Path, at: Path, module: Path) -> Path:
     for name in ("rt", "rtlib.py"):
         (at / "bin" / name).unlink()
         shutil.copy(kit / "bin" / name, at / "bin" / name)
-    clang = at / "toolchain/bin/clang"
-    clang.write_text(KEEPS_MODULE.format(least=PROBE_BYTES, module=module, clang=kit / "toolchain/bin/clang"))
-    clang.chmod(0o755)
+    (at / "bin/rattle").unlink()
+    write_script(at / "bin/rattle", NO_HINT.format(rattle=kit / "bin/rattle"))
+    clang = KEEPS_MODULE.format(least=PROBE_BYTES, module=module, clang=kit / "toolchain/bin/clang")
+    write_script(at / "toolchain/bin/clang", clang)
     return at / "bin/rt"
 
 
@@ -151,14 +163,20 @@ def unchanged(text: str) -> str:
 
 
 def compile_archive(
-    kit: Path, work: Path, module: Path, exports: list[str], out: Path, edit: Callable[[str], str] = unchanged
+    kit: Path,
+    work: Path,
+    module: Path,
+    exports: list[str],
+    out: Path,
+    edit: Callable[[str], str] = unchanged,
+    level: str = "-O1",
 ) -> None:
     """Compiles the module, with its text edited and its exports visible, and puts it into an archive."""
     calls = struct_calls((ROOT / "include/hivevigil_exports.h").read_text(encoding="utf-8"), exports)
     text, library, shims = work / "module.ll", work / "hivevigil.o", work / "adapters.o"
     tool(kit, "clang", *TARGET, "-S", "-emit-llvm", "-O0", "-Xclang", "-disable-llvm-passes", module, "-o", text)
     text.write_text(with_visible_exports(edit(text.read_text()), exports, set(calls)))
-    tool(kit, "clang", *TARGET, "-O1", "-fPIC", "-ffunction-sections", "-fdata-sections", "-c", text, "-o", library)
+    tool(kit, "clang", *TARGET, level, "-fPIC", "-ffunction-sections", "-fdata-sections", "-c", text, "-o", library)
     (work / "adapters.c").write_text(adapters(calls))
     compiler = [os.environ.get("CC", "cc"), "-O2", "-fPIC", f"-I{ROOT / 'include'}", "-c", work / "adapters.c"]
     subprocess.run([*compiler, "-o", shims], check=True)
