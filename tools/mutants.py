@@ -1,17 +1,22 @@
 #!/usr/bin/env python3
-"""Which line of the vectors sees each wrong body that stands as text (crates/NAME/must-fail/*.md), over one library.
+"""Which line of the vectors or test sees each wrong body that stands as text (crates/NAME/must-fail/*.md).
 
     python3 tools/mutants.py FOLDER [FILE]      FOLDER keeps the library for a next call; FILE has other lines
+        --programs                              also runs programs of examples/c and examples/cpp with those not seen
+        --most N                                tries N lines with each, if not all that reach it
 
 The library for C is built once, without proof, in some ten minutes: a function that has wrong bodies begins with a
-question which of them is to run. `examples/vectors/runner/mutants.cpp` then answers lines with each in turn, in a few
+question which of them is to run. `examples/vectors/runner/mutants.cpp` then answers lines with each in turn, in some
 minutes more. A line of the output has the number of the wrong body, its crate and its name, and then a line whose
-answer differs, at which the process crashes (the library has the checks of `rt try`), or at which it runs on for a
-minute, or else why there is none: no line reaches the function, or none that does differs. What is not a body of a
-function of the library is not built: constants, macros, contracts, and crates that the library does not use.
+answer differs, at which the process crashes (the library has the checks of `rt try`), or at which it runs on for
+seconds, or a program that fails, or else why there is none: no line reaches the function, or none that does differs.
+What is not a body of a function of the library is not built: constants, macros, contracts, and crates that the library
+does not use.
 
-It ends in 'N seen, M not seen, K not built'. FOLDER is made anew where the sources or the pages have changed. A program
-that is linked with FOLDER/libhivevigil.a runs with the wrong body whose number HV_MUTANT has in its environment.
+It ends in 'N seen, M not seen, K not built'. FOLDER is made anew where the sources or the pages have changed. What is
+seen is in FOLDER/evidence.txt too, which `tools/ledger.py evidence` reads. A program that is linked with
+FOLDER/libhivevigil.a runs with the wrong body whose number HV_MUTANT has in its environment, and leaves in the file
+HV_MUTANT_REACHED the numbers of all that it reaches.
 """
 
 import argparse
@@ -25,15 +30,20 @@ import sys
 from collections import Counter
 from pathlib import Path
 
+import evidence
+import ledger
+import mutant_programs
 import mutant_sources
 import unproved_archive
 import wrong_bodies
+from evidence import Result, Vectors
 from mutant_sources import Unbuilt
 from wrong_bodies import ROOT, WrongBody
 
 VECTORS = ROOT / "examples/vectors/lines.txt"
 RUNNER = ROOT / "examples/vectors/runner/mutants.cpp"
-WRAPPED = [f"-Wl,--wrap={name}" for name in ("malloc", "calloc", "realloc", "free")]
+# How many lines are tried that begin with the words by which one is known.
+TRIED = 3
 # The crate that is asked which wrong body runs; the library asks C in its place.
 ASKED = """//! Which wrong body runs.
 
@@ -48,16 +58,28 @@ pub fn is_mutant(number: u32) -> bool {
 # What the library asks, where no runner answers it.
 ANSWERS = """#include <stdbool.h>
 #include <stdint.h>
+#include <stdio.h>
 #include <stdlib.h>
 
-bool hv_is_mutant(uint32_t number) {
-    static long chosen = -1;
-    if (chosen < 0) {
+static long chosen = -1;
+static bool is_reached[{count} + 1];
+
+static void tell_reached(void) {{
+    FILE *file = fopen(getenv("HV_MUTANT_REACHED"), "w");
+    for (long number = 1; file && number <= {count}; number++)
+        if (is_reached[number]) fprintf(file, "%ld\\n", number);
+    if (file) fclose(file);
+}}
+
+bool hv_is_mutant(uint32_t number) {{
+    if (chosen < 0) {{
         const char *given = getenv("HV_MUTANT");
         chosen = given ? atol(given) : 0;
-    }
+        if (getenv("HV_MUTANT_REACHED")) atexit(tell_reached);
+    }}
+    if (number <= {count}) is_reached[number] = true;
     return number == (uint64_t)chosen;
-}
+}}
 """
 DEFINITION = re.compile(
     r'^define internal ([^@\n]*)(@"?mutant::is_mutant[^(\n]*)\((.*?)\)[^{\n]*\{\n.*?^\}\n', re.M | re.S
@@ -162,8 +184,9 @@ def build(kit: Path, work: Path, found: dict[int, WrongBody]) -> dict[int, str]:
             if not more:
                 raise
             unbuilt |= dict.fromkeys(more, "it does not compile next to the right body")
-    unproved_archive.compile_archive(kit, work, module, exports, work / "libhivevigil.a", asks_c)
-    (work / "answers.c").write_text(ANSWERS, encoding="utf-8")
+    # The lines take seconds as they are; what makes them faster takes minutes.
+    unproved_archive.compile_archive(kit, work, module, exports, work / "libhivevigil.a", asks_c, "-O0")
+    (work / "answers.c").write_text(ANSWERS.format(count=len(found)), encoding="utf-8")
     compiler = [os.environ.get("CC", "cc"), "-O2", "-fPIC", "-c"]
     subprocess.run([*compiler, "answers.c", "-o", "answers.o"], cwd=work, check=True)
     subprocess.run(["ar", "x", kit / "c/liblibc_c.a", "heap.pic.o"], cwd=work, check=True)
@@ -174,7 +197,8 @@ def build(kit: Path, work: Path, found: dict[int, WrongBody]) -> dict[int, str]:
 def compile_runner(work: Path) -> None:
     """Compiles what answers the lines, and links it with the library."""
     compiler = [os.environ.get("CXX", "c++"), "-std=c++17", "-O1", f"-I{ROOT / 'include'}"]
-    subprocess.run([*compiler, RUNNER, work / "libhivevigil.a", *WRAPPED, "-o", work / "mutants"], check=True)
+    links = [*mutant_programs.WRAPPED, mutant_programs.ONLY_USED]
+    subprocess.run([*compiler, RUNNER, work / "libhivevigil.a", *links, "-o", work / "mutants"], check=True)
 
 
 def mark_of_sources() -> str:
@@ -184,22 +208,51 @@ def mark_of_sources() -> str:
     return hashlib.sha256(b"\0".join(texts)).hexdigest()
 
 
-def report(found: dict[int, WrongBody], unbuilt: dict[int, str], answers: str) -> Counter[str]:
+def seen_by_lines(answers: str, lines: Vectors) -> dict[int, str]:
+    """What the runner says of each wrong body: evidence where a line sees it, or else why there is none."""
+    told = [line.split(" ", 2) for line in answers.splitlines()]
+    return {int(words[0]): f"line: {lines.name(int(words[1]))}" if len(words) > 2 else words[1] for words in told}
+
+
+def write_known(work: Path, found: dict[int, WrongBody], lines: Vectors) -> Path:
+    """Writes for the runner which lines saw wrong bodies before: those of the ledgers, and of the results of FOLDER."""
+    results = work / "evidence.txt"
+    text = results.read_text(encoding="utf-8") if results.is_file() else ""
+    known = {name: line.evidence for name, line in ledger.kept_lines().items()}
+    known |= {result.name: result.evidence for result in evidence.results_of(text)}
+    told = []
+    for number, wrong in found.items():
+        kind, _, words = known.get(ledger.name_of(wrong), "").partition(" ")
+        told += [f"{number} {place}\n" for place in (lines.places(words, TRIED) if kind == "line:" else [])]
+    (work / "known").write_text("".join(told), encoding="utf-8")
+    return work / "known"
+
+
+def report(found: dict[int, WrongBody], unbuilt: dict[int, str], told: dict[int, str]) -> Counter[str]:
     """Prints what became of each wrong body, and counts."""
-    told = {int(words[0]): words[1:] for words in map(str.split, answers.splitlines())}
     counts: Counter[str] = Counter()
     for number, wrong in found.items():
-        words = told.get(number, [])
-        how = f"not built: {unbuilt[number]}" if number in unbuilt else " ".join(words)
-        counts["not built" if number in unbuilt else "seen" if len(words) > 1 else "not seen"] += 1
-        print(number, wrong.page.parent.parent.name, wrong.name, how)
+        how = f"not built: {unbuilt[number]}" if number in unbuilt else told[number]
+        is_seen = how.startswith(evidence.SEEN)
+        counts["seen" if is_seen else "not built" if number in unbuilt else "not seen"] += 1
+        print(number, ledger.name_of(wrong), how)
     return counts
+
+
+def write_results(path: Path, found: dict[int, WrongBody], told: dict[int, str]) -> None:
+    """Writes what is seen as tools/ledger.py reads it."""
+    seen = {number: how for number, how in sorted(told.items()) if how.startswith(evidence.SEEN)}
+    wrongs = {number: found[number] for number in seen}
+    results = [Result(ledger.name_of(each), ledger.mark_of(each), seen[number]) for number, each in wrongs.items()]
+    path.write_text("".join(result.text() for result in results), encoding="utf-8")
 
 
 def main() -> int:
     parser = argparse.ArgumentParser(description=__doc__.partition("\n")[0])
     parser.add_argument("folder", type=Path, help="where the library is kept")
     parser.add_argument("file", type=Path, nargs="?", default=VECTORS, help="the lines, if not those of the vectors")
+    parser.add_argument("--programs", action="store_true", help="runs programs of examples too")
+    parser.add_argument("--most", type=int, help="how many lines are tried with each, if not all that reach it")
     words = parser.parse_args()
     work = words.folder.resolve()
     work.mkdir(parents=True, exist_ok=True)
@@ -210,8 +263,15 @@ def main() -> int:
         kept.write_text(json.dumps({"mark": mark, "unbuilt": build(kit, work, found)}))
     unbuilt = {int(number): why for number, why in json.loads(kept.read_text())["unbuilt"].items()}
     compile_runner(work)
-    ran = subprocess.run([work / "mutants", words.file, str(len(found))], check=True, stdout=subprocess.PIPE, text=True)
-    counts = report(found, unbuilt, ran.stdout)
+    lines = Vectors(words.file.read_text(encoding="utf-8"))
+    command = [work / "mutants", words.file, str(len(found)), write_known(work, found, lines)]
+    command += [str(words.most)] if words.most else []
+    told = seen_by_lines(subprocess.run(command, check=True, stdout=subprocess.PIPE, text=True).stdout, lines)
+    if words.programs:
+        unseen = [number for number, how in told.items() if how in ("unseen", "unreached") and number not in unbuilt]
+        told |= mutant_programs.seen(work, unseen)
+    counts = report(found, unbuilt, told)
+    write_results(work / "evidence.txt", found, told)
     print(f"{counts['seen']} seen, {counts['not seen']} not seen, {counts['not built']} not built")
     return 0
 

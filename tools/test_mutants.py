@@ -1,16 +1,21 @@
 #!/usr/bin/env python3
-"""Tests of mutants.py and mutant_sources.py: bodies that are found, choices that are written, and what is reported."""
+"""Tests of mutants.py, its sources and programs: bodies, choices, programs that see some, and what is reported."""
 
 import contextlib
 import io
+import shutil
+import subprocess
 import tempfile
 import unittest
 from pathlib import Path
 from unittest import mock
 
+import ledger
+import mutant_programs
 import mutant_sources
 import mutants
 import wrong_bodies
+from evidence import Vectors
 from mutant_sources import Unbuilt
 
 SOURCE = """use low::first;
@@ -111,24 +116,76 @@ class ModuleTests(unittest.TestCase):
 
 
 class ReportTests(unittest.TestCase):
-    """What is printed and counted."""
+    """What is printed, counted and written."""
+
+    LINES = Vectors("# two lines\na = flat u8 1 2\na sum => 3\n")
+
+    def test_a_line_that_sees_a_wrong_body_is_named_by_its_words(self):
+        told = mutants.seen_by_lines("1 3 differs\n2 unseen\n3 unreached\n4 2 crashes\n5 3 runs on\n", self.LINES)
+        self.assertEqual(told[1], "line: a sum => 3")
+        self.assertEqual((told[2], told[3]), ("unseen", "unreached"))
+        self.assertEqual((told[4], told[5]), ("line: a = flat u8 1 2", "line: a sum => 3"))
 
     def test_each_wrong_body_has_a_line_and_is_counted_once(self):
         page = Path("crates/low/must-fail/by-hand.md")
-        names = ["seen-at-a-line", "not-seen", "a-constant"]
+        names = ["seen-at-a-line", "not-seen", "a-constant", "seen-by-a-test"]
         found = {number: wrong_bodies.WrongBody(page, name) for number, name in enumerate(names, 1)}
+        told = {1: "line: a sum => 3", 2: "unseen", 3: "unreached", 4: "test: examples/c/sums.c"}
         out = io.StringIO()
         with contextlib.redirect_stdout(out):
-            counts = mutants.report(found, {3: "it changes what is in no body"}, "1 240 differs\n2 unseen\n")
+            counts = mutants.report(found, {3: "it changes what is in no body"}, told)
         lines = out.getvalue().splitlines()
-        self.assertEqual(lines[:2], ["1 low seen-at-a-line 240 differs", "2 low not-seen unseen"])
-        self.assertEqual(lines[2], "3 low a-constant not built: it changes what is in no body")
-        self.assertEqual(counts, {"seen": 1, "not seen": 1, "not built": 1})
+        self.assertEqual(lines[:2], ["1 low/seen-at-a-line line: a sum => 3", "2 low/not-seen unseen"])
+        self.assertEqual(lines[2], "3 low/a-constant not built: it changes what is in no body")
+        self.assertEqual(lines[3], "4 low/seen-by-a-test test: examples/c/sums.c")
+        self.assertEqual(counts, {"seen": 2, "not seen": 1, "not built": 1})
+
+    def test_results_have_what_is_seen_with_its_hash(self):
+        page = Path("crates/low/must-fail/by-hand.md")
+        found = {number: wrong_bodies.WrongBody(page, name) for number, name in ((1, "first"), (2, "second"))}
+        with tempfile.TemporaryDirectory() as folder, mock.patch.object(ledger, "mark_of", lambda wrong: "0123"):
+            mutants.write_results(Path(folder) / "results", found, {2: "line: a sum => 3", 1: "unseen"})
+            text = (Path(folder) / "results").read_text(encoding="utf-8")
+        self.assertEqual(text, "low/second 0123 line: a sum => 3\n")
 
     def test_a_crate_that_the_library_does_not_use_is_not_built(self):
         with tempfile.TemporaryDirectory() as folder, mock.patch.object(mutants, "ROOT", Path(folder)):
             (Path(folder) / "crates.txt").write_text("low:\nbeside: low\ntop staticlib: low\n", encoding="utf-8")
             self.assertEqual(mutants.linked("top"), {"top", "low"})
+
+
+class ProgramsTests(unittest.TestCase):
+    """Programs that see wrong bodies; the library stands in for one that fails with the second of three."""
+
+    LIBRARY = mutants.ANSWERS.format(count=3)
+    SOURCE = """#include <stdbool.h>
+#include <stdint.h>
+
+bool hv_is_mutant(uint32_t number);
+
+int main(void) {
+    return hv_is_mutant(1) ? 0 : hv_is_mutant(2);
+}
+"""
+
+    def setUp(self):
+        folder = tempfile.TemporaryDirectory()
+        self.addCleanup(folder.cleanup)
+        self.root = Path(folder.name)
+        (self.root / "examples/c").mkdir(parents=True)
+        (self.root / "examples/c/second.c").write_text(self.SOURCE, encoding="utf-8")
+        (self.root / "examples/c/fails.c").write_text("int main(void) { return 1; }\n", encoding="utf-8")
+        (self.root / "answers.c").write_text(self.LIBRARY, encoding="utf-8")
+        patch = mock.patch.object(mutant_programs, "ROOT", self.root)
+        patch.start()
+        self.addCleanup(patch.stop)
+
+    @unittest.skipUnless(shutil.which("cc") and shutil.which("ar"), "no compiler of C")
+    def test_a_program_sees_what_it_fails_with_of_what_it_reaches(self):
+        subprocess.run(["cc", "-c", "answers.c"], cwd=self.root, check=True)
+        subprocess.run(["ar", "rcs", "libhivevigil.a", "answers.o"], cwd=self.root, check=True)
+        seen = mutant_programs.seen(self.root, [1, 2, 3])
+        self.assertEqual(seen, {2: "test: examples/c/second.c"})
 
 
 if __name__ == "__main__":
