@@ -1,8 +1,10 @@
 """Which program of examples/c and examples/cpp fails with a wrong body, over the library of tools/mutants.py."""
 
 import os
+import resource
 import subprocess
 import time
+from collections.abc import Iterable
 from dataclasses import dataclass
 from pathlib import Path
 
@@ -18,14 +20,14 @@ GIVEN = {
     "c/corpus.c": ["corpus/messages.txt", "corpus/typed.txt"],
     "c/table_files.c": ["corpus"],
 }
-# A program that takes more seconds with the right bodies is left out; with a wrong one it may take this many more.
-MOST, MORE = 20, 10
+# A program that takes more seconds of processor with the right bodies is left out; a wrong one may take these.
+MOST = 20
 
 
 @dataclass(frozen=True)
 class Program:
-    """A program that ends well with the right bodies: its source below the root, how it is started, its seconds, and
-    the wrong bodies that it reaches."""
+    """A program that ends well with the right bodies: its source below the root, how it is started, the seconds that
+    it took, and the wrong bodies that it reaches."""
 
     source: str
     command: list[str]
@@ -34,16 +36,14 @@ class Program:
 
     def sees(self, number: int) -> bool:
         """Whether it fails, or runs on, with a wrong body."""
-        try:
-            return run(self.command, self.seconds + MORE, HV_MUTANT=str(number)) != 0
-        except subprocess.TimeoutExpired:
-            return True
+        return run(self.command, HV_MUTANT=str(number)) != 0
 
 
-def run(command: list[str], seconds: float, **variables: str) -> int:
+def run(command: list[str], **variables: str) -> int:
     """Runs a program with more variables in its environment, and returns its status."""
     quiet = {"stdin": subprocess.DEVNULL, "stdout": subprocess.DEVNULL, "stderr": subprocess.DEVNULL}
-    return subprocess.run(command, cwd=ROOT, timeout=seconds, env=os.environ | variables, **quiet).returncode
+    limited = lambda: resource.setrlimit(resource.RLIMIT_CPU, (MOST, MOST + 1))
+    return subprocess.run(command, cwd=ROOT, env=os.environ | variables, preexec_fn=limited, **quiet).returncode
 
 
 def compiled(source: Path, work: Path) -> Path | None:
@@ -59,30 +59,34 @@ def compiled(source: Path, work: Path) -> Path | None:
     return None
 
 
-def program_of(source: Path, work: Path) -> Program | None:
-    """A program with what it reaches; none where it cannot be linked, fails with the right bodies or takes long."""
-    program, told = compiled(source, work), work / "reached"
-    name = str(source.relative_to(ROOT / "examples"))
-    command = [str(program), *(f"examples/{word}" for word in GIVEN.get(name, []))]
+def program_of(source: str, command: list[str], told: Path) -> Program | None:
+    """A program with what it reaches; none where it fails with the right bodies or takes long."""
     told.unlink(missing_ok=True)
     begin = time.monotonic()
-    try:
-        if program is None or run(command, MOST, HV_MUTANT_REACHED=str(told)) != 0 or not told.exists():
-            return None
-    except subprocess.TimeoutExpired:
+    if run(command, HV_MUTANT_REACHED=str(told)) != 0 or not told.exists():
         return None
-    reached = frozenset(map(int, told.read_text().split()))
-    return Program(f"examples/{name}", command, time.monotonic() - begin, reached)
+    return Program(source, command, time.monotonic() - begin, frozenset(map(int, told.read_text().split())))
 
 
-def seen(work: Path, numbers: list[int]) -> dict[int, str]:
+def example(source: Path, work: Path) -> Program | None:
+    """A program of examples; none where it cannot be linked either."""
+    program, name = compiled(source, work), str(source.relative_to(ROOT / "examples"))
+    command = [str(program), *(f"examples/{word}" for word in GIVEN.get(name, []))]
+    return program_of(f"examples/{name}", command, work / "reached") if program else None
+
+
+def seen_by(programs: list[Program], numbers: Iterable[int]) -> dict[int, str]:
     """The evidence of those of the wrong bodies that a program sees, the quickest one of those that do."""
-    sources = sorted([*ROOT.glob("examples/c/*.c"), *ROOT.glob("examples/cpp/*.cpp")])
-    programs = [program for source in sources if (program := program_of(source, work))]
-    programs.sort(key=lambda program: program.seconds)
+    quickest = sorted(programs, key=lambda program: program.seconds)
     found = {}
     for number in numbers:
-        reaching = (program for program in programs if number in program.reaches)
+        reaching = (program for program in quickest if number in program.reaches)
         if source := next((program.source for program in reaching if program.sees(number)), None):
             found[number] = f"test: {source}"
     return found
+
+
+def seen(work: Path, numbers: list[int]) -> dict[int, str]:
+    """The evidence of those of the wrong bodies that a program of examples sees."""
+    sources = sorted([*ROOT.glob("examples/c/*.c"), *ROOT.glob("examples/cpp/*.cpp")])
+    return seen_by([program for source in sources if (program := example(source, work))], numbers)

@@ -119,12 +119,11 @@ def edits(wrong: WrongBody, crates: set[str]) -> dict[Path, str]:
     return edited
 
 
-def write_sources(work: Path, found: dict[int, WrongBody], unbuilt: dict[int, str]) -> None:
-    """Writes the crates with all wrong bodies in them, but for those that are not built, to which it adds."""
+def write_sources(work: Path, found: dict[int, WrongBody], unbuilt: dict[int, str], crates: set[str]) -> None:
+    """Writes the crates with all wrong bodies of these in them, but for those that are not built, to which it adds."""
     shutil.rmtree(work / "crates", ignore_errors=True)
     shutil.copytree(ROOT / "crates", work / "crates", ignore=shutil.ignore_patterns("out"))
     wrong_by_path: dict[Path, dict[int, str]] = {}
-    crates = linked()
     for number, wrong in found.items():
         try:
             for path, text in {} if number in unbuilt else edits(wrong, crates).items():
@@ -173,7 +172,7 @@ def build(kit: Path, work: Path, found: dict[int, WrongBody]) -> dict[int, str]:
     unbuilt: dict[int, str] = {}
     while True:
         shutil.rmtree(work / "kit", ignore_errors=True)
-        write_sources(work, found, unbuilt)
+        write_sources(work, found, unbuilt, linked())
         crate = work / "crates/hivevigil"
         exports = unproved_archive.add_tests(crate)
         try:

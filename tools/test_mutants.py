@@ -13,6 +13,7 @@ from unittest import mock
 import ledger
 import mutant_programs
 import mutant_sources
+import mutant_tests
 import mutants
 import wrong_bodies
 from evidence import Vectors
@@ -186,6 +187,16 @@ int main(void) {
         subprocess.run(["ar", "rcs", "libhivevigil.a", "answers.o"], cwd=self.root, check=True)
         seen = mutant_programs.seen(self.root, [1, 2, 3])
         self.assertEqual(seen, {2: "test: examples/c/second.c"})
+
+    def test_a_test_is_in_the_source_of_its_module(self):
+        program = self.root / "tests"
+        listed = 'echo "bits::parts::cut: test"; echo "whole: test"; echo "tests: 2"'
+        program.write_text(f'#!/bin/sh\n[ "$1" = --list ] && {{ {listed}; exit; }}\necho 2 >"$HV_MUTANT_REACHED"\n')
+        program.chmod(0o755)
+        tests = mutant_tests.tests_of(program, "low")
+        self.assertEqual([test.source for test in tests], ["crates/low/src/bits/parts.rt", "crates/low/src/lib.rt"])
+        self.assertEqual([test.command[1] for test in tests], ["bits::parts::cut", "whole"])
+        self.assertEqual(tests[0].reaches, {2})
 
 
 if __name__ == "__main__":
