@@ -1,5 +1,5 @@
 #!/usr/bin/env python3
-"""Which test of a crate of tests sees each wrong body that stands as text, also of crates that the library for C lacks.
+"""Which test of a crate of tests sees each wrong body that is text, also of crates that the library for C lacks.
 
     python3 tools/mutant_tests.py FOLDER CRATE      CRATE is column_tests or conformance
 

@@ -156,7 +156,7 @@ class ReportTests(unittest.TestCase):
 
 
 class ProgramsTests(unittest.TestCase):
-    """Programs that see wrong bodies; the library stands in for one that fails with the second of three."""
+    """Programs that see wrong bodies, of a library that has three and fails with the second."""
 
     LIBRARY = mutants.ANSWERS.format(count=3)
     SOURCE = """#include <stdbool.h>
