@@ -2,7 +2,7 @@
  * that is tested as it is. The environment says which, counted from 1 (none, where nothing is said):
  *     REFUSE_ONLY, REFUSE_FROM    the request for memory that is refused, alone or with all after it
  *     FAIL_READ                   the read of standard input that fails
- *     ENDLESS_READS               each of these reads gives one space, and there is no end
+ *     ENDLESS_READS               each of these reads gives one space, without end
  *     COUNTS                      the file that says in the end how many requests and how many reads came */
 #define _GNU_SOURCE
 #include <dlfcn.h>
