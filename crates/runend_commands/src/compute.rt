@@ -25,7 +25,7 @@ pub(crate) use constants::has_constant_form;
 pub use encodings::encode;
 pub use extremes::{extreme, min_max};
 pub use fills::fill_null;
-pub use filters::filter;
+pub use filters::{filter, filter_by_runs};
 pub use scalar_comparisons::compare_scalar;
 pub use slices::slice;
 pub use sortedness::is_sorted;

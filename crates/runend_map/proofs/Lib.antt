@@ -10,4 +10,3 @@ pub mod OneRun
 pub mod MapResultRows
 pub mod ShownValues
 pub mod TakenForms
-pub mod KeptTypes

@@ -1,34 +1,33 @@
 //! Rows of dictionaries of any form, taken by codes.
-ghost use Rattle.std.specs.Prelude.{◌≡◌, ◌<◌, Err, true, false, length, map, IfOk, IsOkUnless};
+ghost use Rattle.std.specs.Prelude.{◌≡◌, ◌<◌, Err, true, false, length, IfOk, IsOkUnless};
 ghost use Rattle.column_core.specs.FlatColumn.{leaf_of};
 ghost use Rattle.column_core.specs.Leaf.{leaf_dtype, single_rows};
 ghost use Rattle.column_core.specs.PrimitiveForm.{optional_numbers, primitive_dtype};
 ghost use Rattle.column_core.specs.Refusal.{IsRefusedBy};
 ghost use Rattle.column_ops.specs.Cast.{is_numbers};
-ghost use Rattle.column_ops.specs.Codes.{code_fault, code_number, code_numbers, code_rows};
+ghost use Rattle.column_ops.specs.Codes.{code_fault, code_numbers, code_rows};
 ghost use Rattle.column_ops.specs.Nullable.{take_dtype};
 ghost use Rattle.runend_array.specs.Array.{column_of, dtype_of, rows};
-ghost use Rattle.runend_array.specs.Column.{AreRuns, OfConstant, column_dtype, column_of_runs, column_rows, plain_of};
+ghost use Rattle.runend_array.specs.Column.{OfConstant, column_dtype, column_of_runs, column_rows, plain_of};
 ghost use Rattle.runend_array.specs.Encoding.{IsComputedFlat};
 ghost use Rattle.runend_map.specs.Codes.{keeps_runs};
 ghost use Rattle.runend_map.specs.TakenForm.{TakeFromLeaves};
-ghost use Rattle.runend_column.specs.VisibleForm.{visible_values as values_of_visible};
 
-use crate::codes::{take_from_flat, visible_codes};
+use crate::codes::{placed, rows_for_runs};
 use crate::visible::shown_values;
 use column_core::{
-    FlatColumn, NativePType, PrimitiveArray, Validity, VortexError, VortexResult, is_list_type,
-    is_number_type,
+    FlatColumn, NativePType, PrimitiveArray, Validity, VortexError, VortexResult, is_number_type,
 };
 use runend_array::{ArrayRef, ConstantArray, ExecutionCtx, RunEnd, RunEndArray, RunEndArrayExt};
-use runend_column::{borrowed_values, flat_rows, take_rows};
+use runend_column::flat_rows;
+use runend_select::rows_at;
 use std::alloc::Allocator;
 
 /// Returns the dictionary's row for each code, null for null, in a type with null where the dictionary's or the codes'
 /// has. Of a dictionary of integers it is a run column in minimal form: no run is hidden, neighbours differ (null equal
 /// to null), the offset is 0 and the last end the length; of one of booleans it is a run column of the visible runs;
 /// both have flat values and ends of the same type. Of any other it is a flat column. The dictionary may be of any form
-/// and of any kind, and of the codes only those of visible runs are looked at.
+/// and of any kind: one in runs, or of one value, is not written out. Only codes of visible runs are looked at.
 ///
 /// Refused as `TypeMismatch` unless the codes are integers, however little memory there is; then as
 /// `OutOfBounds`, with the code and the number of rows of the dictionary, at the first code that is not null
@@ -52,18 +51,13 @@ pub fn take_from<A: Allocator + Copy>(
     if !is_number_type(codes.dtype()) {
         return Err(VortexError::TypeMismatch);
     }
-    if is_list_type(dictionary.dtype()) {
-        return take_each(codes, dictionary, ctx);
-    }
-    let flat = flat_rows(dictionary, ctx)?;
-    let taken = take_from_flat(codes, &flat, ctx);
-    drop(flat);
-    taken
+    let taken = rows_for_runs(codes, dictionary, ctx)?;
+    placed(codes, taken, ctx)
 }
 
 /// Returns the dictionary's row for each code, null for null, flat, in a type with null where the dictionary's or the
-/// codes' has. Both may be of any form, and the dictionary of any kind. Where the codes are in runs, only those of
-/// visible runs are looked up, each once, and a constant code once.
+/// codes' has. Both may be of any form, and the dictionary of any kind: one in runs, or of one value, is not written
+/// out. Where the codes are in runs, only those of visible runs are looked up, each once, and a constant code once.
 ///
 /// Refused as `TypeMismatch` unless the codes are integers, however little memory there is; then as
 /// `OutOfBounds`, with the code and the number of rows of the dictionary, at the first code that is not null
@@ -90,7 +84,7 @@ pub fn take_from_rows<A: Allocator + Copy>(
     }
     let flat = flat_rows(codes, ctx)?;
     let indices = numbers_of(flat);
-    let taken = take_rows(dictionary, &indices, ctx);
+    let taken = rows_at(dictionary, &indices, ctx);
     drop(indices);
     taken
 }
@@ -165,36 +159,6 @@ fn take_each<A: Allocator + Copy>(
     ensures flat { IfOk result (λ taken. IsComputedFlat (column_of taken)) }
     ensures session { ctx.new ≡ ctx.old }
 {
-    let alloc = *ctx.allocator();
-    if let Some(indices) = borrowed_values(codes) {
-        return take_at_runs(codes, indices, dictionary, ctx);
-    }
-    let indices = visible_codes(alloc, codes)?;
-    let taken = take_at_runs(codes, &indices, dictionary, ctx);
-    drop(indices);
-    taken
-}
-
-// What `take_each` answers, from the codes of the visible runs.
-fn take_at_runs<A: Allocator + Copy>(
-    codes: &RunEndArray<A>,
-    indices: &PrimitiveArray<A>,
-    dictionary: &ArrayRef<A>,
-    ctx: &mut ExecutionCtx<A>,
-) -> VortexResult<ArrayRef<A>>
-    requires valid { AreRuns codes.now }
-    requires numbers { is_numbers (column_dtype codes.now.values) ≡ true }
-    requires codes { map code_number (values_of_visible codes.now) ≡ optional_numbers indices.now }
-    requires of_type { primitive_dtype indices.now ≡ column_dtype codes.now.values }
-    ensures refused { IsRefusedBy (code_fault (plain_of (column_of_runs codes.now))
-        (length (rows dictionary.now))) result }
-    ensures rows { IfOk result (λ taken. rows taken ≡
-        code_rows (rows dictionary.now) (column_rows (column_of_runs codes.now))) }
-    ensures dtype { IfOk result (λ taken. dtype_of taken ≡
-        take_dtype (dtype_of dictionary.now) (column_dtype codes.now.values)) }
-    ensures flat { IfOk result (λ taken. IsComputedFlat (column_of taken)) }
-    ensures session { ctx.new ≡ ctx.old }
-{
-    let taken = take_rows(dictionary, indices, ctx)?;
+    let taken = rows_for_runs(codes, dictionary, ctx)?;
     shown_values(codes, taken, ctx)
 }

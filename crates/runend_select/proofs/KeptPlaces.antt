@@ -18,13 +18,13 @@ use Rattle.runend_select.proofs.Selected.{set_bits}
 
 -- the places of the true bits among the first n
 module _ (bits : List Bool) where
-  abbrev test : ℕ → Bool
+  abbrev pub test : ℕ → Bool
   test i = slice_index_or bits i false
 
-  abbrev first_places : ℕ → List ℕ
+  abbrev pub first_places : ℕ → List ℕ
   first_places n = filter test (range_with_len 0 n)
 
-  places-more : (k : ℕ) → first_places (k + 1) ≡ first_places k ++ cond (test k) (k ∷ []) []
+  pub places-more : (k : ℕ) → first_places (k + 1) ≡ first_places k ++ cond (test k) (k ∷ []) []
   places-more k =
       ap (filter test) (sym (map-id (range_with_len 0 (k + 1))))
       ∙ filter_of_map_range_with_len_more test (λ (i : ℕ). i) 0 k k (omega arith)

@@ -9,9 +9,12 @@ pub mod IndexRows
 pub mod CheckedIndices
 pub mod Selected
 pub mod Reached
+pub mod MaskRuns
 pub mod FirstBits
 pub mod KeptSoFar
 pub mod KeptPlaces
+pub mod MaskPlaces
+pub mod MaskForms
 pub mod Grown
 pub mod Filtered
 pub mod TakenRuns
@@ -22,3 +25,4 @@ pub mod Forms
 pub mod MinimalForms
 pub mod PassedOn
 pub mod WithoutRuns
+pub mod WrittenNulls

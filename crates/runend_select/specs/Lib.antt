@@ -11,3 +11,4 @@ pub mod TakeForm
 pub mod Laws
 pub mod SessionPicks
 pub mod Told
+pub mod MaskRuns

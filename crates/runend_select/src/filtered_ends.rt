@@ -9,7 +9,8 @@ ghost use Rattle.runend_windows.specs.Ends.{ends_of};
 ghost use Rattle.runend_windows.specs.Window.{last_end, typed_ends};
 ghost use Rattle.runend_select.specs.KeptRuns.{AreKept, AreKeptAt};
 
-use crate::rank::{rank_of, word_ranks};
+use crate::rank::BitRanks;
+use crate::ranked::Ranked;
 use column_base::match_each_unsigned;
 use column_core::{
     BitBuffer, Mask, NativePType, PrimitiveArray, PrimitiveValues, UnsignedPType, Validity,
@@ -41,10 +42,18 @@ pub fn filter_run_end_primitive<E: UnsignedPType, A: Allocator + Copy>(
     ensures session { ctx.new ≡ ctx.old }
 {
     let alloc = *ctx.allocator();
+    let mut selected = BitRanks::of(alloc, mask)?;
     // A buffer's numbers are known to be of its type, so counts that are no greater are as well.
     let stored = E::wrap(Vec::from_slice(alloc, ends)?);
-    let parts = filter_ends(alloc, &stored, offset as usize, length as usize, mask);
+    let parts = filter_ends(
+        alloc,
+        &stored,
+        offset as usize,
+        length as usize,
+        &mut selected,
+    );
     drop(stored);
+    drop(selected);
     let (kept_ends, places) = parts?;
     let kept = mask_of_places(alloc, places.as_slice(), ends.len());
     drop(places);
@@ -82,81 +91,85 @@ fn mask_of_places<A: Allocator + Copy>(
 
 /// Returns the ends of the kept runs among the selected rows, as `filter_run_end_primitive` makes them, and the places
 /// of these runs among the given ones, in ascending order. Refused only as `OutOfMemory`.
-pub(crate) fn filter_ends<A: Allocator + Copy>(
+pub(crate) fn filter_ends<S: Ranked, A: Allocator + Copy>(
     alloc: A,
     ends: &PrimitiveValues<A>,
     offset: usize,
     count: usize,
-    mask: &BitBuffer<A>,
+    selected: &mut S,
 ) -> VortexResult<(PrimitiveArray<A>, Vec<u64, A>)>
     requires unsigned { IsUnsigned (ptype_of ends.now) }
     requires increasing { IsStrictlyIncreasing (map unsigned_abs (numbers ends.now)) }
     requires last { 0 < count → offset + count ≤ last_end (map unsigned_abs (numbers ends.now)) }
-    requires masked { item_count mask.now ≡ count }
+    requires masked { item_count (S.bits selected.old) ≡ count }
+    requires ranked { S.is_ranked selected.old }
+    requires first { S.passed selected.old ≡ 0 }
     ensures only { IsOkUnless result VortexError.OutOfMemory }
-    ensures kept { IfOk result (λ parts. AreKeptAt (map unsigned_abs (numbers ends.now)) offset mask.now parts.1.items
-        (ends_of parts.0)) }
+    ensures kept { IfOk result (λ parts. AreKeptAt (map unsigned_abs (numbers ends.now)) offset
+        (S.bits selected.old) parts.1.items (ends_of parts.0)) }
     ensures typed { IfOk result (λ parts. parts.0.ptype ≡ ptype_of ends.now) }
     ensures required { IfOk result (λ parts. parts.0.validity ≡ NeverNull) }
 {
     match_each_unsigned!(ends, items => {
         let stored = items.as_slice();
-        filter_stored(alloc, stored, offset, count, mask)
+        filter_stored(alloc, stored, offset, count, selected)
     })
 }
 
 // The same for ends as they are stored.
-fn filter_stored<E: UnsignedPType, A: Allocator + Copy>(
+fn filter_stored<E: UnsignedPType, S: Ranked, A: Allocator + Copy>(
     alloc: A,
     ends: &[E],
     offset: usize,
     count: usize,
-    mask: &BitBuffer<A>,
+    selected: &mut S,
 ) -> VortexResult<(PrimitiveArray<A>, Vec<u64, A>)>
     requires fits { All (λ end. HasNumber E.PTYPE (E.number end)) ends.now }
     requires increasing { IsStrictlyIncreasing (typed_ends E.number ends.now) }
     requires last { 0 < count → offset + count ≤ last_end (typed_ends E.number ends.now) }
-    requires masked { item_count mask.now ≡ count }
+    requires masked { item_count (S.bits selected.old) ≡ count }
+    requires ranked { S.is_ranked selected.old }
+    requires first { S.passed selected.old ≡ 0 }
     ensures only { IsOkUnless result VortexError.OutOfMemory }
-    ensures kept { IfOk result (λ parts. AreKeptAt (typed_ends E.number ends.now) offset mask.now parts.1.items
-        (ends_of parts.0)) }
+    ensures kept { IfOk result (λ parts. AreKeptAt (typed_ends E.number ends.now) offset
+        (S.bits selected.old) parts.1.items (ends_of parts.0)) }
     ensures typed { IfOk result (λ parts. parts.0.ptype ≡ E.PTYPE) }
     ensures required { IfOk result (λ parts. parts.0.validity ≡ NeverNull) }
 {
-    let (counts, places) = kept_places(alloc, ends, offset, count, mask)?;
+    let (counts, places) = kept_places(alloc, ends, offset, count, selected)?;
     let kept_ends = PrimitiveArray::new_unchecked(E::wrap(counts), Validity::NonNullable);
     Ok((kept_ends, places))
 }
 
-// The ends of the kept runs, and their places.
-fn kept_places<E: UnsignedPType, A: Allocator + Copy>(
+// The ends of the kept runs, and their places: rows are counted up to where each run reaches, in one walk.
+fn kept_places<E: UnsignedPType, S: Ranked, A: Allocator + Copy>(
     alloc: A,
     ends: &[E],
     offset: usize,
     count: usize,
-    mask: &BitBuffer<A>,
+    selected: &mut S,
 ) -> VortexResult<(Vec<E, A>, Vec<u64, A>)>
     requires fits { All (λ end. HasNumber E.PTYPE (E.number end)) ends.now }
     requires increasing { IsStrictlyIncreasing (typed_ends E.number ends.now) }
     requires last { 0 < count → offset + count ≤ last_end (typed_ends E.number ends.now) }
-    requires masked { item_count mask.now ≡ count }
+    requires masked { item_count (S.bits selected.old) ≡ count }
+    requires ranked { S.is_ranked selected.old }
+    requires first { S.passed selected.old ≡ 0 }
     ensures only { IsOkUnless result VortexError.OutOfMemory }
-    ensures kept { IfOk result (λ parts. AreKeptAt (typed_ends E.number ends.now) offset mask.now parts.1.items
-        (typed_ends E.number parts.0.items)) }
+    ensures kept { IfOk result (λ parts. AreKeptAt (typed_ends E.number ends.now) offset (S.bits selected.old)
+        parts.1.items (typed_ends E.number parts.0.items)) }
 {
-    let ranks = word_ranks(alloc, mask)?;
     let mut kept_ends = Vec::with_capacity(alloc, ends.len())?;
     let mut places = Vec::with_capacity(alloc, ends.len())?;
-    let mut selected = 0;
+    let mut rows = 0;
     for run in 0..ends.len() {
         let reach = reach_of(ends, run, offset, count);
-        let passed = rank_of(mask, ranks.as_slice(), reach);
-        let more = passed - selected;
+        let passed = selected.rank(reach);
+        let more = passed - rows;
         push_where(&mut kept_ends, end_of(passed), more > 0);
         push_where(&mut places, run as u64, more > 0);
-        selected = passed;
+        rows = passed;
     }
-    drop(ranks);
     Ok((kept_ends, places))
 }
 

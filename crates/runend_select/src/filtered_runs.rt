@@ -18,32 +18,35 @@ ghost use Rattle.runend_column.specs.MinimalForm.{AreMinimalRuns, IsMinimalForm}
 ghost use Rattle.runend_column.specs.VisibleForm.{visible_values as values_of_visible};
 
 use crate::filtered_ends::filter_ends;
-use column_core::{
-    BitBuffer, Mask, PrimitiveArray, Validity, VortexError, VortexResult, is_number_type,
-};
+use crate::ranked::Ranked;
+use column_core::{Mask, PrimitiveArray, Validity, VortexError, VortexResult, is_number_type};
 use runend_array::{ArrayRef, RunEnd, RunEndArray, RunEndArrayExt, RunEndArraySlotsExt, array_of};
 use runend_column::{minimal_runs, selected_by, take_values, visible_values, with_minimal_runs};
 use std::alloc::Allocator;
 
-/// Returns the runs with a selected row: of integers in minimal form, of other types as they are. Refused only as
-/// `OutOfMemory`.
-pub(crate) fn selected_runs<A: Allocator + Copy>(
+/// Returns the runs with one of the `count` selected rows: of integers in minimal form, of other types as they are.
+/// Refused only as `OutOfMemory`.
+pub(crate) fn selected_runs<S: Ranked, A: Allocator + Copy>(
     alloc: A,
     array: &RunEndArray<A>,
-    bits: &BitBuffer<A>,
+    selected: &mut S,
+    count: usize,
 ) -> VortexResult<RunEndArray<A>>
-    requires masked { length bits.now ≡ array.now.count }
+    requires masked { length (S.bits selected.old) ≡ array.now.count }
+    requires ranked { S.is_ranked selected.old }
+    requires first { S.passed selected.old ≡ 0 }
+    requires counted { count ≡ count_by (λ bit. bit) (S.bits selected.old) }
     ensures only { IsOkUnless result VortexError.OutOfMemory }
     ensures rows { IfOk result (λ kept. column_rows (column_of_runs kept) ≡
-        filter_rows bits.now (column_rows (column_of_runs array.now))) }
+        filter_rows (S.bits selected.old) (column_rows (column_of_runs array.now))) }
     ensures dtype { IfOk result (λ kept. column_dtype kept.values ≡ column_dtype array.now.values) }
-    ensures form { IfOk result (λ kept. AreLeftRuns (is_numbers (column_dtype array.now.values)) array.now bits.now
-        kept) }
+    ensures form { IfOk result (λ kept. AreLeftRuns (is_numbers (column_dtype array.now.values)) array.now
+        (S.bits selected.old) kept) }
 {
     if is_number_type(array.dtype()) {
-        return least_kept(alloc, array, bits);
+        return least_kept(alloc, array, selected, count);
     }
-    kept_column(alloc, array, bits)
+    kept_column(alloc, array, selected, count)
 }
 
 /// Returns all rows of a column of integers, in minimal form. Refused only as `OutOfMemory`.
@@ -78,27 +81,31 @@ fn values_at<A: Allocator + Copy>(
 }
 
 // The runs with a selected row: their ends among the selected rows, and their values.
-fn kept_parts<A: Allocator + Copy>(
+fn kept_parts<S: Ranked, A: Allocator + Copy>(
     alloc: A,
     array: &RunEndArray<A>,
-    bits: &BitBuffer<A>,
+    selected: &mut S,
 ) -> VortexResult<(PrimitiveArray<A>, ArrayRef<A>)>
-    requires masked { length bits.now ≡ array.now.count }
+    requires masked { length (S.bits selected.old) ≡ array.now.count }
+    requires ranked { S.is_ranked selected.old }
+    requires first { S.passed selected.old ≡ 0 }
     ensures only { IsOkUnless result VortexError.OutOfMemory }
     ensures parts { IfOk result (λ parts. AreParts (OfLeaf (OfNumbers parts.0)) (column_of parts.1) 0 (count_by (λ bit.
-        bit) bits.now)) }
-    ensures rows { IfOk result (λ parts. run_rows (ends_of parts.0) (rows parts.1) 0 (count_by (λ bit. bit) bits.now) ≡
-        filter_rows bits.now (column_rows (column_of_runs array.now))) }
+        bit) (S.bits selected.old))) }
+    ensures rows { IfOk result (λ parts. run_rows (ends_of parts.0) (rows parts.1) 0 (count_by (λ bit. bit)
+        (S.bits selected.old)) ≡ filter_rows (S.bits selected.old) (column_rows (column_of_runs array.now))) }
     ensures dtype { IfOk result (λ parts. dtype_of parts.1 ≡ column_dtype array.now.values) }
-    ensures form { IfOk result (λ parts. AreSelectedRuns array.now bits.now (runs_of (OfLeaf (OfNumbers parts.0))
-        (column_of parts.1) 0 (count_by (λ bit. bit) bits.now))) }
-    ensures filled { IfOk result (λ parts. AllHaveRows (ends_of parts.0) 0 (count_by (λ bit. bit) bits.now)) }
+    ensures form { IfOk result (λ parts. AreSelectedRuns array.now (S.bits selected.old)
+        (runs_of (OfLeaf (OfNumbers parts.0)) (column_of parts.1) 0 (count_by (λ bit. bit)
+        (S.bits selected.old)))) }
+    ensures filled { IfOk result (λ parts. AllHaveRows (ends_of parts.0) 0 (count_by (λ bit. bit)
+        (S.bits selected.old))) }
 {
     let ends = match array.ends() {
         ArrayRef::Primitive(plain) => plain.values(),
         _ => unreachable!(),
     };
-    let (kept_ends, places) = filter_ends(alloc, ends, array.offset(), array.len(), bits)?;
+    let (kept_ends, places) = filter_ends(alloc, ends, array.offset(), array.len(), selected)?;
     let values = values_at(alloc, array.values(), places.as_slice());
     drop(places);
     match values {
@@ -111,21 +118,25 @@ fn kept_parts<A: Allocator + Copy>(
 }
 
 // The runs with a selected row, as they are.
-fn kept_column<A: Allocator + Copy>(
+fn kept_column<S: Ranked, A: Allocator + Copy>(
     alloc: A,
     array: &RunEndArray<A>,
-    bits: &BitBuffer<A>,
+    selected: &mut S,
+    count: usize,
 ) -> VortexResult<RunEndArray<A>>
-    requires masked { length bits.now ≡ array.now.count }
+    requires masked { length (S.bits selected.old) ≡ array.now.count }
+    requires ranked { S.is_ranked selected.old }
+    requires first { S.passed selected.old ≡ 0 }
+    requires counted { count ≡ count_by (λ bit. bit) (S.bits selected.old) }
     ensures only { IsOkUnless result VortexError.OutOfMemory }
     ensures rows { IfOk result (λ kept. column_rows (column_of_runs kept) ≡
-        filter_rows bits.now (column_rows (column_of_runs array.now))) }
+        filter_rows (S.bits selected.old) (column_rows (column_of_runs array.now))) }
     ensures dtype { IfOk result (λ kept. column_dtype kept.values ≡ column_dtype array.now.values) }
-    ensures form { IfOk result (λ kept. AreSelectedRuns array.now bits.now kept) }
+    ensures form { IfOk result (λ kept. AreSelectedRuns array.now (S.bits selected.old) kept) }
 {
-    let (ends, values) = kept_parts(alloc, array, bits)?;
+    let (ends, values) = kept_parts(alloc, array, selected)?;
     let kept_ends = ArrayRef::Primitive(ends);
-    Ok(RunEnd::new_unchecked(kept_ends, values, 0, bits.true_count()))
+    Ok(RunEnd::new_unchecked(kept_ends, values, 0, count))
 }
 
 // The numbers of a flat column of integers.
@@ -141,22 +152,26 @@ fn numbers_in<A: Allocator + Copy>(values: ArrayRef<A>) -> PrimitiveArray<A>
 }
 
 // The runs with a selected row, of integers and in minimal form: runs that a dropped one divided may be equal now.
-fn least_kept<A: Allocator + Copy>(
+fn least_kept<S: Ranked, A: Allocator + Copy>(
     alloc: A,
     array: &RunEndArray<A>,
-    bits: &BitBuffer<A>,
+    selected: &mut S,
+    count: usize,
 ) -> VortexResult<RunEndArray<A>>
-    requires masked { length bits.now ≡ array.now.count }
+    requires masked { length (S.bits selected.old) ≡ array.now.count }
+    requires ranked { S.is_ranked selected.old }
+    requires first { S.passed selected.old ≡ 0 }
+    requires counted { count ≡ count_by (λ bit. bit) (S.bits selected.old) }
     requires numbers { is_numbers (column_dtype array.now.values) ≡ true }
     ensures only { IsOkUnless result VortexError.OutOfMemory }
     ensures rows { IfOk result (λ kept. column_rows (column_of_runs kept) ≡
-        filter_rows bits.now (column_rows (column_of_runs array.now))) }
+        filter_rows (S.bits selected.old) (column_rows (column_of_runs array.now))) }
     ensures dtype { IfOk result (λ kept. column_dtype kept.values ≡ column_dtype array.now.values) }
     ensures form { IfOk result (λ kept. AreMinimalRuns array.now.ends_type kept) }
 {
-    let (ends, values) = kept_parts(alloc, array, bits)?;
+    let (ends, values) = kept_parts(alloc, array, selected)?;
     let numbers = numbers_in(values);
-    minimal_runs(alloc, ends, numbers, 0, bits.true_count())
+    minimal_runs(alloc, ends, numbers, 0, count)
 }
 
 // The integers of the visible runs, with 0 under null.

@@ -13,6 +13,7 @@ ghost use Rattle.runend_column.specs.Computed.{IsComputedAs};
 ghost use Rattle.runend_select.specs.FilterForm.{HasNoRuns, IsFilterForm, IsSelectedForm, IsWholeForm, TakesDirectly};
 
 use crate::filtered_runs::{minimal_column, selected_runs};
+use crate::rank::BitRanks;
 use crate::taken_runs::taken_rows;
 use column_core::{BitBuffer, Mask, Validity, VortexError, VortexResult, is_number_type};
 use runend_array::{
@@ -58,8 +59,8 @@ pub fn filter<A: Allocator + Copy>(
     }
 }
 
-// Are so few rows selected, of so many runs, that they are taken one by one?
-fn takes_directly(selected: usize, runs: usize, thresholds: Thresholds) -> bool
+/// Returns whether so few rows are selected, of so many runs, that they are taken one by one.
+pub(crate) fn takes_directly(selected: usize, runs: usize, thresholds: Thresholds) -> bool
     ensures { IsTrue result ↔ TakesDirectly selected runs thresholds }
 {
     if selected < thresholds.min_run_filter_rows {
@@ -108,8 +109,10 @@ fn filter_bits<A: Allocator + Copy>(
         let taken = taken_directly(array, bits, ctx)?;
         return taken.into_array(alloc);
     }
-    let kept = selected_runs(alloc, array, bits)?;
-    ArrayRef::of_runs(alloc, kept)
+    let mut selected = BitRanks::of(alloc, bits)?;
+    let kept = selected_runs(alloc, array, &mut selected, bits.true_count());
+    drop(selected);
+    ArrayRef::of_runs(alloc, kept?)
 }
 
 // A copy of the column in its form, whose buffers are shared.
@@ -125,8 +128,8 @@ fn unchanged<A: Allocator + Copy>(
     ArrayRef::of_runs(*ctx.allocator(), copy)
 }
 
-// All rows: of integers in minimal form, of other types unchanged.
-fn all_rows<A: Allocator + Copy>(
+/// Returns all rows: of integers in minimal form, of other types unchanged. Refused only as `OutOfMemory`.
+pub(crate) fn all_rows<A: Allocator + Copy>(
     array: &RunEndArray<A>,
     ctx: &mut ExecutionCtx<A>,
 ) -> VortexResult<ArrayRef<A>>
@@ -154,8 +157,8 @@ fn no_values<A: Allocator + Copy>(alloc: A, values: &ArrayRef<A>) -> VortexResul
     none.into_array(alloc)
 }
 
-// No rows of the column.
-fn without_rows<A: Allocator + Copy>(
+/// Returns no rows of the column. Refused only as `OutOfMemory`.
+pub(crate) fn without_rows<A: Allocator + Copy>(
     array: &RunEndArray<A>,
     ctx: &mut ExecutionCtx<A>,
 ) -> VortexResult<ArrayRef<A>>

@@ -2,15 +2,45 @@
 ghost use Rattle.std.specs.Prelude.{◌≡◌, ◌-◌, ◌*◌, ◌/◌, ◌^◌, ◌<◌, ◌≤◌, IfOk, IsOkUnless, count_by, length, take};
 ghost use Rattle.runend_select.specs.WordRanks.{AreWordRanks};
 
+use crate::ranked::Ranked;
 use column_core::{BitBuffer, VortexError, VortexResult};
 use std::alloc::Allocator;
 
-/// Counts how many of the bits before each word of 64 are true, for the word of any place up to their end. Refused only
-/// as `OutOfMemory`.
-pub(crate) fn word_ranks<A: Allocator + Copy>(
-    alloc: A,
-    bits: &BitBuffer<A>,
-) -> VortexResult<Vec<usize, A>>
+/// Selects the rows at which bits are true, and counts them by the ranks of words.
+#[derive(Drop)]
+pub(crate) struct BitRanks<'a, A: Allocator> {
+    bits: &'a BitBuffer<A>,
+    ranks: Vec<usize, A>,
+}
+
+impl<'a, A: Allocator + Copy> BitRanks<'a, A> {
+    /// Counts the true bits before each word. Refused only as `OutOfMemory`.
+    pub(crate) fn of(alloc: A, bits: &'a BitBuffer<A>) -> VortexResult<BitRanks<'a, A>>
+        ensures only { IsOkUnless result VortexError.OutOfMemory }
+        ensures bits { IfOk result (λ made. made.bits.now ≡ bits.now) }
+        ensures ranked { IfOk result (λ made. AreWordRanks made.bits.now made.ranks.items) }
+    {
+        let ranks = word_ranks(alloc, bits)?;
+        Ok(BitRanks { bits, ranks })
+    }
+}
+
+impl<'a, A: Allocator + Copy> Ranked for BitRanks<'a, A> {
+    ghost bits = { λ s. s.bits.now };
+
+    ghost is_ranked = { λ s. AreWordRanks s.bits.now s.ranks.items };
+
+    ghost passed = { λ s. 0 };
+
+    #[inline(always)]
+    fn rank(&mut self, place: usize) -> usize {
+        rank_of(self.bits, self.ranks.as_slice(), place)
+    }
+}
+
+// Counts how many of the bits before each word of 64 are true, for the word of any place up to their end. Refused only
+// as `OutOfMemory`.
+fn word_ranks<A: Allocator + Copy>(alloc: A, bits: &BitBuffer<A>) -> VortexResult<Vec<usize, A>>
     ensures only { IsOkUnless result VortexError.OutOfMemory }
     ensures ranks { IfOk result (λ ranks. AreWordRanks bits.now ranks.items) }
 {
@@ -26,9 +56,9 @@ pub(crate) fn word_ranks<A: Allocator + Copy>(
     Ok(ranks)
 }
 
-/// Returns how many of the bits before `place` are true, by the ranks of their words.
+// Returns how many of the bits before `place` are true, by the ranks of their words.
 #[inline(always)]
-pub(crate) fn rank_of<A: Allocator>(bits: &BitBuffer<A>, ranks: &[usize], place: usize) -> usize
+fn rank_of<A: Allocator>(bits: &BitBuffer<A>, ranks: &[usize], place: usize) -> usize
     requires within { place ≤ length bits.now }
     requires ranks { AreWordRanks bits.now ranks.now }
     ensures { result ≡ count_by (λ bit. bit) (take place bits.now) }

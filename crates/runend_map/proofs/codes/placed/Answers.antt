@@ -1,53 +1,30 @@
-use Rattle.std.proofs.Common.{◌∙◌, ap}
-use Rattle.runend_array.specs.Column.{column_dtype, column_rows}
-use Rattle.runend_column.proofs.PassedOn.{no_value, only_error}
+use Rattle.std.proofs.Common.{◌∙◌, ap, length, subst, sym}
+use Rattle.std.specs.Prelude.{option_map}
+use Rattle.std.proofs.lemmas.List.{length-map}
+use Rattle.column_core.specs.Leaf.{OfNumbers, OfTruths, leaf_rows}
+use Rattle.column_core.specs.Value.{Single}
+use Rattle.runend_array.specs.Array.{column_of, dtype_of, rows}
+use Rattle.runend_array.specs.Encoding.{IsComputedFlat}
+use Rattle.runend_map.proofs.KeptRows.{if_ok}
+use Rattle.runend_map.proofs.TakenForms.{others_flat}
 use Rattle.runend_map.proofs.codes.placed.Goals as goal
 
-pub over_runs-requires : goal.over_runs-requires
-over_runs-requires g c = record { paired = c.requires.paired; computed = c.requires.computed }
+pub with_minimal_runs-requires : goal.with_minimal_runs-requires
+with_minimal_runs-requires g c =
+    let numbers = c.in-Primitive.numbers in
+    record {
+      paired = sym (length-map (leaf_rows (OfNumbers numbers)) (option_map Single)) ∙ sym (ap (λ taken. length (rows taken)) c.in-Primitive.is) ∙ c.requires.paired;
+      computed = rw c.in-Primitive.is at c.requires.computed;
+    }
 
-pub shown_rows-requires : goal.shown_rows-requires
-shown_rows-requires g c = record { paired = c.requires.paired }
+pub over_visible_runs-requires : goal.over_visible_runs-requires
+over_visible_runs-requires g c =
+    let truths = c.in-Bool.truths in
+    record {
+      paired = sym (length-map (leaf_rows (OfTruths truths)) (option_map Single)) ∙ sym (ap (λ taken. length (rows taken)) c.in-Bool.is) ∙ c.requires.paired;
+      computed = rw c.in-Bool.is at c.requires.computed;
+    }
 
-pub returns-in_ok-part-clause-rows : goal.returns-in_ok-part-clause-rows
-returns-in_ok-part-clause-rows g c = c.in_ok-part.ensures.rows
-
-pub returns-in_ok-part-clause-dtype : goal.returns-in_ok-part-clause-dtype
-returns-in_ok-part-clause-dtype g c = c.in_ok-part.ensures.dtype
-
-pub returns-in_ok-part-clause-form : goal.returns-in_ok-part-clause-form
-returns-in_ok-part-clause-form g c = rw c.if-kept.true c.in_ok-part.ensures.form
-
-pub returns-in_err-part-clause-only : goal.returns-in_err-part-clause-only
-returns-in_err-part-clause-only g c = only_error c.from_residual.result c.in_err-part.field-0.0 _ c.from_residual.ensures.1 c.in_err-part.ensures.only
-
-pub returns-in_err-part-clause-rows : goal.returns-in_err-part-clause-rows
-returns-in_err-part-clause-rows g c = no_value _ c.from_residual.result c.from_residual.ensures.0
-
-pub returns-in_err-part-clause-dtype : goal.returns-in_err-part-clause-dtype
-returns-in_err-part-clause-dtype g c = no_value _ c.from_residual.result c.from_residual.ensures.0
-
-pub returns-in_err-part-clause-form : goal.returns-in_err-part-clause-form
-returns-in_err-part-clause-form g c = no_value _ c.from_residual.result c.from_residual.ensures.0
-
-pub returns-in_ok-flat-clause-rows : goal.returns-in_ok-flat-clause-rows
-returns-in_ok-flat-clause-rows g c = ap column_rows c.array_of.ensures ∙ c.in_ok-flat.ensures.rows
-
-pub returns-in_ok-flat-clause-dtype : goal.returns-in_ok-flat-clause-dtype
-returns-in_ok-flat-clause-dtype g c = ap column_dtype c.array_of.ensures ∙ c.in_ok-flat.ensures.dtype
-
-pub returns-in_ok-flat-clause-form : goal.returns-in_ok-flat-clause-form
-returns-in_ok-flat-clause-form g c = rw (c.if-kept.false, c.array_of.ensures) c.in_ok-flat.ensures.computed
-
-pub returns-in_err-flat-clause-only : goal.returns-in_err-flat-clause-only
-returns-in_err-flat-clause-only g c =
-    only_error c.from_residual-in_err-flat.result c.in_err-flat.field-0.0 _ c.from_residual-in_err-flat.ensures.1 c.in_err-flat.ensures.only
-
-pub returns-in_err-flat-clause-rows : goal.returns-in_err-flat-clause-rows
-returns-in_err-flat-clause-rows g c = no_value _ c.from_residual-in_err-flat.result c.from_residual-in_err-flat.ensures.0
-
-pub returns-in_err-flat-clause-dtype : goal.returns-in_err-flat-clause-dtype
-returns-in_err-flat-clause-dtype g c = no_value _ c.from_residual-in_err-flat.result c.from_residual-in_err-flat.ensures.0
-
-pub returns-in_err-flat-clause-form : goal.returns-in_err-flat-clause-form
-returns-in_err-flat-clause-form g c = no_value _ c.from_residual-in_err-flat.result c.from_residual-in_err-flat.ensures.0
+pub returns-in_default-clause-form : goal.returns-in_default-clause-form
+returns-in_default-clause-form g c =
+    if_ok c.shown_values.result (λ part flat. others_flat c.args.taken c.args.codes.now (column_of part) c.in_default.not-Primitive c.in_default.not-Bool c.requires.computed flat) c.shown_values.ensures.flat

@@ -34,7 +34,7 @@ filter_stored-requires-clause-last g c =
 pub returns-in-U8-match_each_unsigned-clause-kept : goal.returns-in-U8-match_each_unsigned-clause-kept
 returns-in-U8-match_each_unsigned-clause-kept g c =
     let same = ap (map pos) c.as_slice-stored.ensures.value ∙ sym (ap numbers c.in-U8-match_each_unsigned.is) in
-    subst (λ (ends : List ℤ). IfOk c.filter_stored.result (λ parts. AreKeptAt (map unsigned_abs ends) c.args.offset c.args.mask.now parts.1.items (ends_of parts.0))) same c.filter_stored.ensures.kept
+    subst (λ (ends : List ℤ). IfOk c.filter_stored.result (λ parts. AreKeptAt (map unsigned_abs ends) c.args.offset (g.S.Ranked.bits c.args.selected.now) parts.1.items (ends_of parts.0))) same c.filter_stored.ensures.kept
 
 pub returns-in-U8-match_each_unsigned-clause-typed : goal.returns-in-U8-match_each_unsigned-clause-typed
 returns-in-U8-match_each_unsigned-clause-typed g c =
@@ -53,7 +53,7 @@ filter_stored-requires-2-clause-last g c =
 pub returns-in-U16-match_each_unsigned-clause-kept : goal.returns-in-U16-match_each_unsigned-clause-kept
 returns-in-U16-match_each_unsigned-clause-kept g c =
     let same = ap (map pos) c.as_slice-stored-2.ensures.value ∙ sym (ap numbers c.in-U16-match_each_unsigned.is) in
-    subst (λ (ends : List ℤ). IfOk c.filter_stored-2.result (λ parts. AreKeptAt (map unsigned_abs ends) c.args.offset c.args.mask.now parts.1.items (ends_of parts.0))) same c.filter_stored-2.ensures.kept
+    subst (λ (ends : List ℤ). IfOk c.filter_stored-2.result (λ parts. AreKeptAt (map unsigned_abs ends) c.args.offset (g.S.Ranked.bits c.args.selected.now) parts.1.items (ends_of parts.0))) same c.filter_stored-2.ensures.kept
 
 pub returns-in-U16-match_each_unsigned-clause-typed : goal.returns-in-U16-match_each_unsigned-clause-typed
 returns-in-U16-match_each_unsigned-clause-typed g c =
@@ -72,7 +72,7 @@ filter_stored-requires-3-clause-last g c =
 pub returns-in-U32-match_each_unsigned-clause-kept : goal.returns-in-U32-match_each_unsigned-clause-kept
 returns-in-U32-match_each_unsigned-clause-kept g c =
     let same = ap (map pos) c.as_slice-stored-3.ensures.value ∙ sym (ap numbers c.in-U32-match_each_unsigned.is) in
-    subst (λ (ends : List ℤ). IfOk c.filter_stored-3.result (λ parts. AreKeptAt (map unsigned_abs ends) c.args.offset c.args.mask.now parts.1.items (ends_of parts.0))) same c.filter_stored-3.ensures.kept
+    subst (λ (ends : List ℤ). IfOk c.filter_stored-3.result (λ parts. AreKeptAt (map unsigned_abs ends) c.args.offset (g.S.Ranked.bits c.args.selected.now) parts.1.items (ends_of parts.0))) same c.filter_stored-3.ensures.kept
 
 pub returns-in-U32-match_each_unsigned-clause-typed : goal.returns-in-U32-match_each_unsigned-clause-typed
 returns-in-U32-match_each_unsigned-clause-typed g c =
@@ -91,7 +91,7 @@ filter_stored-requires-4-clause-last g c =
 pub returns-in-U64-match_each_unsigned-clause-kept : goal.returns-in-U64-match_each_unsigned-clause-kept
 returns-in-U64-match_each_unsigned-clause-kept g c =
     let same = ap (map pos) c.as_slice-stored-4.ensures.value ∙ sym (ap numbers c.in-U64-match_each_unsigned.is) in
-    subst (λ (ends : List ℤ). IfOk c.filter_stored-4.result (λ parts. AreKeptAt (map unsigned_abs ends) c.args.offset c.args.mask.now parts.1.items (ends_of parts.0))) same c.filter_stored-4.ensures.kept
+    subst (λ (ends : List ℤ). IfOk c.filter_stored-4.result (λ parts. AreKeptAt (map unsigned_abs ends) c.args.offset (g.S.Ranked.bits c.args.selected.now) parts.1.items (ends_of parts.0))) same c.filter_stored-4.ensures.kept
 
 pub returns-in-U64-match_each_unsigned-clause-typed : goal.returns-in-U64-match_each_unsigned-clause-typed
 returns-in-U64-match_each_unsigned-clause-typed g c =
@@ -132,3 +132,27 @@ returns-in-U64-match_each_unsigned-clause-only g c = c.filter_stored-4.ensures.o
 
 pub returns-in-U64-match_each_unsigned-clause-required : goal.returns-in-U64-match_each_unsigned-clause-required
 returns-in-U64-match_each_unsigned-clause-required g c = c.filter_stored-4.ensures.required
+
+pub filter_stored-requires-clause-ranked : goal.filter_stored-requires-clause-ranked
+filter_stored-requires-clause-ranked g c = c.requires.ranked
+
+pub filter_stored-requires-clause-first : goal.filter_stored-requires-clause-first
+filter_stored-requires-clause-first g c = c.requires.first
+
+pub filter_stored-requires-2-clause-ranked : goal.filter_stored-requires-2-clause-ranked
+filter_stored-requires-2-clause-ranked g c = c.requires.ranked
+
+pub filter_stored-requires-2-clause-first : goal.filter_stored-requires-2-clause-first
+filter_stored-requires-2-clause-first g c = c.requires.first
+
+pub filter_stored-requires-3-clause-ranked : goal.filter_stored-requires-3-clause-ranked
+filter_stored-requires-3-clause-ranked g c = c.requires.ranked
+
+pub filter_stored-requires-3-clause-first : goal.filter_stored-requires-3-clause-first
+filter_stored-requires-3-clause-first g c = c.requires.first
+
+pub filter_stored-requires-4-clause-ranked : goal.filter_stored-requires-4-clause-ranked
+filter_stored-requires-4-clause-ranked g c = c.requires.ranked
+
+pub filter_stored-requires-4-clause-first : goal.filter_stored-requires-4-clause-first
+filter_stored-requires-4-clause-first g c = c.requires.first

@@ -10,11 +10,11 @@ use Rattle.runend_select.proofs.filtered_runs.kept_column.Goals as goal
 
 pub new_unchecked-requires : goal.new_unchecked-requires
 new_unchecked-requires g c =
-    subst (λ (n : ℕ). AreParts (OfLeaf (OfNumbers c.in_ok-ends.ends)) (column_of c.in_ok-ends.values) 0 n) (sym c.true_count.ensures) c.in_ok-ends.ensures.parts
+    subst (λ (n : ℕ). AreParts (OfLeaf (OfNumbers c.in_ok-ends.ends)) (column_of c.in_ok-ends.values) 0 n) (sym c.requires.counted) c.in_ok-ends.ensures.parts
 
 pub returns-clause-rows : goal.returns-clause-rows
 returns-clause-rows g c =
-    rw c.new_unchecked.ensures (ap (run_rows (ends_of c.in_ok-ends.ends) (column_rows (column_of c.in_ok-ends.values)) 0) c.true_count.ensures ∙ c.in_ok-ends.ensures.rows)
+    rw c.new_unchecked.ensures (ap (run_rows (ends_of c.in_ok-ends.ends) (column_rows (column_of c.in_ok-ends.values)) 0) c.requires.counted ∙ c.in_ok-ends.ensures.rows)
 
 pub returns-clause-dtype : goal.returns-clause-dtype
 returns-clause-dtype g c =
@@ -22,8 +22,8 @@ returns-clause-dtype g c =
 
 pub returns-clause-form : goal.returns-clause-form
 returns-clause-form g c =
-    let made = c.new_unchecked.ensures ∙ ap (runs_of (OfLeaf (OfNumbers c.in_ok-ends.ends)) (column_of c.in_ok-ends.values) 0) c.true_count.ensures in
-    subst (λ (part : Runs). AreSelectedRuns c.args.array.now c.args.bits.now part) (sym made) c.in_ok-ends.ensures.form
+    let made = c.new_unchecked.ensures ∙ ap (runs_of (OfLeaf (OfNumbers c.in_ok-ends.ends)) (column_of c.in_ok-ends.values) 0) c.requires.counted in
+    subst (λ (part : Runs). AreSelectedRuns c.args.array.now (g.S.Ranked.bits c.args.selected.now) part) (sym made) c.in_ok-ends.ensures.form
 
 pub returns-in_err-ends-clause-only : goal.returns-in_err-ends-clause-only
 returns-in_err-ends-clause-only g c =

@@ -22,7 +22,7 @@ values_at-values-requires g c =
 pub returns-in-Ok-clause-parts : goal.returns-in-Ok-clause-parts
 returns-in-Ok-clause-parts g c =
     let array = c.args.array.now in
-    let bits = c.args.bits.now in
+    let bits = (g.S.Ranked.bits c.args.selected.now) in
     let found = c.in_ok-kept_ends.ensures.kept in
     let kept = found.kept in
     let kept_ends = c.in_ok-kept_ends.kept_ends in
@@ -36,7 +36,7 @@ returns-in-Ok-clause-parts g c =
 pub returns-in-Ok-clause-rows : goal.returns-in-Ok-clause-rows
 returns-in-Ok-clause-rows g c =
     let array = c.args.array.now in
-    let bits = c.args.bits.now in
+    let bits = (g.S.Ranked.bits c.args.selected.now) in
     let found = c.in_ok-kept_ends.ensures.kept in
     let kept = found.kept in
     let kept_ends = c.in_ok-kept_ends.kept_ends in
@@ -48,7 +48,7 @@ returns-in-Ok-clause-rows g c =
 pub returns-in-Ok-clause-filled : goal.returns-in-Ok-clause-filled
 returns-in-Ok-clause-filled g c =
     let array = c.args.array.now in
-    let bits = c.args.bits.now in
+    let bits = (g.S.Ranked.bits c.args.selected.now) in
     let found = c.in_ok-kept_ends.ensures.kept in
     let kept = found.kept in
     let kept_ends = c.in_ok-kept_ends.kept_ends in
@@ -64,7 +64,7 @@ returns-in-Ok-clause-dtype g c =
 pub returns-in-Ok-clause-form : goal.returns-in-Ok-clause-form
 returns-in-Ok-clause-form g c =
     let array = c.args.array.now in
-    let bits = c.args.bits.now in
+    let bits = (g.S.Ranked.bits c.args.selected.now) in
     let found = c.in_ok-kept_ends.ensures.kept in
     let kept = found.kept in
     let kept_ends = c.in_ok-kept_ends.kept_ends in

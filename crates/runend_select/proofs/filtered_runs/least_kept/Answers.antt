@@ -32,10 +32,10 @@ minimal_runs-requires g c =
     let parts = c.in_ok-ends.ensures.parts in
     record {
       plain = parts.plain;
-      window = subst (λ (n : ℕ). IsWindow (ends_of ends) 0 n) (sym c.true_count.ensures) parts.runs.window;
+      window = subst (λ (n : ℕ). IsWindow (ends_of ends) 0 n) (sym c.requires.counted) parts.runs.window;
       paired = sym (length-map (primitive_rows numbers) (option_map (λ (v : FlatValue). Single v))) ∙ ap (λ (column : Column). length (column_rows column)) (sym c.numbers_in-numbers.ensures)
           ∙ parts.runs.paired ∙ length_ends_of ends;
-      shown = subst (λ (n : ℕ). AllHaveRows (ends_of ends) 0 n) (sym c.true_count.ensures) c.in_ok-ends.ensures.filled;
+      shown = subst (λ (n : ℕ). AllHaveRows (ends_of ends) 0 n) (sym c.requires.counted) c.in_ok-ends.ensures.filled;
       computed = subst IsComputedFlat c.numbers_in-numbers.ensures c.in_ok-ends.ensures.form.flat;
     }
 
@@ -48,7 +48,7 @@ returns-clause-rows g c =
     let ends = ends_of c.in_ok-ends.ends in
     let values = sym (ap column_rows c.numbers_in-numbers.ensures) in
     ok_then c.minimal_runs.result _ _
-    (λ least is. is ∙ ap (λ (rows : List (Option Value)). run_rows ends rows 0 c.true_count.result) values ∙ ap (run_rows ends (column_rows (column_of c.in_ok-ends.values)) 0) c.true_count.ensures
+    (λ least is. is ∙ ap (λ (rows : List (Option Value)). run_rows ends rows 0 c.args.count) values ∙ ap (run_rows ends (column_rows (column_of c.in_ok-ends.values)) 0) c.requires.counted
     ∙ c.in_ok-ends.ensures.rows) c.minimal_runs.ensures.rows
 
 pub returns-clause-dtype : goal.returns-clause-dtype

@@ -8,7 +8,7 @@ use Rattle.runend_select.proofs.filtered_runs.selected_runs.Goals as goal
 pub least_kept-requires : goal.least_kept-requires
 least_kept-requires g c =
     let numbers : is_numbers (column_dtype c.args.array.now.values) ≡ true = ap is_numbers (sym c.dtype.ensures) ∙ sym c.is_number_type.ensures ∙ c.if-is_number_type.true in
-    record { masked = c.requires.masked; numbers = numbers }
+    record { masked = c.requires.masked; ranked = c.requires.ranked; first = c.requires.first; counted = c.requires.counted; numbers = numbers }
 
 pub returns-then-is_number_type-clause-only : goal.returns-then-is_number_type-clause-only
 returns-then-is_number_type-clause-only g c =
@@ -25,11 +25,11 @@ returns-then-is_number_type-clause-dtype g c =
 pub returns-then-is_number_type-clause-form : goal.returns-then-is_number_type-clause-form
 returns-then-is_number_type-clause-form g c =
     let numbers : is_numbers (column_dtype c.args.array.now.values) ≡ true = ap is_numbers (sym c.dtype.ensures) ∙ sym c.is_number_type.ensures ∙ c.if-is_number_type.true in
-    ok_then c.least_kept.result _ _ (λ kept least. subst (λ (b : Bool). AreLeftRuns b c.args.array.now c.args.bits.now kept) (sym numbers) least) c.least_kept.ensures.form
+    ok_then c.least_kept.result _ _ (λ kept least. subst (λ (b : Bool). AreLeftRuns b c.args.array.now (g.S.Ranked.bits c.args.selected.now) kept) (sym numbers) least) c.least_kept.ensures.form
 
 pub kept_column-requires : goal.kept_column-requires
 kept_column-requires g c =
-    record { masked = c.requires.masked }
+    record { masked = c.requires.masked; ranked = c.requires.ranked; first = c.requires.first; counted = c.requires.counted }
 
 pub returns-clause-only : goal.returns-clause-only
 returns-clause-only g c =
@@ -46,4 +46,4 @@ returns-clause-dtype g c =
 pub returns-clause-form : goal.returns-clause-form
 returns-clause-form g c =
     let numbers : is_numbers (column_dtype c.args.array.now.values) ≡ false = ap is_numbers (sym c.dtype.ensures) ∙ sym c.is_number_type.ensures ∙ c.if-is_number_type.false in
-    ok_then c.kept_column.result _ _ (λ kept form. subst (λ (b : Bool). AreLeftRuns b c.args.array.now c.args.bits.now kept) (sym numbers) form) c.kept_column.ensures.form
+    ok_then c.kept_column.result _ _ (λ kept form. subst (λ (b : Bool). AreLeftRuns b c.args.array.now (g.S.Ranked.bits c.args.selected.now) kept) (sym numbers) form) c.kept_column.ensures.form

@@ -1,9 +1,11 @@
-use Rattle.std.proofs.Common.{length, subst, sym, ap, ◌∙◌}
+use Rattle.std.proofs.Common.{List, Bool, length, subst, sym, ap, ◌∙◌}
 use Rattle.std.specs.Prelude.{count_by}
+use Rattle.column_core.specs.Kinds.{is_numbers}
+use Rattle.column_ops.specs.Filter.{filter_rows}
 use Rattle.runend_array.specs.Canonical.{canonical_column}
-use Rattle.runend_array.specs.Column.{Column, column_dtype, column_rows}
+use Rattle.runend_array.specs.Column.{Column, column_dtype, column_of_runs, column_rows}
 use Rattle.runend_array.specs.SessionForm.{SessionForm}
-use Rattle.runend_select.specs.FilterForm.{IsSelectedForm, TakesDirectly}
+use Rattle.runend_select.specs.FilterForm.{AreLeftRuns, IsSelectedForm, TakesDirectly}
 use Rattle.runend_select.proofs.Forms.{flat-selected, takes_directly-same}
 use Rattle.runend_column.proofs.ComputedRows.{ok_then}
 use Rattle.runend_column.proofs.PassedOn.{no_value, only_error}
@@ -60,7 +62,10 @@ pub returns-clause-only : goal.returns-clause-only
 returns-clause-only g c = c.of_runs.ensures.only
 
 pub returns-clause-rows : goal.returns-clause-rows
-returns-clause-rows g c = ok_then c.of_runs.result _ _ (λ boxed same. ap column_rows same ∙ c.in_ok-kept.ensures.rows) c.of_runs.ensures.form
+returns-clause-rows g c =
+    ok_then c.of_runs.result _ _
+    (λ boxed same. ap column_rows same ∙ c.in_ok-kept.ensures.rows ∙ ap (λ (bits : List Bool). filter_rows bits (column_rows (column_of_runs c.args.array.now))) c.in_ok-selected.ensures.bits)
+    c.of_runs.ensures.form
 
 pub returns-clause-dtype : goal.returns-clause-dtype
 returns-clause-dtype g c = ok_then c.of_runs.result _ _ (λ boxed same. ap column_dtype same ∙ c.in_ok-kept.ensures.dtype) c.of_runs.ensures.form
@@ -75,4 +80,5 @@ returns-clause-form g c =
     let same = takes_directly-same c.true_count.result c.len-runs.result c.thresholds-thresholds.result (count_by (λ bit. bit) bits) (length array.ends) own c.true_count.ensures runs thresholds in
     let directly = TakesDirectly (count_by (λ bit. bit) bits) (length array.ends) own in
     let not : ¬ directly = λ few. let yes = c.takes_directly.ensures.1 (same.1 few) in let no = c.if-takes_directly.false in cc in
-    ok_then c.of_runs.result _ _ (λ boxed is. subst (λ (column : Column). IsSelectedForm directly array bits column) (sym is) (not, c.in_ok-kept.ensures.form)) c.of_runs.ensures.form
+    let left = subst (λ (b : List Bool). AreLeftRuns (is_numbers (column_dtype array.values)) array b c.in_ok-kept.field-0) c.in_ok-selected.ensures.bits c.in_ok-kept.ensures.form in
+    ok_then c.of_runs.result _ _ (λ boxed is. subst (λ (column : Column). IsSelectedForm directly array bits column) (sym is) (not, left)) c.of_runs.ensures.form
