@@ -1,6 +1,6 @@
 -- Rows that are cast, as runs show them.
 use Rattle.std.proofs.Common.{◌≡◌, ◌∙◌, ℕ, zero, suc, ℤ, inl, inr, List, [], ◌∷◌, Option, Some, None, true, length, map, get_or, refl, ap, sym}
-use Rattle.std.specs.Prelude.{Contains, IfErr, IsOkUnless, Result, Ok, Err, slice_index_or}
+use Rattle.std.specs.Prelude.{Contains, IfErr, IfOk, IsOkUnless, Result, Ok, Err, slice_index_or}
 use Rattle.std.specs.List.{AllZip, range_with_len}
 use Rattle.column_base.specs.declared.dtype.DType.{DType}
 use Rattle.column_base.specs.declared.dtype.DType.TheVariants as column
@@ -37,6 +37,11 @@ shown_cast R ends values made count each =
 pub shown_rows : (rows : List (Option Value)) (ends : List ℕ) (values : List (Option Value)) (count : ℕ) → Covers rows ends values 0 (length rows) → length rows ≡ count → run_rows ends values 0 count ≡ rows
 shown_rows rows ends values count cover counted =
     ap (run_rows ends values 0) (sym counted) ∙ sym ((Covers_iff_run_rows rows ends values 0 (length rows) cover.window cover.paired).0 cover)
+
+-- what holds of the value of an answer, by what else holds of it
+pub if_ok : {T E : Type 0} {P Q : T → Type 0} (result : Result T E) → ((value : T) → P value → Q value) → IfOk result P → IfOk result Q
+if_ok (Ok value) f p = f value p
+if_ok (Err error) f p = tt
 
 -- refusals
 pub if_err : {T E : Type 0} {P Q : E → Type 0} (result : Result T E) → ((error : E) → P error → Q error) → IfErr result P → IfErr result Q

@@ -97,28 +97,6 @@ module _ {X : Type 0} (rows : List X) (ends : List ℕ) (values : List X) (cover
         (at.0, there, get_or_from_slice_get rows at.0 x x is)),
   )
 
-  -- and what holds of each row holds of each value
-  pub same_all : (P : X → Type 0) → All P rows ↔ All P values
-  same_all P = (
-    (λ h k e within.
-        let at = row_of_value k within in
-        let there = at.1 in
-        let is = sym at.2 ∙ slice_get-get_or rows at.0 e there in
-        subst P (sym (get_or_from_slice_get values k (get_or rows at.0 e) e is)) (h at.0 e there)),
-    (λ h i e within.
-        let at = value_of_row i within in
-        let there = at.1 in
-        let is = at.2 ∙ slice_get-get_or values at.0 e there in
-        subst P (sym (get_or_from_slice_get rows i (get_or values at.0 e) e is)) (h at.0 e there)),
-  )
-
-  -- there are values where there are rows
-  pub same_some : (0 < length rows) ↔ (0 < length values)
-  same_some = (
-    (λ h. let at = value_of_row 0 h in let there = at.1 in omega arith),
-    (λ h. let at = row_of_value 0 h in let there = at.1 in omega arith),
-  )
-
 -- there is an item within a list
 some_there : {X : Type 0} (xs : List X) (k : ℕ) → k < length xs → ¬ (slice_get xs k ≡ None)
 some_there [] k within e = omega arith

@@ -1,5 +1,4 @@
 pub mod CoveredRows
-pub mod TestedRows
 pub mod RunSums
 pub mod CastLists
 pub mod Rounded

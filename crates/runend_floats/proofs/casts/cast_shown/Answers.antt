@@ -9,8 +9,7 @@ use Rattle.runend_encode.proofs.Starts.{length-single}
 use Rattle.runend_windows.specs.Ends.{ends_of}
 use Rattle.runend_windows.specs.Window.{run_rows}
 use Rattle.column_floats.specs.Casts.{Becomes, IsCastRow}
-use Rattle.runend_floats.proofs.CastLists.{only_memory, shown_cast}
-use Rattle.runend_floats.proofs.TestedRows.{if_ok}
+use Rattle.runend_floats.proofs.CastLists.{if_ok, only_memory, shown_cast}
 use Rattle.runend_floats.proofs.casts.cast_shown.Goals as goal
 
 pub encode_runs-parts-requires-clause-paired : goal.encode_runs-parts-requires-clause-paired
