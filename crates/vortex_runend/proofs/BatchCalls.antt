@@ -1,13 +1,13 @@
 -- What a call of a batch leaves, and why it is refused.
-use Rattle.std.proofs.Common.{◌≡◌, ◌∙◌, ◌<◌, ℕ, List, Option, None, Some, inl, inr, length, map, sym, ap, subst, get_or, arith}
+use Rattle.std.proofs.Common.{◌≡◌, ◌∙◌, ◌<◌, ℕ, List, Option, None, Some, length, map, sym, ap, subst, get_or, arith}
 use Rattle.std.specs.Prelude.{ℤ, Bool, IfErr, IsErrAnd, Result, Ok, Err}
+use Rattle.std.specs.Option.{option_or}
 use Rattle.std.proofs.lemmas.List.{length-map}
 use Rattle.std.proofs.lemmas.Option.{get_or_from_slice_get}
 use Rattle.column_base.specs.declared.dtype.DType.{DType}
 use Rattle.column_base.specs.declared.error.VortexError.{VortexError}
-use Rattle.column_core.specs.Refusal.{IsErrorFor, IsRefusedBy}
+use Rattle.column_base.specs.declared.error.VortexError.TheVariants.{OutOfMemory}
 use Rattle.column_core.specs.Value.{Value}
-use Rattle.column_ops.proofs.IndexPositions.{refused-passed_on}
 use Rattle.column_ops.specs.CompareFault.{compare_scalar_fault}
 use Rattle.column_ops.specs.Comparing.{answer_bit, answer_bits, compare_with, compared}
 use Rattle.column_ops.specs.Filter.{filter_fault}
@@ -17,7 +17,7 @@ use Rattle.runend_array.specs.Array.{column_of, dtype_of, rows}
 use Rattle.runend_array.specs.Column.{Column, column_dtype, column_rows}
 use Rattle.runend_array.specs.declared.array_ref.ArrayRef.{ArrayRef}
 use Rattle.runend_column.proofs.FilterFaults.{no_fault}
-use Rattle.vortex_runend.specs.Batches.{Batch, IsBatch, IsFilterByError, IsNamed, IsPlaceOf, row_count}
+use Rattle.vortex_runend.specs.Batches.{Batch, IsBatch, IsFilterByError, IsFirstErrorFor, IsNamed, IsPlaceOf, IsRefusedFirstBy, row_count}
 use Rattle.vortex_runend.specs.declared.batch.fault.BatchError.{BatchError}
 use Rattle.vortex_runend.specs.declared.batch.fault.BatchError.TheVariants.{Refused}
 use Rattle.vortex_runend.proofs.BatchNames.{mapped_at}
@@ -44,14 +44,22 @@ worked_batch {A} work depends typed names before olds kept news batch seen after
       dtypes = ap (λ (items : List (ArrayRef A)). map column_dtype (map column_of items)) after ∙ shown_forms column_dtype typed olds kept dtypes ∙ ap (map typed) seen;
     }
 
--- what the columns allow, and what they refuse, is so for the batch
-pub allowed_by_all : (fault : ℕ → Option VortexError) (columns : List Column) (before : Batch) → columns ≡ before.columns → fault (row_count columns) ≡ None → fault (row_count before.columns) ≡ None
-allowed_by_all fault columns before seen allowed = sym (ap (λ (c : List Column). fault (row_count c)) seen) ∙ allowed
+-- a fault of the arguments is reported
+pub told : (fault : Option VortexError) (error : VortexError) → fault ≡ Some error → IsFirstErrorFor fault error
+told fault error is = ap (λ (f : Option VortexError). option_or f (Some OutOfMemory)) is
 
-pub refused_by_all : {T : Type 0} (fault : ℕ → Option VortexError) (columns : List Column) (before : Batch) (error : VortexError) (result : Result T VortexError)
-    → columns ≡ before.columns → IsErrAnd result (λ passed. passed ≡ error) → IsErrorFor (fault (row_count columns)) error → IsRefusedBy (fault (row_count before.columns)) result
-refused_by_all fault columns before error result seen passed refused =
-    subst (λ (c : List Column). IsRefusedBy (fault (row_count c)) result) seen (refused-passed_on (fault (row_count columns)) error result passed refused)
+-- where there is none, memory is
+pub short : (fault : Option VortexError) (error : VortexError) → fault ≡ None → error ≡ OutOfMemory → IsFirstErrorFor fault error
+short fault error none is = ap (λ (f : Option VortexError). option_or f (Some OutOfMemory)) none ∙ ap Some (sym is)
+
+pub first_passed_on : {T : Type 0} (fault : Option VortexError) (error : VortexError) (result : Result T VortexError)
+    → fault ≡ None → IsErrAnd result (λ passed. passed ≡ error) → error ≡ OutOfMemory → IsRefusedFirstBy fault result
+first_passed_on fault error (Ok value) none passed is = absurd passed
+first_passed_on fault error (Err other) none passed is = short fault other none (passed ∙ is)
+
+-- what suits the batch suits its columns
+pub suits_all : (fault : ℕ → Option VortexError) (columns : List Column) (before : Batch) → columns ≡ before.columns → fault (row_count before.columns) ≡ None → fault (row_count columns) ≡ None
+suits_all fault columns before seen allowed = ap (λ (c : List Column). fault (row_count c)) seen ∙ allowed
 
 -- there are columns
 pub some_columns : {A : Type 0} (names : List (List ℕ)) (columns : List (ArrayRef A)) → IsBatch names (map column_of columns) → 0 < length columns
@@ -83,18 +91,13 @@ pub mask_fits : (bits : List Bool) (operator : CompareOperator) (column : List (
 mask_fits bits operator column value count same even =
     no_fault (length bits) count (ap length same ∙ length-map (compare_with operator column value) answer_bit ∙ length-map column (λ (row : Option Value). compared operator row value) ∙ even)
 
--- what a comparison refuses is refused by the filter
-pub refused_by_mask : {T : Type 0} (batch : Batch) (name : List ℕ) (dtype : DType) (column : Column) (error : VortexError) (result : Result T BatchError)
-    → IsErrAnd result (λ passed. passed ≡ Refused error) → IsNamed batch name column → IsErrorFor (compare_scalar_fault (column_dtype column) dtype) error → IfErr result (IsFilterByError batch name dtype)
-refused_by_mask batch name dtype column error (Ok value) passed named refused = tt
-refused_by_mask batch name dtype column error (Err other) passed named refused =
-    subst (λ (e : BatchError). IsFilterByError batch name dtype e) (sym passed) (column, named, refused)
+-- where the column of the name is compared with such values, and the mask has a bit for each row, only memory is refused
+pub refused_for_memory : {T : Type 0} (batch : Batch) (name : List ℕ) (dtype : DType) (column : Column) (error : VortexError) (result : Result T BatchError)
+    → IsErrAnd result (λ passed. passed ≡ Refused error) → IsNamed batch name column → compare_scalar_fault (column_dtype column) dtype ≡ None → error ≡ OutOfMemory → IfErr result (IsFilterByError batch name dtype)
+refused_for_memory batch name dtype column error (Ok value) passed named none is = tt
+refused_for_memory batch name dtype column error (Err other) passed named none is =
+    subst (λ (e : BatchError). IsFilterByError batch name dtype e) (sym passed) (column, named, short (compare_scalar_fault (column_dtype column) dtype) error none is)
 
--- where the mask has a bit for each row, a filter is refused only for memory
-pub refused_for_memory : {T : Type 0} (batch : Batch) (name : List ℕ) (dtype : DType) (column : Column) (error : VortexError) (fault : Option VortexError) (result : Result T BatchError)
-    → IsErrAnd result (λ passed. passed ≡ Refused error) → IsNamed batch name column → fault ≡ None → IsErrorFor fault error → IfErr result (IsFilterByError batch name dtype)
-refused_for_memory batch name dtype column error fault result passed named none refused =
-    refused_by_mask batch name dtype column error result passed named (elim refused [
-      | inl short ↦ inl short
-      | inr has ↦ let never : ◌≡◌ {A = Option VortexError} None (Some error) = sym none ∙ has in absurd (cc)
-    ])
+-- a first error without a fault
+pub short_of_first : (fault : Option VortexError) (error : VortexError) → fault ≡ None → IsFirstErrorFor fault error → error ≡ OutOfMemory
+short_of_first fault error none first = let is : ◌≡◌ {A = Option VortexError} (Some OutOfMemory) (Some error) = sym (ap (λ (f : Option VortexError). option_or f (Some OutOfMemory)) none) ∙ first in cc

@@ -1,11 +1,12 @@
 -- Columns worked on one by one: one column more, and what stays of a batch.
-use Rattle.std.proofs.Common.{◌≡◌, ◌∙◌, ◌+◌, ◌-◌, ◌<◌, ◌≤◌, ◌++◌, ℕ, zero, suc, List, [], ◌∷◌, Bool, true, false, Option, None, length, map, take, drop, refl, sym, ap, subst, get_or, min, arith}
-use Rattle.std.specs.Prelude.{All, IsErrAnd, Result, Ok, Err, slice_range}
+use Rattle.std.proofs.Common.{◌≡◌, ◌∙◌, ◌+◌, ◌-◌, ◌<◌, ◌≤◌, ◌++◌, ℕ, zero, suc, List, [], ◌∷◌, Bool, true, false, Option, None, Some, inl, inr, length, map, take, drop, refl, sym, ap, subst, get_or, min, arith}
+use Rattle.std.specs.Prelude.{All, IsErrAnd, IsOkUnless, Result, Ok, Err, slice_range}
 use Rattle.std.proofs.lemmas.Option.{get_or_from_slice_get}
 use Rattle.std.proofs.lemmas.List.{length-drop, length-map, length-take, map-append, take_all, take_more}
 use Rattle.column_base.specs.declared.dtype.DType.{DType}
 use Rattle.column_base.specs.declared.error.VortexError.{VortexError}
-use Rattle.column_core.specs.Refusal.{IsErrorFor, IsRefusedBy}
+use Rattle.column_base.specs.declared.error.VortexError.TheVariants.{OutOfMemory}
+use Rattle.column_core.specs.Refusal.{IsErrorFor}
 use Rattle.column_core.specs.Value.{Value}
 use Rattle.column_ops.specs.Filter.{filter_rows as selected_rows}
 use Rattle.runend_array.specs.Array.{column_of, dtype_of, rows}
@@ -29,40 +30,42 @@ count_of columns k column even within here =
     get_or_from_slice_get (map column_of columns) k (column_of column) (column_of column) (mapped_at column_of columns k column within here) in
     sym (ap (λ (c : Column). length (column_rows c)) at) ∙ even k (column_of column) (omega (arith, within, length-map columns column_of))
 
--- the first `k` columns have been worked on: the first of all refuses for all
-pub record AreWorked {A : Type 0} (work : ArrayRef A → List (Option Value)) (typed : ArrayRef A → DType) (fault : ℕ → Option VortexError) (columns kept : List (ArrayRef A)) (k : ℕ) : Type 0 where
+-- the first `k` columns have been worked on
+pub record AreWorked {A : Type 0} (work : ArrayRef A → List (Option Value)) (typed : ArrayRef A → DType) (columns kept : List (ArrayRef A)) (k : ℕ) : Type 0 where
   pub shown : map rows kept ≡ map work (take k columns)
   pub dtypes : map dtype_of kept ≡ map typed (take k columns)
-  pub allowed : 0 < k → fault (row_count (map column_of columns)) ≡ None
 
 -- before the first column
-pub none_worked : {A : Type 0} (work : ArrayRef A → List (Option Value)) (typed : ArrayRef A → DType) (fault : ℕ → Option VortexError) (columns kept : List (ArrayRef A)) → kept ≡ []
-    → AreWorked work typed fault columns kept 0
-none_worked work typed fault columns kept empty = record {
-  shown = ap (map rows) empty;
-  dtypes = ap (map dtype_of) empty;
-  allowed = λ some. absurd (omega (arith, some));
-}
+pub none_worked : {A : Type 0} (work : ArrayRef A → List (Option Value)) (typed : ArrayRef A → DType) (columns kept : List (ArrayRef A)) → kept ≡ [] → AreWorked work typed columns kept 0
+none_worked work typed columns kept empty = record { shown = ap (map rows) empty; dtypes = ap (map dtype_of) empty }
 
-pub worked_more : {A : Type 0} (work : ArrayRef A → List (Option Value)) (typed : ArrayRef A → DType) (fault : ℕ → Option VortexError) (columns kept next : List (ArrayRef A)) (k : ℕ) (column part : ArrayRef A)
-    → AreEven (map column_of columns) → k < length columns → column ≡ get_or columns k column → fault (length (rows column)) ≡ None → rows part ≡ work column → dtype_of part ≡ typed column
-    → AreWorked work typed fault columns kept k → next ≡ kept ++ part ∷ [] → AreWorked work typed fault columns next (k + 1)
-worked_more work typed fault columns kept next k column part even within here fine shown dtype worked pushed = record {
+pub worked_more : {A : Type 0} (work : ArrayRef A → List (Option Value)) (typed : ArrayRef A → DType) (columns kept next : List (ArrayRef A)) (k : ℕ) (column part : ArrayRef A)
+    → k < length columns → column ≡ get_or columns k column → rows part ≡ work column → dtype_of part ≡ typed column
+    → AreWorked work typed columns kept k → next ≡ kept ++ part ∷ [] → AreWorked work typed columns next (k + 1)
+worked_more work typed columns kept next k column part within here shown dtype worked pushed = record {
   shown = mapped_more rows work columns kept next k column part within here shown worked.shown pushed;
   dtypes = mapped_more dtype_of typed columns kept next k column part within here dtype worked.dtypes pushed;
-  allowed = λ some. sym (ap fault (count_of columns k column even within here)) ∙ fine;
 }
 
-pub all_worked : {A : Type 0} (work : ArrayRef A → List (Option Value)) (typed : ArrayRef A → DType) (fault : ℕ → Option VortexError) (columns kept : List (ArrayRef A)) (k : ℕ)
-    → length columns ≤ k → AreWorked work typed fault columns kept k → (map rows kept ≡ map work columns) × (map dtype_of kept ≡ map typed columns)
-all_worked work typed fault columns kept k all worked = (worked.shown ∙ ap (map work) (take_all k columns all), worked.dtypes ∙ ap (map typed) (take_all k columns all))
+pub all_worked : {A : Type 0} (work : ArrayRef A → List (Option Value)) (typed : ArrayRef A → DType) (columns kept : List (ArrayRef A)) (k : ℕ)
+    → length columns ≤ k → AreWorked work typed columns kept k → (map rows kept ≡ map work columns) × (map dtype_of kept ≡ map typed columns)
+all_worked work typed columns kept k all worked = (worked.shown ∙ ap (map work) (take_all k columns all), worked.dtypes ∙ ap (map typed) (take_all k columns all))
 
--- what a column refuses is refused for all
-pub refused_for_all : {A T : Type 0} (fault : ℕ → Option VortexError) (columns : List (ArrayRef A)) (k : ℕ) (column : ArrayRef A) (error : VortexError) (result : Result T VortexError)
-    → AreEven (map column_of columns) → k < length columns → column ≡ get_or columns k column → IsErrAnd result (λ passed. passed ≡ error) → IsErrorFor (fault (length (rows column))) error → IsRefusedBy (fault (row_count (map column_of columns))) result
-refused_for_all fault columns k column error (Ok value) even within here passed refused = absurd passed
-refused_for_all fault columns k column error (Err other) even within here passed refused =
-    subst (λ (e : VortexError). IsErrorFor (fault (row_count (map column_of columns))) e) (sym passed) (subst (λ (n : ℕ). IsErrorFor (fault n) error) (count_of columns k column even within here) refused)
+-- without a fault, only memory is refused
+pub short_of : (fault : Option VortexError) (error : VortexError) → fault ≡ None → IsErrorFor fault error → error ≡ OutOfMemory
+short_of fault error none (inl short) = short
+short_of fault error none (inr has) = let never : ◌≡◌ {A = Option VortexError} None (Some error) = sym none ∙ has in absurd (cc)
+
+pub short_passed_on : {T : Type 0} (fault : Option VortexError) (error : VortexError) (result : Result T VortexError) → fault ≡ None → IsErrAnd result (λ passed. passed ≡ error) → IsErrorFor fault error → IsOkUnless result OutOfMemory
+short_passed_on fault error (Ok value) none passed refused = absurd passed
+short_passed_on fault error (Err other) none passed refused = passed ∙ short_of fault error none refused
+
+-- what suits all columns is refused by none of them but for memory
+pub only_for_all : {A T : Type 0} (fault : ℕ → Option VortexError) (columns : List (ArrayRef A)) (k : ℕ) (column : ArrayRef A) (error : VortexError) (result : Result T VortexError)
+    → AreEven (map column_of columns) → k < length columns → column ≡ get_or columns k column → fault (row_count (map column_of columns)) ≡ None → IsErrAnd result (λ passed. passed ≡ error)
+    → IsErrorFor (fault (length (rows column))) error → IsOkUnless result OutOfMemory
+only_for_all fault columns k column error result even within here none passed refused =
+    short_passed_on (fault (row_count (map column_of columns))) error result none passed (subst (λ (n : ℕ). IsErrorFor (fault n) error) (count_of columns k column even within here) refused)
 
 -- how many rows the work leaves depends only on how many there are
 abbrev pub IsEven : (List (Option Value) → List (Option Value)) → Type 0

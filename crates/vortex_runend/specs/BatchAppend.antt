@@ -3,13 +3,13 @@ use Rattle.std.specs.Prelude.{◌≡◌, ◌≢◌, ◌+◌, ◌^◌, ◌<◌, �
 use Rattle.std.specs.Option.{option_or}
 use Rattle.column_base.specs.declared.dtype.DType.{DType}
 use Rattle.column_base.specs.declared.error.VortexError.{VortexError}
-use Rattle.column_base.specs.declared.error.VortexError.TheVariants.{OutOfMemory, WindowOverflow}
+use Rattle.column_base.specs.declared.error.VortexError.TheVariants.{WindowOverflow}
 use Rattle.column_core.specs.Kinds.{list_fault}
 use Rattle.column_core.specs.Refusal.{first_fault}
 use Rattle.column_core.specs.Value.{Value}
 use Rattle.runend_array.specs.Column.{Column, Runs, column_dtype, column_of_runs, column_rows}
 use Rattle.runend_builder.specs.Encoded.{IsEncodedRows}
-use Rattle.vortex_runend.specs.Batches.{Batch, dtypes_of, row_count}
+use Rattle.vortex_runend.specs.Batches.{Batch, IsFirstErrorFor, dtypes_of, row_count}
 use Rattle.vortex_runend.specs.declared.batch.fault.BatchError.{BatchError}
 use Rattle.vortex_runend.specs.declared.batch.fault.BatchError.TheVariants.{Refused, OtherNames, OtherType}
 
@@ -53,5 +53,5 @@ abbrev pub IsAppendError : Batch → Batch → BatchError → Type 0
 IsAppendError batch other OtherNames = batch.names ≢ other.names
 IsAppendError batch other (OtherType place) = (batch.names ≡ other.names) × IsFirstOther (dtypes_of batch) (dtypes_of other) place
 IsAppendError batch other (Refused error) =
-    (batch.names ≡ other.names) × (dtypes_of batch ≡ dtypes_of other) × (option_or (append_fault batch other) (Some OutOfMemory) ≡ Some error)
+    (batch.names ≡ other.names) × (dtypes_of batch ≡ dtypes_of other) × IsFirstErrorFor (append_fault batch other) error
 IsAppendError batch other error = ⊥

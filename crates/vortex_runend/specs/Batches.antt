@@ -1,11 +1,11 @@
 -- Several named columns of one number of rows.
 use Rattle.std.specs.Coded.{Coded, code_by, coded×, coded_ℕ, coded_list}
-use Rattle.std.specs.Prelude.{refl, ◌≡◌, ◌≢◌, ◌<◌, ℕ, All, List, [], ◌∷◌, Option, Some, None, length, map, slice_get}
+use Rattle.std.specs.Option.{option_or}
+use Rattle.std.specs.Prelude.{refl, ◌≡◌, ◌≢◌, ◌<◌, ℕ, All, List, [], ◌∷◌, Option, Some, None, Result, Ok, Err, length, map, slice_get}
 use Rattle.column_base.specs.declared.dtype.DType.{DType}
 use Rattle.column_base.specs.declared.dtype.DType.TheVariants as column
 use Rattle.column_base.specs.declared.error.VortexError.{VortexError}
-use Rattle.column_base.specs.declared.error.VortexError.TheVariants.{TypeMismatch}
-use Rattle.column_core.specs.Refusal.{IsErrorFor}
+use Rattle.column_base.specs.declared.error.VortexError.TheVariants.{OutOfMemory, TypeMismatch}
 use Rattle.column_core.specs.Value.{Value}
 use Rattle.column_ops.specs.Comparing.{answer_bits, compare_with}
 use Rattle.column_ops.specs.CompareFault.{compare_scalar_fault}
@@ -15,6 +15,16 @@ use Rattle.runend_array.specs.Column.{Column, column_dtype, column_rows}
 use Rattle.runend_array.specs.ColumnCode.{column_code}
 use Rattle.vortex_runend.specs.declared.batch.fault.BatchError.{BatchError}
 use Rattle.vortex_runend.specs.declared.batch.fault.BatchError.TheVariants.{Refused, NoColumns, NameCount, RowCount, RepeatedName, UnknownName, OtherNames, OtherType}
+
+-- the error where what the arguments are refused for comes before memory: that fault where there is one, and only where
+-- there is none that memory was refused
+abbrev pub IsFirstErrorFor : Option VortexError → VortexError → Type 0
+IsFirstErrorFor fault error = option_or fault (Some OutOfMemory) ≡ Some error
+
+-- refused by the fault exactly where there is one, however little memory there is, and else only for memory
+abbrev pub IsRefusedFirstBy : {T : Type 0} → Option VortexError → Result T VortexError → Type 0
+IsRefusedFirstBy fault (Ok value) = fault ≡ None
+IsRefusedFirstBy fault (Err error) = IsFirstErrorFor fault error
 
 -- names, as bytes, and columns, each at the place of its name
 pub record Batch : Type 0 where
@@ -112,9 +122,10 @@ pub record IsFilteredBy (before after : Batch) (name : List ℕ) (operator : Com
   pub compared : compare_scalar_fault (column_dtype column) dtype ≡ None
   pub rows : rows_of after ≡ map (λ other. selected_rows (answer_bits (compare_with operator (column_rows column) value)) (column_rows other)) before.columns
 
--- why a filter by a column of this name and a value of this type is refused
+-- why a filter by a column of this name and a value of this type is refused: for memory only where the name is that of a
+-- column that is compared with such values
 abbrev pub IsFilterByError : Batch → List ℕ → DType → BatchError → Type 0
 IsFilterByError batch name dtype (Refused error) =
-    (column : Column) × IsNamed batch name column × IsErrorFor (compare_scalar_fault (column_dtype column) dtype) error
+    (column : Column) × IsNamed batch name column × IsFirstErrorFor (compare_scalar_fault (column_dtype column) dtype) error
 IsFilterByError batch name dtype UnknownName = IsUnknown batch.names name
 IsFilterByError batch name dtype error = ⊥

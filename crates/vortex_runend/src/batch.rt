@@ -4,6 +4,7 @@ mod fault;
 mod joined;
 mod masks;
 mod names;
+mod refusals;
 mod taken;
 
 ghost use Rattle.std.specs.List.{AllZip};
@@ -12,7 +13,7 @@ ghost use Rattle.std.specs.String.{string_bytes};
 ghost use Rattle.column_base.specs.Mask.{mask_bits};
 ghost use Rattle.column_base.specs.declared.mask.Mask.{Mask};
 ghost use Rattle.column_core.specs.PrimitiveForm.{optional_numbers, primitive_dtype};
-ghost use Rattle.column_core.specs.Refusal.{IsRefusedBy, range_fault};
+ghost use Rattle.column_core.specs.Refusal.{range_fault};
 ghost use Rattle.column_core.specs.Value.{Single};
 ghost use Rattle.column_ops.specs.Filter.{filter_fault, filter_rows as selected_rows};
 ghost use Rattle.column_ops.specs.Nullable.{take_dtype};
@@ -21,15 +22,16 @@ ghost use Rattle.runend_array.specs.Array.{column_of, rows};
 ghost use Rattle.runend_array.specs.Column.{column_dtype, column_rows};
 ghost use Rattle.vortex_runend.specs.BatchAppend.{IsAppendError, IsAppendable, IsEncoded, joined_rows};
 ghost use Rattle.vortex_runend.specs.BatchForms.{HasFilteredForm, HasSlicedForm, HasTakenForm, IsMaskBy};
-ghost use Rattle.vortex_runend.specs.Batches.{Batch, IsBatch, IsBatchError, IsFilterByError, IsFilteredBy, IsNamed, IsUnknown, dtypes_of, row_count, rows_of};
+ghost use Rattle.vortex_runend.specs.Batches.{Batch, IsBatch, IsBatchError, IsFilterByError, IsFilteredBy, IsNamed, IsRefusedFirstBy, IsUnknown, dtypes_of, row_count, rows_of};
 
 use column_core::{Mask, PrimitiveArray, Scalar, VortexResult};
-use column_ops::CompareOperator;
+use column_ops::{CompareOperator, kind_fault};
 use columns::{filter_each, slice_each};
 pub use fault::BatchError;
 use joined::{fault_of_joining, first_other_type, join_each};
 use masks::mask_by;
 use names::{fault_of_batch, place_of};
+use refusals::{fault_of_indices, fault_of_mask, fault_of_range};
 use runend_array::{ArrayRef, ExecutionCtx};
 use std::alloc::Allocator;
 use std::marker::Model;
@@ -105,9 +107,11 @@ impl<A: Allocator + Copy> ColumnBatch<A> {
     }
 
     /// Leaves the rows at which the mask is true, in order, in each column: of each form what `arrays::filter` leaves.
-    /// Refused as `MaskLength` where the mask has not a bit for each row. A refusal leaves the batch as it was.
+    /// Refused as `MaskLength`, with the mask's length and the number of rows, where the mask has not a bit for each
+    /// row, however little memory there is; else only as `OutOfMemory`. A refusal leaves the batch as it was.
     pub fn filter(&mut self, mask: &Mask<A>, ctx: &mut ExecutionCtx<A>) -> VortexResult<()>
-        ensures refused { IsRefusedBy (filter_fault (length (mask_bits mask.now)) (row_count self.old.columns)) result }
+        ensures refused { IsRefusedFirstBy (filter_fault (length (mask_bits mask.now)) (row_count self.old.columns))
+            result }
         ensures rows { OnOk result (rows_of self.new ≡
             map (λ column. selected_rows (mask_bits mask.now) (column_rows column)) self.old.columns) }
         ensures dtypes { OnOk result (dtypes_of self.new ≡ dtypes_of self.old) }
@@ -116,16 +120,19 @@ impl<A: Allocator + Copy> ColumnBatch<A> {
         ensures kept { OnErr result (self.new ≡ self.old) }
         ensures session { ctx.new ≡ ctx.old }
     {
+        if let Some(error) = fault_of_mask(mask, self.len()) {
+            return Err(error);
+        }
         let kept = filter_each(&self.columns, mask, ctx)?;
         drop(replace(&mut self.columns, kept));
         Ok(())
     }
 
     /// Leaves the rows from `range.start` to `range.end` - 1 in each column: of each form what `arrays::slice` leaves.
-    /// Refused as `BadRange` where the start is past the end, or the end past the rows. A refusal leaves the batch as
-    /// it was.
+    /// Refused as `BadRange`, with both bounds and the number of rows, where the start is past the end, or the end past
+    /// the rows, however little memory there is; else only as `OutOfMemory`. A refusal leaves the batch as it was.
     pub fn slice(&mut self, range: Range<usize>, ctx: &mut ExecutionCtx<A>) -> VortexResult<()>
-        ensures refused { IsRefusedBy (range_fault range.start range.end (row_count self.old.columns)) result }
+        ensures refused { IsRefusedFirstBy (range_fault range.start range.end (row_count self.old.columns)) result }
         ensures rows { OnOk result (rows_of self.new ≡
             map (λ column. slice_range (column_rows column) range.start range.end) self.old.columns) }
         ensures dtypes { OnOk result (dtypes_of self.new ≡ dtypes_of self.old) }
@@ -135,21 +142,25 @@ impl<A: Allocator + Copy> ColumnBatch<A> {
         ensures kept { OnErr result (self.new ≡ self.old) }
         ensures session { ctx.new ≡ ctx.old }
     {
+        if let Some(error) = fault_of_range(range.start, range.end, self.len()) {
+            return Err(error);
+        }
         let parts = slice_each(&self.columns, range.start, range.end, ctx)?;
         drop(replace(&mut self.columns, parts));
         Ok(())
     }
 
     /// Leaves the row at each index, null at a null index, in each column: of each form what `arrays::take` leaves. The
-    /// types have null where the indices have. The indices are tested once, for all columns. Refused as `OutOfBounds`,
-    /// with the index and the number of rows, at the first valid index that is negative or of no row. A refusal leaves
-    /// the batch as it was.
+    /// types have null where the indices have. The indices are tested for all columns at once. Refused as
+    /// `OutOfBounds`, with the index and the number of rows, at the first valid index that is negative or of no row,
+    /// however little memory there is; else only as `OutOfMemory`. A refusal leaves the batch as it was.
     pub fn take(
         &mut self,
         indices: &PrimitiveArray<A>,
         ctx: &mut ExecutionCtx<A>,
     ) -> VortexResult<()>
-        ensures refused { IsRefusedBy (take_fault (optional_numbers indices.now) (row_count self.old.columns)) result }
+        ensures refused { IsRefusedFirstBy (take_fault (optional_numbers indices.now) (row_count self.old.columns))
+            result }
         ensures rows { OnOk result (rows_of self.new ≡
             map (λ column. rows_at_indices (column_rows column) (optional_numbers indices.now)) self.old.columns) }
         ensures dtypes { OnOk result (dtypes_of self.new ≡
@@ -160,6 +171,9 @@ impl<A: Allocator + Copy> ColumnBatch<A> {
         ensures kept { OnErr result (self.new ≡ self.old) }
         ensures session { ctx.new ≡ ctx.old }
     {
+        if let Some(error) = fault_of_indices(indices, self.len()) {
+            return Err(error);
+        }
         let taken = take_each(&self.columns, indices, ctx)?;
         drop(replace(&mut self.columns, taken));
         Ok(())
@@ -167,7 +181,8 @@ impl<A: Allocator + Copy> ColumnBatch<A> {
 
     /// Leaves the rows at which the operator holds of the row of the column of this name and the value, in order, in
     /// each column. It does not hold where either is null. Refused as `UnknownName` where no column has the name, then
-    /// as `compare_scalar` refuses, else only as `OutOfMemory`. A refusal leaves the batch as it was.
+    /// as `Unsupported` where that column has lists, and as `TypeMismatch` for a value of another kind, however little
+    /// memory there is; else only as `OutOfMemory`. A refusal leaves the batch as it was.
     pub fn filter_by(
         &mut self,
         name: &str,
@@ -189,6 +204,9 @@ impl<A: Allocator + Copy> ColumnBatch<A> {
         let Some(column) = self.column(name) else {
             return Err(BatchError::UnknownName);
         };
+        if let Some(error) = kind_fault(column.dtype(), value.dtype()) {
+            return Err(BatchError::Refused(error));
+        }
         let mask = mask_by(column, operator, value, ctx)?;
         let filtered = self.filter(&mask, ctx);
         drop(mask);

@@ -146,5 +146,7 @@ pub fn encode_then_decode<A: Allocator + Copy>(
 {
     let runs = RunEnd::encode(array, ctx)?;
     let encoded = ArrayRef::of_runs(*ctx.allocator(), runs)?;
-    encoded.canonicalize(ctx)
+    let decoded = encoded.canonicalize(ctx);
+    drop(encoded);
+    decoded
 }

@@ -1,29 +1,28 @@
-//! One operation on each of several columns of one number of rows. The first column refuses for all.
+//! One operation on each of several columns of one number of rows, which is known to suit that number.
 ghost use Rattle.std.specs.List.{AllZip};
-ghost use Rattle.std.specs.Prelude.{◌≡◌, ◌<◌, IfOk, length, map, slice_range};
+ghost use Rattle.std.specs.Prelude.{◌≡◌, None, IfOk, IsOkUnless, length, map, slice_range};
 ghost use Rattle.column_base.specs.Mask.{mask_bits};
-ghost use Rattle.column_core.specs.Refusal.{IsRefusedBy, range_fault};
+ghost use Rattle.column_core.specs.Refusal.{range_fault};
 ghost use Rattle.column_ops.specs.Filter.{filter_fault, filter_rows as selected_rows};
 ghost use Rattle.runend_array.specs.Array.{column_of, dtype_of, rows};
 ghost use Rattle.vortex_runend.specs.BatchForms.{HasFilteredForm, HasSlicedForm};
 ghost use Rattle.vortex_runend.specs.Batches.{AreEven, row_count};
 
-use column_core::{Mask, VortexResult};
+use column_core::{Mask, VortexError, VortexResult};
 use runend_array::{ArrayRef, ExecutionCtx};
 use runend_commands::compute::{filter, slice};
 use std::alloc::Allocator;
 
-/// Returns the rows of each column at which the mask is true, in order. Refused as `MaskLength` where the mask has not
-/// a bit for each row.
+/// Returns the rows of each column at which the mask is true, in order, where the mask has a bit for each row. Refused
+/// only as `OutOfMemory`.
 pub(crate) fn filter_each<A: Allocator + Copy>(
     columns: &[ArrayRef<A>],
     mask: &Mask<A>,
     ctx: &mut ExecutionCtx<A>,
 ) -> VortexResult<Vec<ArrayRef<A>, A>>
-    requires some { 0 < length columns.now }
     requires even { AreEven (map column_of columns.now) }
-    ensures refused { IsRefusedBy (filter_fault (length (mask_bits mask.now)) (row_count (map column_of columns.now)))
-        result }
+    requires fits { filter_fault (length (mask_bits mask.now)) (row_count (map column_of columns.now)) ≡ None }
+    ensures only { IsOkUnless result VortexError.OutOfMemory }
     ensures rows { IfOk result (λ kept. map rows kept.items ≡
         map (λ column. selected_rows (mask_bits mask.now) (rows column)) columns.now) }
     ensures dtypes { IfOk result (λ kept. map dtype_of kept.items ≡ map dtype_of columns.now) }
@@ -39,17 +38,17 @@ pub(crate) fn filter_each<A: Allocator + Copy>(
     Ok(kept)
 }
 
-/// Returns the rows of each column from `start` to `end` - 1. Refused as `BadRange` where the start is past the end, or
-/// the end past the rows.
+/// Returns the rows of each column from `start` to `end` - 1, where the start is not past the end, nor the end past the
+/// rows. Refused only as `OutOfMemory`.
 pub(crate) fn slice_each<A: Allocator + Copy>(
     columns: &[ArrayRef<A>],
     start: usize,
     end: usize,
     ctx: &mut ExecutionCtx<A>,
 ) -> VortexResult<Vec<ArrayRef<A>, A>>
-    requires some { 0 < length columns.now }
     requires even { AreEven (map column_of columns.now) }
-    ensures refused { IsRefusedBy (range_fault start end (row_count (map column_of columns.now))) result }
+    requires within { range_fault start end (row_count (map column_of columns.now)) ≡ None }
+    ensures only { IsOkUnless result VortexError.OutOfMemory }
     ensures rows { IfOk result (λ parts. map rows parts.items ≡
         map (λ column. slice_range (rows column) start end) columns.now) }
     ensures dtypes { IfOk result (λ parts. map dtype_of parts.items ≡ map dtype_of columns.now) }

@@ -1,12 +1,11 @@
-//! The row of each of several columns at each of some indices, which are tested once, for all columns.
+//! The row of each of several columns at each of some indices, which become positions once, for all columns.
 ghost use Rattle.std.specs.List.{AllZip};
-ghost use Rattle.std.specs.Prelude.{◌≡◌, ◌<◌, IfOk, IsOkUnless, MatchOption, length, map};
+ghost use Rattle.std.specs.Prelude.{◌≡◌, ◌<◌, None, IfOk, IsOkUnless, MatchOption, length, map};
 ghost use Rattle.column_base.specs.Types.{nullability_of, with_nullability as dtype_with};
 ghost use Rattle.column_base.specs.Validity.{form_of, validity_flags};
 ghost use Rattle.column_base.specs.ValidityForm.{HasLength, nullability_in};
 ghost use Rattle.column_core.specs.Optionals.{optionals};
 ghost use Rattle.column_core.specs.PrimitiveForm.{optional_numbers, primitive_dtype};
-ghost use Rattle.column_core.specs.Refusal.{IsRefusedBy};
 ghost use Rattle.column_ops.specs.Nullable.{either_nullable, take_dtype};
 ghost use Rattle.column_ops.specs.Take.{ArePositions, position_numbers, take_fault, take_rows as rows_at_indices};
 ghost use Rattle.runend_array.specs.Array.{column_of, dtype_of, rows};
@@ -24,9 +23,8 @@ use runend_column::take_values;
 use runend_select::take_indices_unchecked;
 use std::alloc::Allocator;
 
-/// Returns the row of each column at each index, null at a null index, in the form that `arrays::take` leaves. The
-/// indices are tested once, for all columns. Refused as `OutOfBounds`, with the index and the number of rows, at the
-/// first valid index that is negative or of no row. Takes 8 bytes an index until it returns.
+/// Returns the row of each column at each index, null at a null index, in the form that `arrays::take` leaves, where
+/// each valid index is that of a row. Refused only as `OutOfMemory`. Takes 8 bytes an index until it returns.
 pub(crate) fn take_each<A: Allocator + Copy>(
     columns: &[ArrayRef<A>],
     indices: &PrimitiveArray<A>,
@@ -34,8 +32,8 @@ pub(crate) fn take_each<A: Allocator + Copy>(
 ) -> VortexResult<Vec<ArrayRef<A>, A>>
     requires some { 0 < length columns.now }
     requires even { AreEven (map column_of columns.now) }
-    ensures refused { IsRefusedBy (take_fault (optional_numbers indices.now) (row_count (map column_of columns.now)))
-        result }
+    requires within { take_fault (optional_numbers indices.now) (row_count (map column_of columns.now)) ≡ None }
+    ensures only { IsOkUnless result VortexError.OutOfMemory }
     ensures rows { IfOk result (λ taken. map rows taken.items ≡
         map (λ column. rows_at_indices (rows column) (optional_numbers indices.now)) columns.now) }
     ensures dtypes { IfOk result (λ taken. map dtype_of taken.items ≡

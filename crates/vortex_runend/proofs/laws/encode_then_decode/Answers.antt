@@ -10,4 +10,4 @@ pub returns-clause-rows : goal.returns-clause-rows
 returns-clause-rows g c =
     let same : rows c.in_ok-encoded.encoded ≡ rows c.args.array =
     rw c.in_ok-encoded.ensures.form (encoded_rows (column_of c.args.array) c.in_ok-runs.runs c.in_ok-runs.ensures.encoded) in
-    subst (λ (shown : List (Option Value)). IfOk c.canonicalize.result (λ decoded. rows decoded ≡ shown)) same c.canonicalize.ensures.rows
+    subst (λ (shown : List (Option Value)). IfOk c.canonicalize-decoded.result (λ decoded. rows decoded ≡ shown)) same c.canonicalize-decoded.ensures.rows

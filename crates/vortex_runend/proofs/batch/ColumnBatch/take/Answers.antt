@@ -1,14 +1,15 @@
-use Rattle.std.proofs.Common.{ap, map}
+use Rattle.std.proofs.Common.{◌∙◌, ℕ, Option, ap, map, sym}
 use Rattle.std.specs.String.{string_bytes}
+use Rattle.column_base.specs.declared.error.VortexError.{VortexError}
 use Rattle.column_core.specs.PrimitiveForm.{optional_numbers, primitive_dtype}
 use Rattle.column_ops.specs.Nullable.{take_dtype}
 use Rattle.column_ops.specs.Take.{take_fault, take_rows as rows_at_indices}
 use Rattle.runend_array.specs.Array.{column_of}
 use Rattle.runend_array.specs.Column.{column_dtype}
-use Rattle.vortex_runend.specs.Batches.{Batch}
+use Rattle.vortex_runend.specs.Batches.{Batch, row_count}
 use Rattle.vortex_runend.specs.BatchForms.{HasTakenForm}
 use Rattle.vortex_runend.proofs.ColumnForms.{formed_batch}
-use Rattle.vortex_runend.proofs.BatchCalls.{IsWorkedBatch, allowed_by_all, even_take, refused_by_all, some_columns, worked_batch}
+use Rattle.vortex_runend.proofs.BatchCalls.{IsWorkedBatch, even_take, first_passed_on, some_columns, suits_all, told, worked_batch}
 use Rattle.vortex_runend.proofs.batch.ColumnBatch.take.Given as given
 use Rattle.vortex_runend.proofs.batch.ColumnBatch.take.Goals as goal
 
@@ -17,6 +18,11 @@ take_each-requires-clause-some g c = rw c.deref.ensures.value (some_columns (map
 
 pub take_each-requires-clause-even : goal.take_each-requires-clause-even
 take_each-requires-clause-even g c = rw c.deref.ensures.value c.self.invariant.even
+
+pub take_each-requires-clause-within : goal.take_each-requires-clause-within
+take_each-requires-clause-within g c =
+    let fault : ℕ → Option VortexError = (λ count. take_fault (optional_numbers c.args.indices.now) count) in
+    rw c.deref.ensures.value (suits_all fault (map column_of c.self.inside.columns.items) c.args.self.now (ap (λ (b : Batch). b.columns) c.self.view_is) (ap fault (sym c.len.ensures) ∙ sym c.in_default.ensures))
 
 worked : (g : given.Over) (c : goal.After-drop g)
     → IsWorkedBatch (λ shown. rows_at_indices shown (optional_numbers c.args.indices.now)) (λ column. take_dtype (column_dtype column) (primitive_dtype c.args.indices.now)) (map string_bytes c.self.inside.names.items) c.args.self.now c.replace.new.dest.items
@@ -40,12 +46,17 @@ returns-clause-forms g c =
     formed_batch (HasTakenForm c.args.ctx.now (optional_numbers c.args.indices.now)) (map column_of c.self.inside.columns.items) c.args.self.now.columns c.in_ok-taken.taken.items c.replace.new.dest.items (ap (λ (b : Batch). b.columns) c.self.view_is)
     (λ i. (c.replace.ensures.after i).items) (rw c.deref.ensures.value at c.in_ok-taken.ensures.forms)
 
+pub returns-in-Some-clause-refused : goal.returns-in-Some-clause-refused
+returns-in-Some-clause-refused g c =
+    let fault : ℕ → Option VortexError = (λ count. take_fault (optional_numbers c.args.indices.now) count) in
+    told (fault (row_count c.args.self.now.columns)) c.in-Some.error (ap fault (sym c.len.ensures) ∙ sym c.in-Some.ensures)
+
 pub returns-clause-refused : goal.returns-clause-refused
 returns-clause-refused g c =
-    allowed_by_all (λ count. take_fault (optional_numbers c.args.indices.now) count) (map column_of c.self.inside.columns.items) c.args.self.now (ap (λ (b : Batch). b.columns) c.self.view_is)
-    (rw c.deref.ensures.value at c.in_ok-taken.ensures.refused)
+    let fault : ℕ → Option VortexError = (λ count. take_fault (optional_numbers c.args.indices.now) count) in
+    ap fault (sym c.len.ensures) ∙ sym c.in_default.ensures
 
 pub returns-in_err-taken-clause-refused : goal.returns-in_err-taken-clause-refused
 returns-in_err-taken-clause-refused g c =
-    refused_by_all (λ count. take_fault (optional_numbers c.args.indices.now) count) (map column_of c.self.inside.columns.items) c.args.self.now c.in_err-taken.field-0.0 c.from_residual.result
-    (ap (λ (b : Batch). b.columns) c.self.view_is) c.from_residual.ensures.1 (rw c.deref.ensures.value at c.in_err-taken.ensures.refused)
+    let fault : ℕ → Option VortexError = (λ count. take_fault (optional_numbers c.args.indices.now) count) in
+    first_passed_on (fault (row_count c.args.self.now.columns)) c.in_err-taken.field-0.0 c.from_residual.result (ap fault (sym c.len.ensures) ∙ sym c.in_default.ensures) c.from_residual.ensures.1 c.in_err-taken.ensures.only

@@ -5,12 +5,12 @@ use Rattle.runend_array.specs.Array.{column_of, dtype_of, rows}
 use Rattle.runend_array.specs.SessionForm.{SessionForm}
 use Rattle.vortex_runend.specs.BatchForms.{HasFilteredForm}
 use Rattle.vortex_runend.proofs.ColumnForms.{all_formed, formed_more, none_formed}
-use Rattle.vortex_runend.proofs.Batches.{all_worked, none_worked, refused_for_all, worked_more}
+use Rattle.vortex_runend.proofs.Batches.{all_worked, none_worked, only_for_all, worked_more}
 use Rattle.vortex_runend.proofs.batch.columns.filter_each.Goals as goal
 
 pub loop-column-init : goal.loop-column-init
 loop-column-init g c = record {
-  worked = none_worked _ _ _ c.args.columns.now c.in_ok-kept.kept.items c.in_ok-kept.ensures.items;
+  worked = none_worked _ _ c.args.columns.now c.in_ok-kept.kept.items c.in_ok-kept.ensures.items;
   forms = none_formed (HasFilteredForm c.args.ctx.now c.args.mask.now) c.args.columns.now c.in_ok-kept.kept.items c.in_ok-kept.ensures.items;
   room = c.in_ok-kept.ensures.capacity;
   counted = c.in_ok-kept.ensures.len;
@@ -29,9 +29,8 @@ loop-column-preserved g c =
     record {
       worked = worked_more (λ column. selected_rows (mask_bits c.args.mask.now) (rows column))
           dtype_of
-          (λ count. filter_fault (length (mask_bits c.args.mask.now)) count)
-          c.args.columns.now l.kept.items c.push_reserved.new.self.items l.column-index column part c.requires.even (omega arith) c.column-item.is
-          c.in_ok-part.ensures.refused c.in_ok-part.ensures.rows c.in_ok-part.ensures.dtype l.invariant.worked c.push_reserved.ensures.items;
+          c.args.columns.now l.kept.items c.push_reserved.new.self.items l.column-index column part (omega arith) c.column-item.is
+          c.in_ok-part.ensures.rows c.in_ok-part.ensures.dtype l.invariant.worked c.push_reserved.ensures.items;
       forms = formed_more (HasFilteredForm c.args.ctx.now c.args.mask.now) c.args.columns.now l.kept.items c.push_reserved.new.self.items l.column-index column part (omega arith) c.column-item.is left l.invariant.forms
           c.push_reserved.ensures.items;
       room = omega (arith, c.push_reserved.ensures.capacity, l.invariant.room);
@@ -39,26 +38,23 @@ loop-column-preserved g c =
       session = c.in_ok-part.ensures.session ∙ l.invariant.session;
     }
 
-pub returns-clause-refused : goal.returns-clause-refused
-returns-clause-refused g c = c.loop-column.invariant.worked.allowed (omega (arith, c.requires.some))
-
 pub returns-clause-rows : goal.returns-clause-rows
 returns-clause-rows g c =
     let l = c.loop-column in
-    (all_worked _ _ _ c.args.columns.now l.kept.items l.column-index (omega arith) l.invariant.worked).0
+    (all_worked _ _ c.args.columns.now l.kept.items l.column-index (omega arith) l.invariant.worked).0
 
 pub returns-clause-dtypes : goal.returns-clause-dtypes
 returns-clause-dtypes g c =
     let l = c.loop-column in
-    (all_worked _ _ _ c.args.columns.now l.kept.items l.column-index (omega arith) l.invariant.worked).1
+    (all_worked _ _ c.args.columns.now l.kept.items l.column-index (omega arith) l.invariant.worked).1
 
 pub returns-clause-forms : goal.returns-clause-forms
 returns-clause-forms g c =
     let l = c.loop-column in
     all_formed (HasFilteredForm c.args.ctx.now c.args.mask.now) c.args.columns.now l.kept.items l.column-index (omega arith) l.invariant.forms
 
-pub returns-in_err-part-clause-refused : goal.returns-in_err-part-clause-refused
-returns-in_err-part-clause-refused g c =
-    refused_for_all (λ count. filter_fault (length (mask_bits c.args.mask.now)) count)
+pub returns-in_err-part-clause-only : goal.returns-in_err-part-clause-only
+returns-in_err-part-clause-only g c =
+    only_for_all (λ count. filter_fault (length (mask_bits c.args.mask.now)) count)
     c.args.columns.now c.loop-column.column-index c.column-item.result _ c.from_residual-in_err-part.result c.requires.even (omega arith) c.column-item.is
-    c.from_residual-in_err-part.ensures.1 c.in_err-part.ensures.refused
+    c.requires.fits c.from_residual-in_err-part.ensures.1 c.in_err-part.ensures.refused

@@ -2,7 +2,6 @@
 use Rattle.std.proofs.Common.{◌≡◌, ◌≤◌, length}
 use Rattle.std.specs.Vec.{vec_capacity, vec_len}
 use Rattle.std.specs.Prelude.{slice_range}
-use Rattle.column_core.specs.Refusal.{range_fault}
 use Rattle.runend_array.specs.Array.{dtype_of, rows}
 use Rattle.vortex_runend.specs.BatchForms.{HasSlicedForm}
 use Rattle.vortex_runend.proofs.ColumnForms.{AreFormed}
@@ -11,7 +10,7 @@ use Rattle.vortex_runend.proofs.batch.columns.slice_each.Given as goal
 
 abbrev pub invariant-loop-column : goal.invariant-loop-column
 invariant-loop-column g l = record {
-  worked : AreWorked (λ column. slice_range (rows column) l.start l.end) dtype_of (λ count. range_fault l.start l.end count) l.columns l.kept.items l.column-index;
+  worked : AreWorked (λ column. slice_range (rows column) l.start l.end) dtype_of l.columns l.kept.items l.column-index;
   forms : AreFormed (HasSlicedForm l.fn.ctx l.start l.end) l.columns l.kept.items l.column-index;
   room : length l.columns ≤ vec_capacity l.kept;
   counted : vec_len l.kept ≡ l.column-index;

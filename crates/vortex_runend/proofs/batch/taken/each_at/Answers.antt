@@ -1,4 +1,4 @@
-use Rattle.std.proofs.Common.{◌∙◌, ℕ, None, length, refl, arith, subst, sym}
+use Rattle.std.proofs.Common.{◌∙◌, ℕ, length, refl, arith, subst, sym}
 use Rattle.column_base.specs.Types.{nullability_of, with_nullability as dtype_with}
 use Rattle.column_base.specs.Validity.{form_of, validity_flags}
 use Rattle.column_base.specs.ValidityForm.{nullability_in}
@@ -14,7 +14,7 @@ use Rattle.vortex_runend.proofs.batch.taken.each_at.Goals as goal
 
 pub loop-column-init : goal.loop-column-init
 loop-column-init g c = record {
-  worked = none_worked _ _ _ c.args.columns.now c.in_ok-kept.kept.items c.in_ok-kept.ensures.items;
+  worked = none_worked _ _ c.args.columns.now c.in_ok-kept.kept.items c.in_ok-kept.ensures.items;
   forms = none_formed (HasTakenForm c.args.ctx.now (position_numbers (optionals c.args.positions.now (validity_flags c.args.places.now (length c.args.positions.now))))) c.args.columns.now c.in_ok-kept.kept.items c.in_ok-kept.ensures.items;
   room = c.in_ok-kept.ensures.capacity;
   counted = c.in_ok-kept.ensures.len;
@@ -38,9 +38,8 @@ loop-column-preserved g c =
     record {
       worked = worked_more (λ column. rows_at_indices (rows column) indices)
           (λ column. dtype_with (dtype_of column) (either_nullable (nullability_of (dtype_of column)) (nullability_in (form_of c.args.places.now))))
-          (λ count. None)
-          c.args.columns.now l.kept.items c.push_reserved.new.self.items l.column-index column part c.requires.even (omega arith) c.column-item.is
-          refl c.in_ok-part.ensures.rows c.in_ok-part.ensures.dtype l.invariant.worked c.push_reserved.ensures.items;
+          c.args.columns.now l.kept.items c.push_reserved.new.self.items l.column-index column part (omega arith) c.column-item.is
+          c.in_ok-part.ensures.rows c.in_ok-part.ensures.dtype l.invariant.worked c.push_reserved.ensures.items;
       forms = formed_more (HasTakenForm c.args.ctx.now indices) c.args.columns.now l.kept.items c.push_reserved.new.self.items l.column-index column part (omega arith) c.column-item.is left l.invariant.forms
           c.push_reserved.ensures.items;
       room = omega (arith, c.push_reserved.ensures.capacity, l.invariant.room);
@@ -51,12 +50,12 @@ loop-column-preserved g c =
 pub returns-clause-rows : goal.returns-clause-rows
 returns-clause-rows g c =
     let l = c.loop-column in
-    (all_worked _ _ _ c.args.columns.now l.kept.items l.column-index (omega arith) l.invariant.worked).0
+    (all_worked _ _ c.args.columns.now l.kept.items l.column-index (omega arith) l.invariant.worked).0
 
 pub returns-clause-dtypes : goal.returns-clause-dtypes
 returns-clause-dtypes g c =
     let l = c.loop-column in
-    (all_worked _ _ _ c.args.columns.now l.kept.items l.column-index (omega arith) l.invariant.worked).1
+    (all_worked _ _ c.args.columns.now l.kept.items l.column-index (omega arith) l.invariant.worked).1
 
 pub returns-clause-forms : goal.returns-clause-forms
 returns-clause-forms g c =

@@ -8,13 +8,13 @@ use Rattle.column_core.specs.PrimitiveForm.{optional_numbers}
 use Rattle.column_core.specs.Refusal.{IsErrorFor}
 use Rattle.column_ops.specs.Nullable.{either_nullable}
 use Rattle.column_ops.specs.Take.{ArePositions, position_numbers, take_fault, take_rows as rows_at_indices}
-use Rattle.column_ops.proofs.IndexPositions.{refused-passed_on}
 use Rattle.runend_array.specs.Array.{column_of, dtype_of, rows}
 use Rattle.runend_column.proofs.ComputedRows.{ok_then}
-use Rattle.runend_column.proofs.PassedOn.{refused_by_none}
 use Rattle.std.specs.List.{AllZip}
 use Rattle.vortex_runend.specs.BatchForms.{HasTakenForm}
+use Rattle.vortex_runend.specs.Batches.{row_count}
 use Rattle.vortex_runend.proofs.BatchNames.{first_count}
+use Rattle.vortex_runend.proofs.Batches.{short_passed_on}
 use Rattle.vortex_runend.proofs.batch.taken.take_each.Goals as goal
 
 pub each_at-taken-requires-clause-counted : goal.each_at-taken-requires-clause-counted
@@ -28,11 +28,6 @@ each_at-taken-requires-clause-within g c =
     let count = c.len.ensures ∙ sym (first_count c.args.columns.now c.index-columns-0.result c.index-columns-0.is c.requires.some) in
     let within = subst (λ (xs : List ℕ). ArePositions (optionals xs (flags form (length xs))) c.len.result) (sym c.as_slice.ensures.value) c.in_ok-positions.ensures.positions.within in
     subst (λ (n : ℕ). ArePositions (optionals items (flags form (length items))) n) count within
-
-pub returns-clause-refused : goal.returns-clause-refused
-returns-clause-refused g c =
-    let count = c.len.ensures ∙ sym (first_count c.args.columns.now c.index-columns-0.result c.index-columns-0.is c.requires.some) in
-    refused_by_none _ c.each_at-taken.result (sym (ap (take_fault (optional_numbers c.args.indices.now)) count) ∙ c.in_ok-positions.ensures.refused) c.each_at-taken.ensures.only
 
 pub returns-clause-rows : goal.returns-clause-rows
 returns-clause-rows g c =
@@ -52,9 +47,9 @@ returns-clause-forms g c =
     ok_then c.each_at-taken.result _ _ (λ taken forms.
     subst (λ (indices : List (Option ℤ)). AllZip (HasTakenForm c.args.ctx.now indices) (map column_of c.args.columns.now) (map column_of taken.items)) shown forms) c.each_at-taken.ensures.forms
 
-pub returns-in_err-positions-clause-refused : goal.returns-in_err-positions-clause-refused
-returns-in_err-positions-clause-refused g c =
+pub returns-in_err-positions-clause-only : goal.returns-in_err-positions-clause-only
+returns-in_err-positions-clause-only g c =
     let error = c.in_err-positions.field-0.0 in
     let count = c.len.ensures ∙ sym (first_count c.args.columns.now c.index-columns-0.result c.index-columns-0.is c.requires.some) in
-    refused-passed_on _ error c.from_residual.result c.from_residual.ensures.1
+    short_passed_on (take_fault (optional_numbers c.args.indices.now) (row_count (map column_of c.args.columns.now))) error c.from_residual.result c.requires.within c.from_residual.ensures.1
     (subst (λ (n : ℕ). IsErrorFor (take_fault (optional_numbers c.args.indices.now) n) error) count c.in_err-positions.ensures.refused)
