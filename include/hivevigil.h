@@ -7,9 +7,10 @@
  * store each stretch of equal rows once. Calls that ask about rows answer the same in every form.
  *
  * ANSWERS. A call that can be refused returns an int32_t: 0 when it is done, else the number of an error (below). After
- * an error every column is as it was, `out` too; for 1 to 21 `*error` has the fields of the error; anything else that a
- * call writes may hold any value. After 0 `out` has the column that was made, and the one that it held before is freed.
- * Nothing is printed, nothing ends the process, and after a refused malloc the call returns 21.
+ * an error only `*error` is written, which for 1 to 21 has the fields of the error: every column is as it was, `out` too,
+ * and so is each number, flag, value, item and byte that the call writes when it is done. After 0 `out` has the column
+ * that was made, and the one that it held before is freed. Nothing is printed, nothing ends the process, and after a
+ * refused malloc the call returns 21.
  *
  * OWNERSHIP. A handle, hv_column, owns its column. A call that is lent columns leaves them as they are; it makes a
  * column of its own. What C passes (numbers, bits, bytes) is copied, and belongs to C again when the call returns.
@@ -61,8 +62,8 @@ extern "C" {
  * major * 1000000 + minor * 1000 + patch, and hv_abi its interface: a program runs with a library of its own HV_ABI,
  * and finds there every call of a header that is not newer than the library. */
 #define HV_VERSION_MAJOR 1
-#define HV_VERSION_MINOR 8
-#define HV_VERSION_PATCH 1
+#define HV_VERSION_MINOR 9
+#define HV_VERSION_PATCH 0
 #define HV_VERSION (HV_VERSION_MAJOR * 1000000 + HV_VERSION_MINOR * 1000 + HV_VERSION_PATCH)
 #define HV_ABI 1
 uint32_t hv_version(void);
@@ -263,7 +264,8 @@ HV_ANSWER hv_cast(const hv_session *session, const hv_column *column, const hv_k
 HV_ANSWER hv_take(const hv_session *session, const hv_column *column, const hv_column *indices, hv_column *out,
                   hv_error *error);
 /* the rows at which the mask, booleans in any form (else HV_TYPE_MISMATCH), is true: a null in the mask selects
- * nothing, as in SQL's WHERE; HV_MASK_LENGTH (mask, length) */
+ * nothing, as in SQL's WHERE; HV_MASK_LENGTH (mask, length). Runs, and a mask of at most a run for 64 rows, take a step
+ * for each run of both. */
 HV_ANSWER hv_filter(const hv_session *session, const hv_column *column, const hv_column *mask, hv_column *out,
                     hv_error *error);
 /* each row of `codes` is replaced by the row of the dictionary that it numbers from 0, null stays null;
@@ -272,12 +274,12 @@ HV_ANSWER hv_take_from(const hv_session *session, const hv_column *codes, const 
                        hv_error *error);
 /* row by row whether `left operator right`, null where either is null; HV_UNSUPPORTED for lists, HV_TYPE_MISMATCH for
  * two types that differ in more than null, HV_COLUMN_LENGTH (left, right) for another number of rows, HV_BAD_NUMBER for
- * no operator */
+ * no operator. The answer is flat but for two constants, and hv_combine has the same in runs */
 enum { HV_EQ, HV_NE, HV_GT, HV_GE, HV_LT, HV_LE };
 HV_ANSWER hv_compare(const hv_session *session, const hv_column *column, uint8_t operator_, const hv_column *right,
                      hv_column *out, hv_error *error);
 /* the same against one value, of the column's type or null; HV_TYPE_MISMATCH where it is not of that type, or a text
- * that is not UTF-8 */
+ * that is not UTF-8. Of runs hv_compare_value (hivevigil_helpers.h) has the same in runs */
 HV_ANSWER hv_compare_scalar(const hv_session *session, const hv_column *column, uint8_t operator_,
                             const hv_value *value, const uint8_t *text, size_t text_len, hv_column *out,
                             hv_error *error);
@@ -433,9 +435,10 @@ HV_ANSWER hv_float_encode(const hv_column *bits, uint8_t is_canonical, hv_column
 /* their bits, flat, null where the row is; HV_TYPE_MISMATCH unless the column is of i16, i32 or i64, which takes no
  * memory, HV_OUT_OF_MEMORY */
 HV_ANSWER hv_float_decode(const hv_column *floats, hv_column *out, hv_error *error);
-/* row by row whether `float operator constant`, null where the row is; the constant is given by its bits, of the width
- * of the column. HV_TYPE_MISMATCH as above, then HV_CAST_OUT_OF_RANGE for a constant with more bits, both of which take
- * no memory, HV_OUT_OF_MEMORY; HV_BAD_NUMBER for no operator */
+/* row by row whether `float operator constant`, null where the row is, in as few runs as the answers have, each run
+ * looked at once; the constant is given by its bits, of the width of the column. HV_TYPE_MISMATCH as above, then
+ * HV_CAST_OUT_OF_RANGE for a constant with more bits, both of which take no memory, HV_OUT_OF_MEMORY; HV_BAD_NUMBER for
+ * no operator */
 HV_ANSWER hv_float_compare(const hv_column *floats, uint8_t operator_, uint64_t constant, uint8_t is_ieee,
                            hv_column *out, hv_error *error);
 /* row `row`, which takes no memory: 1 and its bits, or 0 twice for null; HV_TYPE_MISMATCH as above, then
@@ -586,8 +589,7 @@ HV_CALL void hv_builder_free(hv_builder *builder);
 /* How many bytes the message has, by a pass over lengths that takes no memory. */
 HV_ANSWER hv_write_size(const hv_column *column, size_t *size, hv_error *error);
 /* Writes the message to the front of `bytes`, which takes no memory, and its number of bytes to *size; HV_COLUMN_LENGTH
- * (needed, bytes_len) where it does not fit. Refused, it leaves `bytes` as it was. HV_OUT_OF_MEMORY only for 2^64 bytes
- * or more. */
+ * (needed, bytes_len) where it does not fit. HV_OUT_OF_MEMORY only for 2^64 bytes or more. */
 HV_ANSWER hv_write(const hv_column *column, uint8_t *bytes, size_t bytes_len, size_t *size, hv_error *error);
 /* The column that was written so; HV_BAD_METADATA exactly for bytes that are the message of no column, so
  * HV_OUT_OF_MEMORY only for a message. */
@@ -609,8 +611,7 @@ HV_ANSWER hv_write_typed(const hv_column *column, const uint8_t *format, size_t 
                          size_t bytes_len, size_t *size, hv_error *error);
 /* The column of a message of hv_write_typed or hv_write. The name of its logical type is in the message, *format_len
  * bytes from bytes + *format_at on; both are 0 where it has none. HV_BAD_METADATA exactly for bytes that are the
- * message of no column, so HV_OUT_OF_MEMORY only for a message. Refused, it leaves *out, *format_at and *format_len as
- * they were. */
+ * message of no column, so HV_OUT_OF_MEMORY only for a message. */
 HV_ANSWER hv_read_typed(const uint8_t *bytes, size_t bytes_len, hv_column *out, size_t *format_at, size_t *format_len,
                         hv_error *error);
 /* Are the bytes the message of a column, with or without a logical type? 1, or 0. Takes no memory, and refuses

@@ -13,6 +13,7 @@
 #error "hivevigil.hpp is for C++17 and later: -std=c++17"
 #else
 #include "hivevigil_fits.hpp"
+#include "hivevigil_helpers.h"
 #include <cstddef>
 #include <initializer_list>
 #include <string_view>
@@ -214,16 +215,17 @@ public:
             [&](auto *other, auto *out, auto *error) { return hv_take_from(&session, &handle, other, out, error); },
             detail::words_of_other("codes are integers, not ", kind()));
     }
-    // Row by row; null where either is null. Decimals of two scales are compared exactly.
+    // Row by row, in runs unless both are flat; null where either is null. Decimals of two scales are compared exactly.
     Column compare(Operator by, const Column &right, const hv_session &session = initial_session()) const;
-    // The same with one value. Any number is compared with integers and decimals: each i8 is less than 300.
+    // The same with one value, in runs where the column is. Any number is compared with integers and decimals: each i8
+    // is less than 300.
     Column compare(Operator by, const Value &right, const hv_session &session = initial_session()) const {
         const detail::Comparison asked = detail::comparison(by, right, kind());
         const detail::Passed passed(asked.right);
         return made(
             [&](auto *out, auto *error) {
-                return hv_compare_scalar(&session, &handle, static_cast<uint8_t>(asked.by), &passed.value, passed.text,
-                                         passed.size, out, error);
+                return hv_compare_value(&session, &handle, static_cast<uint8_t>(asked.by), &passed.value, passed.text,
+                                        passed.size, out, error);
             },
             detail::words_of_compared(right, kind()));
     }

@@ -183,14 +183,15 @@ static inline const char *hv_arrow_words(const hv_arrow_reader *reader);
 static inline void hv_arrow_close(hv_arrow_reader *reader);
 
 /* All chunks, one column of all rows for each column of a chunk, without rows where the stream has no chunk: runs where
- * each chunk came as runs, else flat. `how` says for each column how it is read, all are read where it is null. What
- * the stream said of its failure goes to `words`, as much of it as there is room for, ended by 0; nothing does where
- * words_len is 0. The stream is released in all cases. */
+ * each chunk came as runs, or as hv_arrow_concat has it, else flat. `how` says for each column how it is read, all are
+ * read where it is null. What the stream said of its failure goes to `words`, as much of it as there is room for, ended
+ * by 0; nothing does where words_len is 0. The stream is released in all cases. */
 static inline int32_t hv_arrow_import_stream(const hv_session *session, struct ArrowArrayStream *stream,
                                              hv_column *columns, size_t count, const uint8_t *how, char *words,
                                              size_t words_len, hv_error *error);
-/* Columns of one type, but for null, one after the other: runs over flat values where each is runs or a constant, else
- * flat; lists as lists, whose elements follow one another. 12 for two types, 13 for no columns. */
+/* Columns of one type, but for null, one after the other: runs over flat values where each is runs or a constant, or
+ * where there are more than 64 rows for each run and each flat row; else flat; lists as lists, whose elements follow
+ * one another. 12 for two types, 13 for no columns. */
 static inline int32_t hv_arrow_concat(const hv_session *session, hv_column *columns, size_t count, hv_column *out,
                                       hv_error *error);
 

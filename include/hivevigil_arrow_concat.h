@@ -157,19 +157,36 @@ static inline int32_t hv_arrow_common_kind(hv_column *columns, size_t count, hv_
     return HV_OK;
 }
 
-/* Adds the visible runs of a column after those that end at `rows`. */
+/* Are there more than 64 rows for each run and each flat row? Then flat rows are few next to those in runs. */
+static inline bool hv_arrow_are_long(const hv_column *columns, size_t count) {
+    uint64_t rows = 0, pieces = 0;
+    for (size_t i = 0; i < count; i++) {
+        const uint8_t form = hv_form(&columns[i]);
+        size_t more = form == HV_ARROW_FLAT ? hv_length(&columns[i]) : 1;
+        if (form == HV_FORM_RUNS && hv_run_count(&columns[i], &more, NULL)) return false;
+        rows += hv_length(&columns[i]);
+        pieces += more;
+    }
+    return rows / 64 > pieces;
+}
+
+/* Adds the visible runs of a column, or the runs of flat rows, after those that end at `rows`. */
 static inline int32_t hv_arrow_gather_runs(const hv_session *session, hv_arrow_gathered *values, hv_arrow_room *ends,
                                            hv_column *column, uint64_t rows, hv_error *error) {
-    hv_column shown = HV_EMPTY;
+    hv_column shown = HV_EMPTY, encoded = HV_EMPTY;
     uint64_t *found = NULL, *added = NULL;
     size_t count = 0;
-    int32_t answer = hv_arrow_runs_of(session, column, &found, &count, &shown, error);
+    int32_t answer = HV_OK;
+    if (hv_form(column) == HV_ARROW_FLAT) answer = hv_encode_rows(column, &encoded, error);
+    if (!answer)
+        answer = hv_arrow_runs_of(session, encoded.at ? &encoded : column, &found, &count, &shown, error);
     if (!answer) added = (uint64_t *)hv_arrow_grow(ends, count * sizeof *added);
     if (!answer && !added) answer = hv_arrow_refuse(HV_OUT_OF_MEMORY, 0, 0, error);
     for (size_t run = 0; !answer && run < count; run++) added[run] = rows + found[run];
     if (!answer) answer = hv_arrow_gather(session, values, &shown, error);
     free(found);
     hv_free(&shown);
+    hv_free(&encoded);
     return answer;
 }
 
@@ -201,6 +218,7 @@ static inline int32_t hv_arrow_concat(const hv_session *session, hv_column *colu
     if (count > 0 && hv_kind_of(&columns[0]).number == HV_LIST)
         return hv_arrow_concat_lists(session, columns, count, out, error);
     int32_t answer = hv_arrow_common_kind(columns, count, &gathered.kind, &are_runs, error);
+    if (!answer && !are_runs) are_runs = hv_arrow_are_long(columns, count);
     for (size_t i = 0; !answer && i < count; i++) {
         size_t more = hv_length(&columns[i]);
         if (more > INT64_MAX - rows) answer = hv_arrow_refuse(HV_WINDOW_OVERFLOW, 0, 0, error);

@@ -27,6 +27,21 @@ static inline void hv_put(hv_column *to, hv_column *from) {
 /* Is there no column in the handle, or no handle? */
 static inline int hv_is_empty(const hv_column *column) { return !column || !column->at; }
 
+/* Row by row whether `row operator value`, with the answers and refusals of hv_compare_scalar. For a column in runs it
+ * costs runs and no row is written: the answer is in as few runs as it has. */
+HV_ANSWER hv_compare_value(const hv_session *session, const hv_column *column, uint8_t operator_, const hv_value *value,
+                           const uint8_t *text, size_t text_len, hv_column *out, hv_error *error) {
+    hv_column constant = HV_EMPTY;
+    hv_kind kind = hv_kind_of(column);
+    if (hv_form(column) != HV_FORM_RUNS || kind.number == HV_LIST || operator_ > HV_LE || !value)
+        return hv_compare_scalar(session, column, operator_, value, text, text_len, out, error);
+    kind.nullable = value->kind == HV_NULL;
+    int32_t answer = hv_constant(&kind, value, text, text_len, hv_length(column), &constant, error);
+    if (!answer) answer = hv_combine(column, operator_, &constant, out, error);
+    hv_free(&constant);
+    return answer;
+}
+
 /* The rows whose bit is 1: that of row i is bit `first + i` of `bits`. 11 (rows, bytes) where there are fewer bits. */
 HV_ANSWER hv_filter_bits(const hv_session *session, const hv_column *column, const uint8_t *bits, size_t bits_len,
                          size_t first, hv_column *out, hv_error *error) {

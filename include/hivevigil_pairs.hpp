@@ -189,6 +189,7 @@ inline Column Column::compare(Operator by, const Column &right, const hv_session
         if (answer != HV_CAST_OUT_OF_RANGE) throw Error(answer, fields);
         return compared(by, right); // 38 digits do not hold both at one scale
     }
+    if (form() != Form::flat || right.form() != Form::flat) return compared(by, right);
     return beside(
         right,
         [&](auto *other, auto *out, auto *error) {

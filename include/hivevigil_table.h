@@ -260,7 +260,7 @@ HV_ANSWER hv_table_filter(const hv_session *session, const hv_table *table, cons
 
 /* ---- Conditions ---- */
 
-/* What rows of a column are compared with: a value of their type, as hv_compare_scalar takes it, or, where `value` is
+/* What rows of a column are compared with: a value of their type, as hv_compare_value takes it, or, where `value` is
  * null, a double, by IEEE 754, which is for floats only (logical types "e", "f" and "g"), and the only one for them. */
 typedef struct hv_table_condition {
     const char *column;
@@ -295,8 +295,8 @@ static inline int32_t hv_table_mask(const hv_session *session, const hv_column *
     const bool is_double = !condition->value;
     if (hv_table_is_float(column, logical_type) != is_double) return hv_arrow_refuse(HV_TYPE_MISMATCH, 0, 0, error);
     if (is_double) return hv_table_compare_floats(column, condition->operator_, condition->number, out, error);
-    return hv_compare_scalar(session, column, condition->operator_, condition->value, condition->text,
-                             condition->text_len, out, error);
+    return hv_compare_value(session, column, condition->operator_, condition->value, condition->text,
+                            condition->text_len, out, error);
 }
 
 /* The rows at which a condition holds. 201; 12 for a value that is not of the column's type; 13 for lists; 23 for no

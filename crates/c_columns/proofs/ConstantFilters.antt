@@ -21,7 +21,8 @@ use Rattle.runend_array.specs.declared.array_ref.ArrayRef.TheVariants as array
 use Rattle.runend_array.specs.SessionForm.{kernel_index}
 use Rattle.c_columns.specs.Flags.{flag_of}
 use Rattle.c_columns.specs.Sessions.{IsSessionOf, thresholds_in}
-use Rattle.c_columns.specs.TwoColumns.{HasPlain, IsFilteredIn, filtered_by, is_true, mask_fault, mask_filter_fault, true_rows}
+use Rattle.runend_select.specs.MaskRuns.{is_true, mask_fault}
+use Rattle.c_columns.specs.TwoColumns.{HasPlain, IsFilteredIn, filtered_by, mask_filter_fault, true_rows}
 use Rattle.c_columns.specs.declared.sessions.Session.{Session}
 
 -- the session of flags and thresholds

@@ -12,7 +12,8 @@ use Rattle.column_core.specs.BoolForm.{BoolForm}
 use Rattle.column_core.specs.Leaf.{OfTruths, single_rows}
 use Rattle.column_core.specs.Optionals.{optionals}
 use Rattle.column_core.specs.Value.{Single, Truth}
-use Rattle.c_columns.specs.TwoColumns.{AreOfBoth, AreWithin, is_true}
+use Rattle.runend_select.specs.MaskRuns.{is_true}
+use Rattle.c_columns.specs.TwoColumns.{AreOfBoth, AreWithin}
 
 -- the rows that are true, of bits and flags
 abbrev truths_of : List Bool → List Bool → List Bool

@@ -90,9 +90,19 @@ offset_past ptype n has_not =
 pub offset_huge : (ptype : PType) (n : ℕ) → 2 ^ 64 ≤ n → offset_fault ptype n ≡ Some CastOutOfRange
 offset_huge ptype n huge = let bits = bits_below ptype in above ptype n (omega arith)
 
--- the offsets after one that the type does not have
-pub offset_above : (ptype : PType) (a b : ℕ) (error : VortexError) → offset_fault ptype a ≡ Some error → a ≤ b → offset_fault ptype b ≡ Some error
-offset_above ptype a b error fault order = grind (arith, nat_tests)
+-- the offsets before one that the type has
+pub offset_below : (ptype : PType) (a b : ℕ) → offset_fault ptype b ≡ None → a ≤ b → offset_fault ptype a ≡ None
+offset_below ptype a b none order = grind (arith, nat_tests)
+
+-- an offset without a fault is a number of the type
+pub offset_fits : (ptype : PType) (n : ℕ) → offset_fault ptype n ≡ None → HasNumber ptype (pos n)
+offset_fits ptype n none =
+    ⊎_elim (λ (below : n < 2 ^ positive_bits ptype). of_bits ptype n below) (λ (past : 2 ^ positive_bits ptype ≤ n). let never : None ≡ Some CastOutOfRange = sym none ∙ above ptype n past in absurd (cc)) (cases_lt n (2 ^ positive_bits ptype))
+
+-- so it has fewer than 64 bits
+pub offset_small : (ptype : PType) (n : ℕ) → offset_fault ptype n ≡ None → n < 2 ^ 64
+offset_small ptype n none =
+    ⊎_elim (λ (below : n < 2 ^ 64). below) (λ (huge : 2 ^ 64 ≤ n). let never : None ≡ Some CastOutOfRange = sym none ∙ offset_huge ptype n huge in absurd (cc)) (cases_lt n (2 ^ 64))
 
 -- the rows are there
 pub reaches : (start count rows : ℕ) → start + count ≤ rows → past_fault start count rows ≡ None

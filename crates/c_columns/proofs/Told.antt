@@ -1,5 +1,5 @@
 -- What C is told of a row, from what its view shows.
-use Rattle.std.proofs.Common.{◌≡◌, ◌∙◌, ◌⊎◌, inl, inr, sym, ap, subst, pos, ℤ, ℕ, Bor, List, length, take}
+use Rattle.std.proofs.Common.{◌≡◌, ◌∙◌, ◌⊎◌, inl, inr, sym, ap, subst, pos, ℤ, ℕ, Bor, List, length, take, arith}
 use Rattle.std.specs.Prelude.{All, Bool, true, false, Option, Some, None, Result, Ok, Err, IfErr, IfOk, slice_get}
 use Rattle.std.proofs.lemmas.Bool.{false≢true}
 use Rattle.std.specs.Global.{Global}
@@ -9,7 +9,7 @@ use Rattle.column_base.specs.declared.dtype.DType.TheVariants as column
 use Rattle.column_core.specs.Refusal.{IsErrorFor}
 use Rattle.column_core.specs.ScalarForm.{ScalarForm}
 use Rattle.column_core.specs.ScalarView.{IsViewOf, sees}
-use Rattle.column_core.specs.Value.{PlainColumn, Value}
+use Rattle.column_core.specs.Value.{PlainColumn, Value, Single, Items, Number, DecimalNumber, Truth, Text, Bytes}
 use Rattle.column_core.specs.declared.view.ScalarView.{ScalarView}
 use Rattle.column_core.specs.declared.view.ScalarView.TheVariants as view
 use Rattle.runend_array.specs.Array.{dtype_of, rows}
@@ -54,6 +54,16 @@ text_told value text string kind size front t of = (kind, record { size = size; 
 
 pub bytes_told : (value : RowValue) (text : List ℕ) (bytes : Bor (List ℕ)) → value.kind ≡ 6 → value.as_unsigned ≡ length bytes.now → take value.as_unsigned text ≡ bytes.now → TellsView value text (view.Binary bytes)
 bytes_told value text bytes kind size front t of = (kind, record { size = size; front = sym (ap (λ (n : ℕ). take n text) size) ∙ front })
+
+-- what has room is never refused for none
+pub never_short : (value : Option Value) (room : ℕ) (error : VortexError) → IsRoomThere value room → IsRoomFault value room error → ⊥
+never_short None room error there short = short
+never_short (Some (Single (Number number))) room error there short = short
+never_short (Some (Single (DecimalNumber number))) room error there short = short
+never_short (Some (Single (Truth truth))) room error there short = short
+never_short (Some (Single (Text bytes))) room error there short = omega (arith, there, short.1)
+never_short (Some (Single (Bytes bytes))) room error there short = omega (arith, there, short.1)
+never_short (Some (Items items)) room error there short = there
 
 -- the row of a number
 pub row_told : (row : ℕ) (c : ArrayRef Global) (text : List ℕ) (value : RowValue) (seen : ScalarView Global) → slice_get (rows c) row ≡ Some (sees seen) → IsViewOf (dtype_of c) seen → TellsView value text seen → IsShownAt row c text value

@@ -15,7 +15,8 @@ use Rattle.runend_windows.proofs.RunAt.{ended_before, ends_past, run_of_row_with
 use Rattle.runend_windows.proofs.RunRows.{Covers-run_rows}
 use Rattle.runend_windows.proofs.ShownRuns.{equal_from_Covers}
 use Rattle.c_columns.specs.RunReads.{start_of, stop_of}
-use Rattle.c_columns.specs.TwoColumns.{is_true, true_rows, true_rows_in}
+use Rattle.runend_select.specs.MaskRuns.{is_true}
+use Rattle.c_columns.specs.TwoColumns.{true_rows, true_rows_in}
 use Rattle.c_columns.proofs.TwoColumns.{true_in_each}
 
 -- the rows of the runs before one are counted

@@ -20,7 +20,7 @@ use Rattle.column_ops.specs.Take.{take_rows}
 use Rattle.column_ops.specs.Comparing.{compare_dtype, compare_rows}
 use Rattle.column_ops.specs.declared.operator.CompareOperator.{CompareOperator}
 use Rattle.runend_array.specs.Array.{column_of, dtype_of, rows}
-use Rattle.runend_array.specs.Column.{IsFlat}
+use Rattle.runend_array.specs.Column.{Column, OfLeaf, OfConstant, OfLists, OfRuns, IsFlat}
 use Rattle.runend_array.specs.SessionForm.{SessionForm}
 use Rattle.runend_array.specs.declared.array_ref.ArrayRef.{ArrayRef}
 use Rattle.runend_array.specs.declared.array_ref.ArrayRef.TheVariants as array
@@ -35,9 +35,12 @@ use Rattle.runend_map.specs.ComparisonForm.{IsComparisonForm}
 use Rattle.runend_map.specs.TakenForm.{TakeFromLeaves}
 use Rattle.c_columns.specs.Calls.{Leaves}
 use Rattle.c_columns.specs.Sessions.{IsSessionOf}
-use Rattle.c_columns.specs.TwoColumns.{HasPlain, IsComparedIn, IsFilteredIn, IsLookedUpIn, IsTakenIn, compared_by, filtered_by, is_true, looked_up_by, mask_fault, mask_filter_fault}
+use Rattle.runend_select.specs.FilterForm.{IsFilterForm}
+use Rattle.runend_select.specs.MaskRuns.{IsFilterFormBy, is_true, mask_fault}
+use Rattle.c_columns.specs.TwoColumns.{HasPlain, IsComparedIn, IsFilteredIn, IsLookedUpIn, IsTakenIn, compared_by, filtered_by, looked_up_by, mask_filter_fault}
 use Rattle.c_columns.specs.declared.sessions.Session.{Session}
 use Rattle.c_columns.proofs.Forms.{least_left, on_runs}
+use Rattle.c_columns.proofs.Left.{left_filtered}
 
 -- one row more of a mask
 pub one_row_more : (rows : List (Option Value)) (row : ℕ) (bits more : List Bool) (bit : Bool) (seen : Option Value) → bits ≡ map is_true (take row rows) → more ≡ bits ++ bit ∷ [] → bit ≡ is_true seen
@@ -80,6 +83,40 @@ module _ (mask c : ArrayRef Global) where
     form = record { selected = selected; bits = is; form = left.form };
     least = left.least;
   }
+
+-- a mask that is picked for the runs of a column
+pub record IsPicked (session : SessionForm) (before after : Column) (bits : List Bool) : Type 0 where
+  pub selected : Mask Global
+  pub are : mask_bits selected ≡ bits
+  pub served : OnRuns before (λ runs. IsFilterForm session.thresholds runs selected after)
+
+picked : (session : SessionForm) (before after : Column) (bits : List Bool) → HasKernel session kernel.Filter before → OnRuns before (λ runs. IsFilterFormBy session.thresholds runs bits after) → IsPicked session before after bits
+picked session (OfLeaf leaf) after bits has form = absurd has
+picked session (OfConstant constant) after bits has form = absurd has
+picked session (OfLists lists) after bits has form = absurd has
+picked session (OfRuns ends_type ends values offset count) after bits has form = record { selected = form.mask; are = form.are; served = form.form }
+
+never_constant : (session : SessionForm) (before : Column) → HasKernel session kernel.Filter before → ¬ IsConstantForm before
+never_constant session (OfLeaf leaf) has = absurd has
+never_constant session (OfConstant constant) has = absurd has
+never_constant session (OfLists lists) has = absurd has
+never_constant session (OfRuns ends_type ends values offset count) has = λ no. no
+
+-- without a fault, the mask is as long
+accepted_by : (fault other : Option VortexError) → option_or fault other ≡ None → other ≡ None
+accepted_by None other none = none
+accepted_by (Some error) other none = absurd (cc)
+
+-- what the runs of a mask leave
+pub runs_left : (s : Session) (session : SessionForm) (mask c d : ArrayRef Global) → IsSessionOf s session → mask_filter_fault mask c ≡ None → rows d ≡ filter_rows (map is_true (rows mask)) (rows c) → dtype_of d ≡ dtype_of c
+    → HasKernel session kernel.Filter (column_of c) → OnRuns (column_of c) (λ runs. IsFilterFormBy session.thresholds runs (map is_true (rows mask)) (column_of d)) → HasPlain (filtered_by mask c) (IsFilteredIn s mask c) d
+runs_left s session mask c d set none kept typed has form =
+    let bits = map is_true (rows mask) in
+    let is = picked session (column_of c) (column_of d) bits has form in
+    let accepted = ap (λ (b : List Bool). filter_fault (length b) (length (rows c))) is.are ∙ accepted_by (mask_fault (dtype_of mask)) (filter_fault (length bits) (length (rows c))) none in
+    let rows_are = kept ∙ ap (λ (b : List Bool). filter_rows b (rows c)) (sym is.are) in
+    filter_left mask c s is.selected d is.are
+    (left_filtered s session c d is.selected set accepted rows_are typed (λ yes. is.served) (λ no. absurd (never_constant session (column_of c) has no)) (λ not. absurd (not has)))
 
 -- indices that lie flat, as codes
 pub same_codes : (form : PrimitiveForm) → code_numbers (single_rows (OfNumbers form)) ≡ optional_numbers form

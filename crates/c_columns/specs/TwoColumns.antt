@@ -2,14 +2,11 @@
 use Rattle.std.specs.Prelude.{◌≡◌, ◌<◌, ◌-◌, ℕ, ℤ, pos, List, Bool, true, false, bit_and, cond, count_by, length, map, slice_index, slice_index_or, Option, Some, None}
 use Rattle.std.specs.Option.{option_or}
 use Rattle.std.specs.Global.{Global}
-use Rattle.column_base.specs.declared.dtype.DType.{DType}
-use Rattle.column_base.specs.declared.dtype.DType.TheVariants as column
 use Rattle.column_base.specs.Mask.{mask_bits}
 use Rattle.column_base.specs.declared.error.VortexError.{VortexError}
-use Rattle.column_base.specs.declared.error.VortexError.TheVariants.{TypeMismatch}
 use Rattle.column_base.specs.declared.mask.Mask.{Mask}
 use Rattle.column_core.specs.Leaf.{OfNumbers}
-use Rattle.column_core.specs.Value.{PlainColumn, Value, Single, Truth}
+use Rattle.column_core.specs.Value.{PlainColumn, Value}
 use Rattle.column_ops.specs.Codes.{code_fault, code_rows}
 use Rattle.column_ops.specs.Filter.{filter_fault, filter_rows}
 use Rattle.column_ops.specs.Nullable.{take_dtype}
@@ -20,17 +17,13 @@ use Rattle.runend_array.specs.Array.{column_of, dtype_of, rows}
 use Rattle.runend_array.specs.Column.{Column, OfLeaf, Runs, column_rows}
 use Rattle.runend_array.specs.declared.array_ref.ArrayRef.{ArrayRef}
 use Rattle.runend_commands.specs.declared.command.Command.TheVariants.{Filter, Take, TakeFrom, CompareColumn}
+use Rattle.runend_select.specs.MaskRuns.{is_true, mask_fault}
 use Rattle.runend_commands.specs.Meaning.{plain}
 use Rattle.c_columns.specs.Ending.{EndsBy}
 use Rattle.c_columns.specs.Forms.{IsLeastIfRuns, LeavesFormIn}
 use Rattle.c_columns.specs.RunReads.{start_of, stop_of}
 use Rattle.c_columns.specs.declared.error_fields.ErrorFields.{ErrorFields}
 use Rattle.c_columns.specs.declared.sessions.Session.{Session}
-
--- is the row true? null is not
-abbrev pub is_true : Option Value → Bool
-is_true (Some (Single (Truth truth))) = truth
-is_true row = false
 
 -- how many rows are true
 abbrev pub true_rows : List (Option Value) → ℕ
@@ -48,11 +41,6 @@ AreWithin bits others = (i : ℕ) → i < length bits → slice_index_or bits i 
 pub record AreOfBoth (words others both : List ℕ) (n : ℕ) : Type 0 where
   pub len : length both ≡ n
   pub word : (k : ℕ) → k < n → slice_index both k ≡ bit_and (slice_index words k) (slice_index others k)
-
--- the rows of a mask are booleans
-abbrev pub mask_fault : DType → Option VortexError
-mask_fault (column.Bool n) = None
-mask_fault t = Some TypeMismatch
 
 -- a filter by the rows of a mask
 abbrev pub mask_filter_fault : ArrayRef Global → ArrayRef Global → Option VortexError

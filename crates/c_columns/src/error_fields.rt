@@ -1,5 +1,5 @@
 //! What C is told of an error.
-ghost use Rattle.std.specs.Prelude.{◌≡◌, ◌≢◌, pos, IfOk, IfErr};
+ghost use Rattle.std.specs.Prelude.{◌≡◌, ◌≢◌, pos, IfOk, IfErr, OnErr};
 ghost use Rattle.column_base.specs.Error.{number_of};
 ghost use Rattle.c_columns.specs.Ending.{HasFields, IsIndexField};
 
@@ -30,7 +30,7 @@ pub fn refuse(error: VortexError, fields: &mut ErrorFields) -> i32
     i32::from(error.number())
 }
 
-/// 0 and what was found, or the number of an error, whose fields are written.
+/// Returns 0 and puts what was found in its place, or returns the number of an error and writes only its fields.
 pub fn write_answer<T: Drop>(
     outcome: VortexResult<T>,
     place: &mut T,
@@ -39,6 +39,7 @@ pub fn write_answer<T: Drop>(
     ensures ok { IfOk outcome (λ found. (result ≡ pos 0) × (place.new ≡ found)) }
     ensures err { IfErr outcome
         (λ error. (result ≡ pos (number_of error)) × (result ≢ pos 0) × HasFields error fields.new) }
+    ensures kept { OnErr outcome (place.new ≡ place.old) }
 {
     match outcome {
         Ok(found) => {

@@ -8,7 +8,8 @@ ghost use Rattle.column_core.specs.ScalarView.{sees};
 ghost use Rattle.runend_array.specs.Array.{dtype_of, rows};
 ghost use Rattle.runend_array.specs.Canonical.{canonical_column};
 ghost use Rattle.runend_array.specs.Column.{OfConstant, column_dtype, column_rows};
-ghost use Rattle.c_columns.specs.TwoColumns.{AreOfBoth, AreWithin, is_true, mask_fault};
+ghost use Rattle.runend_select.specs.MaskRuns.{is_true, mask_fault};
+ghost use Rattle.c_columns.specs.TwoColumns.{AreOfBoth, AreWithin};
 
 use crate::sessions::plain_context;
 use column_core::{

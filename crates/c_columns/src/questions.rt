@@ -1,5 +1,5 @@
 //! Questions about a column, which copy none of it.
-ghost use Rattle.std.specs.Prelude.{◌≡◌, ◌≢◌, ◌⊎◌, false, true, length, None, Some, Err, IfOk, IfErr};
+ghost use Rattle.std.specs.Prelude.{◌≡◌, ◌≢◌, ◌⊎◌, false, true, length, None, Some, Err, IfOk, IfErr, OnErr};
 ghost use Rattle.std.specs.Global.{Global};
 ghost use Rattle.column_core.specs.Refusal.{IsErrorFor, IsRefusedBy};
 ghost use Rattle.column_ops.specs.OrderFacts as order;
@@ -16,7 +16,7 @@ ghost use Rattle.runend_commands.specs.Extremes.{HasBytes, shown as shown_by};
 ghost use Rattle.c_columns.specs.Values.{IsExtremeOf, IsRoomFault, IsRoomThere, IsScalarTold, IsShownAt, side_in};
 ghost use Rattle.c_columns.specs.Ending.{IsEndsFault, IsExtremeFault, IsLookUpFault};
 
-use crate::row_value::{self, RowValue, row_value_of};
+use crate::row_value::{self, RowValue, check_room_of, row_value_of};
 use crate::sessions::{Session, context};
 use crate::totals::{Total, total_of};
 use column_core::{DType, Scalar, VortexError, VortexResult, fault_of_lists};
@@ -92,6 +92,7 @@ pub fn extreme_of(
     ensures told { IfOk result (λ value. IsExtremeOf greatest (plain array.now) text.new value) }
     ensures accepted { IfOk result (λ _. refusal {A = Global} (plain array.now) MinMax ≡ None) }
     ensures refused { IfErr result (λ error. IsExtremeFault greatest (plain array.now) (length text.old) error) }
+    ensures kept { OnErr result (text.new ≡ text.old) }
     ensures len { length text.new ≡ length text.old }
     ensures memory { ¬ HasBytes (dtype_of array.now) → IsReadInPlaceIn session.now kernel.MinMax (column_of array.now)
         → result ≢ Err VortexError.OutOfMemory }
@@ -134,7 +135,9 @@ pub fn extremes_of(
     ensures accepted { IfOk result (λ _. refusal {A = Global} (plain array.now) MinMax ≡ None) }
     ensures refused { IfErr result
         (λ error. IsEndsFault (plain array.now) (length least_text.old) (length greatest_text.old) error) }
+    ensures kept_least { OnErr result (least_text.new ≡ least_text.old) }
     ensures least_len { length least_text.new ≡ length least_text.old }
+    ensures kept_greatest { OnErr result (greatest_text.new ≡ greatest_text.old) }
     ensures greatest_len { length greatest_text.new ≡ length greatest_text.old }
     ensures memory { ¬ HasBytes (dtype_of array.now) → IsReadInPlaceIn session.now kernel.MinMax (column_of array.now)
         → result ≢ Err VortexError.OutOfMemory }
@@ -161,6 +164,7 @@ pub fn row_at(array: &ArrayRef<Global>, row: usize, text: &mut [u8]) -> VortexRe
     ensures shown { IfOk result (λ value. IsShownAt row array.now text.new value) }
     ensures accepted { IfOk result (λ _. refusal {A = Global} (plain array.now) (At row) ≡ None) }
     ensures refused { IfErr result (λ error. IsLookUpFault (plain array.now) row (length text.old) error) }
+    ensures kept { OnErr result (text.new ≡ text.old) }
     ensures len { length text.new ≡ length text.old }
 {
     check_no_lists(array.dtype())?;
@@ -168,7 +172,8 @@ pub fn row_at(array: &ArrayRef<Global>, row: usize, text: &mut [u8]) -> VortexRe
     row_value_of(view, text)
 }
 
-// Both scalars, each with a buffer of its own, the least first.
+// Both scalars, each with a buffer of its own, the least first. Nothing is written where one of them has no room.
+#[tactic(auto, using(crate::proofs::Told::never_short))]
 fn both_told(
     least: &Scalar<Global>,
     greatest: &Scalar<Global>,
@@ -181,9 +186,13 @@ fn both_told(
         (λ error. IsRoomFault (shown_by least.now) (length least_text.old) error
         ⊎ (IsRoomThere (shown_by least.now) (length least_text.old)
         × IsRoomFault (shown_by greatest.now) (length greatest_text.old) error)) }
+    ensures kept_least { OnErr result (least_text.new ≡ least_text.old) }
     ensures least_len { length least_text.new ≡ length least_text.old }
+    ensures kept_greatest { OnErr result (greatest_text.new ≡ greatest_text.old) }
     ensures greatest_len { length greatest_text.new ≡ length greatest_text.old }
 {
+    check_room_of(least.view(), least_text.len())?;
+    check_room_of(greatest.view(), greatest_text.len())?;
     let least = scalar_told(least, least_text)?;
     let greatest = scalar_told(greatest, greatest_text)?;
     Ok(Extremes { least, greatest })
@@ -193,6 +202,7 @@ fn scalar_told(scalar: &Scalar<Global>, text: &mut [u8]) -> VortexResult<RowValu
     ensures told { IfOk result (λ value. IsScalarTold scalar.now value text.new) }
     ensures room { IfErr result (λ error. IsRoomFault (shown_by scalar.now) (length text.old) error) }
     ensures fits { IfOk result (λ _. IsRoomThere (shown_by scalar.now) (length text.old)) }
+    ensures kept { OnErr result (text.new ≡ text.old) }
     ensures len { length text.new ≡ length text.old }
 {
     row_value_of(scalar.view(), text)

@@ -1,5 +1,5 @@
 //! One value of a row, as C reads and writes it.
-ghost use Rattle.std.specs.Prelude.{◌≡◌, ◌<◌, ◌≤◌, ◌⊎◌, ◌↔◌, length, take, IfOk, IfErr, OnOk, Some};
+ghost use Rattle.std.specs.Prelude.{◌≡◌, ◌<◌, ◌≤◌, ◌⊎◌, ◌↔◌, length, take, IfOk, IfErr, MatchResult, OnOk, Some, OnErr};
 ghost use Rattle.std.specs.Str.{IsUtf8};
 ghost use Rattle.column_base.specs.declared.dtype.DType.{DType};
 ghost use Rattle.column_core.specs.Value.{Text};
@@ -32,6 +32,7 @@ pub fn row_value_of(view: ScalarView<'_, Global>, text: &mut [u8]) -> VortexResu
     ensures told { IfOk result (λ value. TellsView value text.new view.entry) }
     ensures room { IfErr result (λ error. IsRoomFault (sees view.entry) (length text.old) error) }
     ensures fits { IfOk result (λ _. IsRoomThere (sees view.entry) (length text.old)) }
+    ensures kept { OnErr result (text.new ≡ text.old) }
     ensures len { length text.new ≡ length text.old }
 {
     match view {
@@ -49,6 +50,33 @@ pub fn row_value_of(view: ScalarView<'_, Global>, text: &mut [u8]) -> VortexResu
     }
 }
 
+/// Returns whether a text or bytes that a view shows have so much room. Refused as `row_value_of` is with that room.
+pub fn check_room_of(view: ScalarView<'_, Global>, room: usize) -> VortexResult<()>
+    ensures room { IfErr result (λ error. IsRoomFault (sees view.entry) room error) }
+    ensures fits { IfOk result (λ _. IsRoomThere (sees view.entry) room) }
+{
+    match view {
+        ScalarView::Utf8(string) => check_enough(string.as_bytes().len(), room),
+        ScalarView::Binary(bytes) => check_enough(bytes.len(), room),
+        ScalarView::List { .. } => Err(VortexError::Unsupported),
+        _ => Ok(()),
+    }
+}
+
+// Returns whether the bytes have room. Refused as `ColumnLength`, with their number and the room.
+fn check_enough(size: usize, room: usize) -> VortexResult<()>
+    ensures { MatchResult result (λ _. size ≤ room)
+        (λ error. (error ≡ VortexError.ColumnLength size room) × (room < size)) }
+{
+    if room < size {
+        return Err(VortexError::ColumnLength {
+            left: size,
+            right: room,
+        });
+    }
+    Ok(())
+}
+
 /// Null.
 pub fn null() -> RowValue
     ensures { result.kind ≡ 0 }
@@ -64,15 +92,11 @@ pub fn put_bytes(bytes: &[u8], room: &mut [u8]) -> VortexResult<u64>
     ensures refused { IfErr result
         (λ error. (error ≡ VortexError.ColumnLength (length bytes.now) (length room.old))
         × (length room.old < length bytes.now)) }
+    ensures kept { OnErr result (room.new ≡ room.old) }
     ensures len { length room.new ≡ length room.old }
 {
     let size = bytes.len();
-    if room.len() < size {
-        return Err(VortexError::ColumnLength {
-            left: size,
-            right: room.len(),
-        });
-    }
+    check_enough(size, room.len())?;
     room[..size].copy_from_slice(bytes);
     Ok(size as u64)
 }

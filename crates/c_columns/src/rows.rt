@@ -1,5 +1,5 @@
 //! Many rows of a flat column at once, borrowed. What is stored under null is read as it stands.
-ghost use Rattle.std.specs.Prelude.{◌≡◌, ℕ, ◌+◌, ◌<◌, ◌≤◌, pos, length, map, slice_range, slice_index_or, IfOk};
+ghost use Rattle.std.specs.Prelude.{◌≡◌, ℕ, ◌+◌, ◌<◌, ◌≤◌, pos, length, map, slice_range, slice_index_or, IfOk, OnErr};
 ghost use Rattle.column_base.specs.Validity.{form_of, validity_flags};
 ghost use Rattle.column_base.specs.ValidityForm.{HasLength};
 ghost use Rattle.column_base.specs.Words.{Packs};
@@ -26,6 +26,7 @@ pub fn read_numbers<T: NativePType>(
     ensures items { IfOk result (λ _. AreStoredNumbers (leaf_in flat.entry) start (map T.number items.new)) }
     ensures refused { IsRefusedOnlyBy
         (stored_numbers_fault T.PTYPE start (length items.old) (leaf_in flat.entry)) result }
+    ensures kept { OnErr result (items.new ≡ items.old) }
     ensures len { length items.new ≡ length items.old }
 {
     let FlatView::Primitive(numbers) = flat else {
@@ -48,6 +49,7 @@ pub fn read_decimals(
 ) -> VortexResult<()>
     ensures pairs { IfOk result (λ _. AreStoredPairs (leaf_in flat.entry) start pairs.new) }
     ensures refused { IsRefusedOnlyBy (stored_decimals_fault start (length pairs.old) (leaf_in flat.entry)) result }
+    ensures kept { OnErr result (pairs.new ≡ pairs.old) }
     ensures len { length pairs.new ≡ length pairs.old }
 {
     let FlatView::Decimal(decimals) = flat else {
@@ -64,6 +66,7 @@ pub fn read_decimals(
 pub fn read_booleans(flat: FlatView<'_, Global>, words: &mut [u64]) -> VortexResult<()>
     ensures words { IfOk result (λ _. AreLeafTruths (leaf_in flat.entry) words.new) }
     ensures refused { IsRefusedOnlyBy (stored_truths_fault (length words.old) (leaf_in flat.entry)) result }
+    ensures kept { OnErr result (words.new ≡ words.old) }
     ensures len { length words.new ≡ length words.old }
 {
     match flat {
@@ -77,6 +80,7 @@ pub fn read_booleans(flat: FlatView<'_, Global>, words: &mut [u64]) -> VortexRes
 pub fn read_validity(flat: FlatView<'_, Global>, words: &mut [u64]) -> VortexResult<()>
     ensures words { IfOk result (λ _. AreLeafFlags (leaf_in flat.entry) words.new) }
     ensures refused { IsRefusedOnlyBy (words_fault (leaf_count (leaf_in flat.entry)) (length words.old)) result }
+    ensures kept { OnErr result (words.new ≡ words.old) }
     ensures len { length words.new ≡ length words.old }
 {
     put_validity(flat.validity(), flat.len(), words)
@@ -110,6 +114,7 @@ fn put_validity(validity: &Validity<Global>, count: usize, words: &mut [u64]) ->
     requires { HasLength (form_of validity.now) count }
     ensures packed { IfOk result (λ _. Packs words.new (validity_flags validity.now count)) }
     ensures refused { IsRefusedOnlyBy (words_fault count (length words.old)) result }
+    ensures kept { OnErr result (words.new ≡ words.old) }
     ensures len { length words.new ≡ length words.old }
 {
     match validity {

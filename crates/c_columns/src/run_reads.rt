@@ -1,6 +1,6 @@
 //! The runs of a run column, one by one and many at once. None of this takes memory. A run that the column's window
 //! does not reach shows no row: it starts where it stops.
-ghost use Rattle.std.specs.Prelude.{◌≡◌, ◌+◌, ◌^◌, ◌<◌, ◌≤◌, ℕ, length, map, slice_index_or, unsigned_abs, IfErr, IfOk};
+ghost use Rattle.std.specs.Prelude.{◌≡◌, ◌+◌, ◌^◌, ◌<◌, ◌≤◌, ℕ, length, map, slice_index_or, unsigned_abs, IfErr, IfOk, OnErr};
 ghost use Rattle.column_base.specs.Numbers.{numbers, ptype_of};
 ghost use Rattle.column_base.specs.Types.{IsUnsigned};
 ghost use Rattle.column_core.specs.PrimitiveForm.{primitive_dtype};
@@ -66,6 +66,7 @@ pub fn run_of_row(array: &ArrayRef<Global>, row: usize) -> VortexResult<usize>
 pub fn run_at(array: &ArrayRef<Global>, run: usize, text: &mut [u8]) -> VortexResult<Run>
     ensures told { IfOk result (λ told. IsRunTold run told.start told.stop text.new told.value (column_of array.now)) }
     ensures refused { IfErr result (λ error. RunFault run (length text.old) (column_of array.now) error) }
+    ensures kept { OnErr result (text.new ≡ text.old) }
     ensures len { length text.new ≡ length text.old }
 {
     let ArrayRef::RunEnd(runs) = array else {
@@ -85,6 +86,7 @@ pub fn run_at(array: &ArrayRef<Global>, run: usize, text: &mut [u8]) -> VortexRe
 pub fn read_stops(array: &ArrayRef<Global>, first: usize, stops: &mut [u64]) -> VortexResult<()>
     ensures stops { IfOk result (λ _. AreStopsFrom first stops.new (column_of array.now)) }
     ensures refused { IsRefusedOnlyBy (stops_fault first (length stops.old) (column_of array.now)) result }
+    ensures kept { OnErr result (stops.new ≡ stops.old) }
     ensures len { length stops.new ≡ length stops.old }
 {
     let ArrayRef::RunEnd(runs) = array else {

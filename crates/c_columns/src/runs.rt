@@ -1,5 +1,5 @@
 //! Run columns of what other handles hold, and what run columns consist of.
-ghost use Rattle.std.specs.Prelude.{◌≡◌, [], length, IfOk, IfErr, IsOkUnless, OnOk};
+ghost use Rattle.std.specs.Prelude.{◌≡◌, [], length, IfOk, IfErr, IsOkUnless, OnOk, OnErr};
 ghost use Rattle.column_base.specs.ValidityForm.{NeverNull};
 ghost use Rattle.column_base.specs.declared.dtype.PType.TheVariants.{U8};
 ghost use Rattle.column_core.specs.Leaf.{OfNumbers};
@@ -152,6 +152,7 @@ pub fn put_record(alloc: Global, array: &ArrayRef<Global>, room: &mut [u8]) -> V
     ensures put { IfOk result (λ size. IsRecordAtFront (column_of array.now) size room.new) }
     ensures refused { IfErr result (λ error. IsShortOr (SerializeFault (length room.old) array.now) error) }
     ensures served { OnOk result ((error : VortexError) → ¬ (SerializeFault (length room.old) array.now error)) }
+    ensures kept { OnErr result (room.new ≡ room.old) }
     ensures len { length room.new ≡ length room.old }
 {
     let ArrayRef::RunEnd(runs) = array else {

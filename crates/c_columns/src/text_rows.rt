@@ -1,5 +1,5 @@
 //! Texts and bytes of a flat column, many rows at once.
-ghost use Rattle.std.specs.Prelude.{◌≡◌, ℕ, ◌+◌, ◌-◌, ◌^◌, ◌++◌, ◌<◌, ◌≤◌, pos, take, length, map, slice_range, slice_index_or, IfOk, MatchOption, MatchResult, None};
+ghost use Rattle.std.specs.Prelude.{◌≡◌, ℕ, ◌+◌, ◌-◌, ◌^◌, ◌++◌, ◌<◌, ◌≤◌, pos, take, length, map, slice_range, slice_index_or, IfOk, MatchOption, MatchResult, None, OnErr};
 ghost use Rattle.column_core.specs.FlatView.{leaf_in};
 ghost use Rattle.c_columns.specs.ReadFaults.{IsRefusedOnlyBy, offset_fault, room_fault, stored_bytes_fault, stored_offsets_fault};
 ghost use Rattle.c_columns.specs.Reads.{AreStoredBytes, AreStoredOffsets, bytes_of, bytes_of_rows, size_between, text_rows};
@@ -21,6 +21,7 @@ pub fn read_offsets<T: NativePType>(
     ensures offsets { IfOk result (λ _. AreStoredOffsets (leaf_in flat.entry) start (map T.number offsets.new)) }
     ensures refused { IsRefusedOnlyBy
         (stored_offsets_fault T.PTYPE start (length offsets.old) (leaf_in flat.entry)) result }
+    ensures kept { OnErr result (offsets.new ≡ offsets.old) }
     ensures len { length offsets.new ≡ length offsets.old }
 {
     let FlatView::VarBinView(texts) = flat else {
@@ -50,6 +51,7 @@ pub fn read_bytes(
 ) -> VortexResult<()>
     ensures bytes { IfOk result (λ _. AreStoredBytes (leaf_in flat.entry) start count bytes.new) }
     ensures refused { IsRefusedOnlyBy (stored_bytes_fault start count (length bytes.old) (leaf_in flat.entry)) result }
+    ensures kept { OnErr result (bytes.new ≡ bytes.old) }
     ensures len { length bytes.new ≡ length bytes.old }
 {
     let FlatView::VarBinView(texts) = flat else {
@@ -61,8 +63,9 @@ pub fn read_bytes(
     Ok(())
 }
 
-// The offset of each row from `start` to `stop - 1`, and one more.
-#[tactic(auto, using(crate::proofs::TextRows::size_more, crate::proofs::TextRows::next_offset))]
+// The offset of each row from `start` to `stop - 1`, and one more. None is written where the type has not the last,
+// which is the greatest.
+#[tactic(auto, using(crate::proofs::ReadRefusals::passed_on))]
 fn put_offsets<T: NativePType>(
     texts: &VarBinViewArray<Global>,
     start: usize,
@@ -77,27 +80,68 @@ fn put_offsets<T: NativePType>(
         (λ _. (k : ℕ) → k < stop - start + 1
         → slice_index_or (map T.number offsets.new) k (pos 0) ≡ pos (size_between texts.now start (start + k))) }
     ensures refused { IsRefusedOnlyBy (offset_fault T.PTYPE (size_between texts.now start stop)) result }
+    ensures kept { OnErr result (offsets.new ≡ offsets.old) }
     ensures len { length offsets.new ≡ length offsets.old }
 {
-    let mut size: usize = 0;
-    offsets[0] = offset_of(0)?;
-    for row in start..stop {
-        let more = bytes_at(texts, row).len();
-        size = add_size(size, more)?;
-        offsets[row - start + 1] = offset_of(size)?;
-    }
+    check_last::<T>(texts, start, stop)?;
+    put_each_offset(texts, start, stop, offsets);
     Ok(())
 }
 
-// Both together, where a `usize` has it.
-fn add_size(size: usize, more: usize) -> VortexResult<usize>
-    ensures { MatchResult result (λ sum. sum ≡ size + more)
-        (λ error. (error ≡ VortexError.CastOutOfRange) × (2 ^ 64 ≤ size + more)) }
+// Has the type the offset after the rows from `start` to `stop - 1`? Else refused as `CastOutOfRange`.
+#[tactic(auto, using(crate::proofs::ReadRefusals::offset_huge, crate::proofs::ReadRefusals::passed_on))]
+fn check_last<T: NativePType>(
+    texts: &VarBinViewArray<Global>,
+    start: usize,
+    stop: usize,
+) -> VortexResult<()>
+    requires order { start ≤ stop }
+    requires within { stop ≤ length texts.now.views }
+    requires counted { length (text_rows texts.now) ≡ length texts.now.views }
+    ensures refused { IsRefusedOnlyBy (offset_fault T.PTYPE (size_between texts.now start stop)) result }
 {
-    match size.checked_add(more) {
-        Some(sum) => Ok(sum),
+    match size_of_rows(texts, start, stop) {
+        Some(size) => {
+            let _last: T = offset_of(size)?;
+            Ok(())
+        }
         None => Err(VortexError::CastOutOfRange),
     }
+}
+
+// Writes the offset of each row from `start` to `stop - 1`, and one more, which the type has.
+#[tactic(auto, using(crate::proofs::TextRows::size_more, crate::proofs::TextRows::next_offset))]
+fn put_each_offset<T: NativePType>(
+    texts: &VarBinViewArray<Global>,
+    start: usize,
+    stop: usize,
+    offsets: &mut [T],
+)
+    requires order { start ≤ stop }
+    requires within { stop ≤ length texts.now.views }
+    requires counted { length (text_rows texts.now) ≡ length texts.now.views }
+    requires room { length offsets.old ≡ stop - start + 1 }
+    requires last { offset_fault T.PTYPE (size_between texts.now start stop) ≡ None }
+    ensures offsets { (k : ℕ) → k < stop - start + 1
+        → slice_index_or (map T.number offsets.new) k (pos 0) ≡ pos (size_between texts.now start (start + k)) }
+    ensures len { length offsets.new ≡ length offsets.old }
+{
+    let mut size: usize = 0;
+    offsets[0] = offset_within(0);
+    for row in start..stop {
+        let more = bytes_at(texts, row).len();
+        size += more;
+        offsets[row - start + 1] = offset_within(size);
+    }
+}
+
+// The offset in its type, which has it.
+#[tactic(auto, using(crate::proofs::ReadRefusals::offset_fits))]
+fn offset_within<T: NativePType>(size: usize) -> T
+    requires { offset_fault T.PTYPE size ≡ None }
+    ensures { T.number result ≡ pos size }
+{
+    T::narrow(size as i128).unwrap()
 }
 
 // The offset in its type.

@@ -3,7 +3,8 @@ ghost use Rattle.std.specs.Prelude.{◌≡◌, ◌<◌, length, IfOk};
 ghost use Rattle.column_core.specs.Refusal.{IsRefusedBy};
 ghost use Rattle.runend_array.specs.Array.{dtype_of, rows};
 ghost use Rattle.runend_array.specs.Column.{column_of_runs, column_rows};
-ghost use Rattle.c_columns.specs.TwoColumns.{mask_fault, true_rows, true_rows_in};
+ghost use Rattle.runend_select.specs.MaskRuns.{mask_fault};
+ghost use Rattle.c_columns.specs.TwoColumns.{true_rows, true_rows_in};
 
 use crate::masks::{is_selected, mask_of};
 use crate::run_reads::rows_of_run;

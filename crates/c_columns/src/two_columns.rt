@@ -1,5 +1,5 @@
 //! Commands that are made of a second column, which may have any form. Neither column is copied.
-ghost use Rattle.std.specs.Prelude.{◌≡◌, IfOk, length};
+ghost use Rattle.std.specs.Prelude.{◌≡◌, IfOk, IfSome, length};
 ghost use Rattle.column_base.specs.Mask.{mask_bits};
 ghost use Rattle.column_core.specs.Refusal.{IsRefusedBy};
 ghost use Rattle.column_core.specs.PrimitiveForm.{optional_numbers};
@@ -23,8 +23,8 @@ use runend_commands::compute;
 use std::alloc::Global;
 
 /// Returns the rows at which the mask is true: null selects nothing. A constant stays one: the true rows of the mask
-/// are counted. Refused as `TypeMismatch` unless the mask is of booleans, and then as `MaskLength` where it has not a
-/// row for each row.
+/// are counted. Runs and a mask in few runs are walked together, and no bit of the mask is made. Refused as
+/// `TypeMismatch` unless the mask is of booleans, and then as `MaskLength` where it has not a row for each row.
 #[tactic(auto, using(crate::proofs::ConstantFilters::constant_left))]
 pub fn filtered(
     alloc: Global,
@@ -41,7 +41,10 @@ pub fn filtered(
             let kept = constant_selected(alloc, mask, constant)?;
             boxed(alloc, ArrayRef::Constant(kept))
         }
-        _ => filtered_by_bits(alloc, session, mask, array),
+        _ => match filtered_by_runs(alloc, session, mask, array) {
+            Some(kept) => kept,
+            None => filtered_by_bits(alloc, session, mask, array),
+        },
     }
 }
 
@@ -63,6 +66,26 @@ fn constant_selected(
         });
     }
     constant.repeated(alloc, count)
+}
+
+// The rows at which the mask is true, by the runs of both columns, where the kernel takes a mask so.
+#[tactic(auto, using(crate::proofs::TwoColumns::runs_left))]
+fn filtered_by_runs(
+    alloc: Global,
+    session: &Session,
+    mask: &ArrayRef<Global>,
+    array: &ArrayRef<Global>,
+) -> Option<VortexResult<Boxed>>
+    ensures left { IfSome result (λ answer. IfOk answer (λ made.
+        HasPlain (filtered_by mask.now array.now) (IsFilteredIn session.now mask.now array.now) made.value)) }
+    ensures refused { IfSome result (λ answer. IsRefusedBy (mask_filter_fault mask.now array.now) answer) }
+{
+    let mut ctx = context(alloc, session);
+    let kept = match compute::filter_by_runs(array, mask, &mut ctx)? {
+        Ok(kept) => kept,
+        Err(error) => return Some(Err(error)),
+    };
+    Some(boxed(alloc, kept))
 }
 
 // The rows at which the mask is true, by a bit for each row.

@@ -1,6 +1,6 @@
 //! Windows of rows of columns in any form. A flat column is read where it lies, by `rows` and `text_rows`, which takes
 //! no memory; rows in any other form are written flat first, these rows alone.
-ghost use Rattle.std.specs.Prelude.{◌≡◌, ◌+◌, ◌-◌, ◌^◌, ◌<◌, ◌≤◌, cond, length, map, IfOk, IsOkUnless, None, Some};
+ghost use Rattle.std.specs.Prelude.{◌≡◌, ◌+◌, ◌-◌, ◌^◌, ◌<◌, ◌≤◌, cond, length, map, IfOk, IsOkUnless, None, Some, OnErr};
 ghost use Rattle.column_core.specs.FlatColumn.{leaf_of};
 ghost use Rattle.column_core.specs.Kinds.{list_fault};
 ghost use Rattle.column_core.specs.Leaf.{leaf_count, single_rows};
@@ -33,6 +33,7 @@ pub fn read_numbers<T: NativePType>(
     ensures items { IfOk result (λ _. AreNumbersFrom (column_of array.now) start (map T.number items.new)) }
     ensures refused { IsRefusedIn (column_of array.now)
         (numbers_fault T.PTYPE start (length items.old) (column_of array.now)) result }
+    ensures kept { OnErr result (items.new ≡ items.old) }
     ensures len { length items.new ≡ length items.old }
 {
     match array.flat_view() {
@@ -53,6 +54,7 @@ pub fn read_decimals(
     ensures pairs { IfOk result (λ _. ArePairsFrom (column_of array.now) start pairs.new) }
     ensures refused { IsRefusedIn (column_of array.now)
         (decimals_fault start (length pairs.old) (column_of array.now)) result }
+    ensures kept { OnErr result (pairs.new ≡ pairs.old) }
     ensures len { length pairs.new ≡ length pairs.old }
 {
     match array.flat_view() {
@@ -73,6 +75,7 @@ pub fn read_booleans(
 ) -> VortexResult<()>
     ensures words { IfOk result (λ _. AreTruthWordsFrom (column_of array.now) start count words.new) }
     ensures refused { IsRefusedBy (truths_from_fault start count (length words.old) (column_of array.now)) result }
+    ensures kept { OnErr result (words.new ≡ words.old) }
     ensures len { length words.new ≡ length words.old }
 {
     check_truths(array.dtype())?;
@@ -96,6 +99,7 @@ pub fn read_validity(
 ) -> VortexResult<()>
     ensures words { IfOk result (λ _. AreValidityWordsFrom (column_of array.now) start count words.new) }
     ensures refused { IsRefusedBy (flags_from_fault start count (length words.old) (column_of array.now)) result }
+    ensures kept { OnErr result (words.new ≡ words.old) }
     ensures len { length words.new ≡ length words.old }
 {
     check_single(array.dtype())?;
@@ -121,6 +125,7 @@ pub fn read_offsets<T: NativePType>(
     ensures offsets { IfOk result (λ _. AreOffsetsFrom (column_of array.now) start (map T.number offsets.new)) }
     ensures refused { IsRefusedIn (column_of array.now)
         (offsets_fault T.PTYPE start (length offsets.old) (column_of array.now)) result }
+    ensures kept { OnErr result (offsets.new ≡ offsets.old) }
     ensures len { length offsets.new ≡ length offsets.old }
 {
     match array.flat_view() {
@@ -143,6 +148,7 @@ pub fn read_bytes(
     ensures bytes { IfOk result (λ _. AreBytesFrom (column_of array.now) start count bytes.new) }
     ensures refused { IsRefusedIn (column_of array.now)
         (bytes_fault start count (length bytes.old) (column_of array.now)) result }
+    ensures kept { OnErr result (bytes.new ≡ bytes.old) }
     ensures len { length bytes.new ≡ length bytes.old }
 {
     match array.flat_view() {
@@ -156,6 +162,7 @@ pub fn read_bytes(
 pub fn read_all_booleans(array: &ArrayRef<Global>, words: &mut [u64]) -> VortexResult<()>
     ensures words { IfOk result (λ _. AreTruthWords (column_of array.now) words.new) }
     ensures refused { IsRefusedOnlyBy (truths_fault (length words.old) (column_of array.now)) result }
+    ensures kept { OnErr result (words.new ≡ words.old) }
     ensures len { length words.new ≡ length words.old }
 {
     match array.flat_view() {
@@ -169,6 +176,7 @@ pub fn read_all_booleans(array: &ArrayRef<Global>, words: &mut [u64]) -> VortexR
 pub fn read_all_validity(array: &ArrayRef<Global>, words: &mut [u64]) -> VortexResult<()>
     ensures words { IfOk result (λ _. AreValidityWords (column_of array.now) words.new) }
     ensures refused { IsRefusedOnlyBy (flags_fault (length words.old) (column_of array.now)) result }
+    ensures kept { OnErr result (words.new ≡ words.old) }
     ensures len { length words.new ≡ length words.old }
 {
     match array.flat_view() {
@@ -191,6 +199,7 @@ fn read_other_numbers<T: NativePType>(
     ensures refused { IsRefusedBy
         (part_fault (numbers_type_fault T.PTYPE (dtype_of array.now)) start (length items.old)
         (column_of array.now)) result }
+    ensures kept { OnErr result (items.new ≡ items.old) }
     ensures len { length items.new ≡ length items.old }
 {
     check_numbers(array.dtype(), T::PTYPE)?;
@@ -213,6 +222,7 @@ fn read_other_decimals(
         (λ _. AreReadFlat (column_of array.now) start (length pairs.old) (λ leaf. AreStoredPairs leaf 0 pairs.new)) }
     ensures refused { IsRefusedBy
         (part_fault (decimals_type_fault (dtype_of array.now)) start (length pairs.old) (column_of array.now)) result }
+    ensures kept { OnErr result (pairs.new ≡ pairs.old) }
     ensures len { length pairs.new ≡ length pairs.old }
 {
     check_decimals(array.dtype())?;
@@ -236,6 +246,7 @@ fn read_other_offsets<T: NativePType>(
         (λ leaf. AreStoredOffsets leaf 0 (map T.number offsets.new))) }
     ensures refused { IsRefusedBy
         (other_offsets_fault T.PTYPE start (length offsets.old) (column_of array.now)) result }
+    ensures kept { OnErr result (offsets.new ≡ offsets.old) }
     ensures len { length offsets.new ≡ length offsets.old }
 {
     check_texts(array.dtype())?;
@@ -266,6 +277,7 @@ fn read_other_bytes(
     ensures bytes { IfOk result
         (λ _. AreReadFlat (column_of array.now) start count (λ leaf. AreStoredBytes leaf 0 count bytes.new)) }
     ensures refused { IsRefusedBy (other_bytes_fault start count (length bytes.old) (column_of array.now)) result }
+    ensures kept { OnErr result (bytes.new ≡ bytes.old) }
     ensures len { length bytes.new ≡ length bytes.old }
 {
     check_texts(array.dtype())?;

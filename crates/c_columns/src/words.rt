@@ -1,5 +1,5 @@
 //! Bits as words of 64, and whether rows and room are there.
-ghost use Rattle.std.specs.Prelude.{◌≡◌, ℕ, ◌+◌, ◌/◌, ◌<◌, ◌≤◌, length, replicate, IfOk};
+ghost use Rattle.std.specs.Prelude.{◌≡◌, ℕ, ◌+◌, ◌/◌, ◌<◌, ◌≤◌, length, replicate, IfOk, OnErr};
 ghost use Rattle.std.specs.Int.{bit_at};
 ghost use Rattle.column_base.specs.Words.{IsClearedFrom, Packs, one_if};
 ghost use Rattle.c_columns.specs.ReadFaults.{IsRefusedOnlyBy, past_fault, room_fault, words_fault};
@@ -41,6 +41,7 @@ pub fn check_room(needed: usize, room: usize) -> VortexResult<()>
 pub fn put_bits(bits: &BitBuffer<Global>, words: &mut [u64]) -> VortexResult<()>
     ensures packed { IfOk result (λ _. Packs words.new bits.now) }
     ensures refused { IsRefusedOnlyBy (words_fault (length bits.now) (length words.old)) result }
+    ensures kept { OnErr result (words.new ≡ words.old) }
     ensures len { length words.new ≡ length words.old }
 {
     let stored = bits.words();
@@ -53,6 +54,7 @@ pub fn put_bits(bits: &BitBuffer<Global>, words: &mut [u64]) -> VortexResult<()>
 pub fn put_same(bit: bool, count: usize, words: &mut [u64]) -> VortexResult<()>
     ensures packed { IfOk result (λ _. Packs words.new (replicate count bit)) }
     ensures refused { IsRefusedOnlyBy (words_fault count (length words.old)) result }
+    ensures kept { OnErr result (words.new ≡ words.old) }
     ensures len { length words.new ≡ length words.old }
 {
     check_room(count.div_ceil(64), words.len())?;

@@ -2,12 +2,10 @@
 use Rattle.std.proofs.Common.{◌≡◌, ◌≢◌, ◌∙◌, ℕ, ℤ, pos, ap, refl, sym, subst, inl, inr, Bool, true, false, map, if◌then◌else◌}
 use Rattle.std.specs.Prelude.{IfErr, IfOk, IsErrOf, IsSomeAnd, MatchOption, Option, Some, None, Result, Ok, Err, slice_get}
 use Rattle.std.specs.Global.{Global}
-use Rattle.std.specs.List.{AllZip}
-use Rattle.column_base.specs.declared.dtype.DType.TheVariants as column
 use Rattle.column_base.specs.Types.{nullability_of}
 use Rattle.column_ops.specs.declared.operator.CompareOperator.{CompareOperator}
-use Rattle.column_floats.specs.Comparisons.{IsTruthOf}
-use Rattle.runend_array.specs.Encoding.{IsDecodedForm}
+use Rattle.runend_array.specs.Column.{Runs, column_of_runs}
+use Rattle.runend_floats.specs.TruthRuns.{AreTruthRuns}
 use Rattle.column_base.specs.declared.dtype.DType.{DType}
 use Rattle.column_base.specs.declared.error.VortexError.{VortexError}
 use Rattle.column_base.specs.declared.error.VortexError.TheVariants.{OutOfMemory, TypeMismatch}
@@ -106,14 +104,12 @@ pub compared_ends : {B : Type 0} (outcome : Result B VortexError) (value : B →
     → IfErr outcome (λ why. (code ≡ pos (number_of why)) × (code ≢ pos 0) × (out ≡ old) × HasFields why fields) → EndsOnFloats (λ dtype. constant_fault dtype bits) c code fields
 compared_ends outcome value bits c out old a code fields some refused first ok err = column_ends outcome value (fault_with bits) c out old a code fields some refused first ok err
 
-pub truths_boxed : {B : Type 0} (is_ieee by : Bool) (operator : CompareOperator) (constant : ℕ) (floats truths : ArrayRef Global) (outcome : Result B VortexError) (value : B → ArrayRef Global) → is_ieee ≡ by
-    → AllZip (IsTruthOf (format_of (dtype_of floats)) (λ other. HoldsBy by operator (format_of (dtype_of floats)) other constant)) (map number_in (rows floats)) (rows truths)
-    → dtype_of truths ≡ column.Bool (nullability_of (dtype_of floats)) → IsDecodedForm (rows truths) (column_of truths) → IfOk outcome (λ made. value made ≡ truths)
-    → IfOk outcome (λ made. AreComparedBy is_ieee operator constant floats (value made))
-truths_boxed is_ieee by operator constant floats truths (Ok made) value same are dtype form boxed =
-    subst (λ (b : Bool). AreComparedBy b operator constant floats (value made)) (sym same)
-    (subst (λ (x : ArrayRef Global). AreComparedBy by operator constant floats x) (sym boxed) (record { truths = are; dtype = dtype; form = form }))
-truths_boxed is_ieee by operator constant floats truths (Err why) value same are dtype form boxed = boxed
+pub truths_boxed : {B : Type 0} (is_ieee by : Bool) (operator : CompareOperator) (constant : ℕ) (floats : ArrayRef Global) (runs : Runs) (outcome : Result B VortexError) (value : B → ArrayRef Global) → is_ieee ≡ by
+    → AreTruthRuns (format_of (dtype_of floats)) (λ other. HoldsBy by operator (format_of (dtype_of floats)) other constant) (rows floats) (nullability_of (dtype_of floats)) runs
+    → IfOk outcome (λ made. column_of (value made) ≡ column_of_runs runs) → IfOk outcome (λ made. AreComparedBy is_ieee operator constant floats (value made))
+truths_boxed is_ieee by operator constant floats runs (Ok made) value same are form =
+    subst (λ (b : Bool). AreComparedBy b operator constant floats (value made)) (sym same) (record { runs = runs; compared = are; is = form })
+truths_boxed is_ieee by operator constant floats runs (Err why) value same are form = form
 
 -- ---- A row ----
 

@@ -1,6 +1,5 @@
 -- Columns of floats in handles: what calls make of them and answer about them, and how they end.
 use Rattle.std.specs.Prelude.{◌≡◌, ◌⊎◌, ⊤, ℕ, zero, suc, ℤ, pos, Bool, false, true, map, slice_get, length, IsSomeAnd, Option, Some, None}
-use Rattle.std.specs.List.{AllZip}
 use Rattle.std.specs.Option.{option_or}
 use Rattle.std.specs.Global.{Global}
 use Rattle.column_base.specs.declared.dtype.DType.{DType}
@@ -17,7 +16,7 @@ use Rattle.float_bits.specs.declared.formats.FloatFormat.{FloatFormat}
 use Rattle.float_bits.specs.Number.{IsNan}
 use Rattle.float_bits.specs.Sum.{IsRoundedSum}
 use Rattle.float_bits.specs.Tally.{Tally, tally_of}
-use Rattle.column_floats.specs.Comparisons.{HoldsInTotalOrder, HoldsOfNumbers, IsTruthOf}
+use Rattle.column_floats.specs.Comparisons.{HoldsInTotalOrder, HoldsOfNumbers}
 use Rattle.column_floats.specs.Extremes.{AreExtremes, NoneCounts}
 use Rattle.column_floats.specs.FloatRows.{bits_row, doubles_of, floats_of, key_row}
 use Rattle.column_floats.specs.Formats.{bits_dtype, floats_fault, format_of, keys_dtype}
@@ -25,9 +24,9 @@ use Rattle.column_floats.specs.Patterns.{stored_key}
 use Rattle.column_floats.specs.declared.patterns.FloatPatterns.{FloatPatterns}
 use Rattle.column_floats.specs.declared.patterns.FloatPatterns.TheVariants.{Exact, Canonical}
 use Rattle.runend_array.specs.Array.{column_of, dtype_of, rows}
-use Rattle.runend_array.specs.Column.{OfLeaf}
-use Rattle.runend_array.specs.Encoding.{IsDecodedForm}
+use Rattle.runend_array.specs.Column.{OfLeaf, Runs, column_of_runs}
 use Rattle.runend_array.specs.declared.array_ref.ArrayRef.{ArrayRef}
+use Rattle.runend_floats.specs.TruthRuns.{AreTruthRuns}
 use Rattle.c_columns.specs.Builders.{IsEncodingOf}
 use Rattle.c_columns.specs.Ending.{IsRefusedAs}
 use Rattle.c_columns.specs.ReadFaults.{EndsOnlyBy}
@@ -64,11 +63,11 @@ abbrev pub HoldsBy : Bool → CompareOperator → FloatFormat → ℕ → ℕ �
 HoldsBy true operator f a b = HoldsOfNumbers operator f a b
 HoldsBy false operator f a b = HoldsInTotalOrder operator f a b
 
--- booleans: of each float whether it compares so with the constant, null where the row is
+-- booleans: of each float whether it compares so with the constant, null where the row is, as the encoding of these rows
 pub record AreComparedBy (is_ieee : Bool) (operator : CompareOperator) (constant : ℕ) (floats made : ArrayRef Global) : Type 0 where
-  pub truths : AllZip (IsTruthOf (format_of (dtype_of floats)) (λ other. HoldsBy is_ieee operator (format_of (dtype_of floats)) other constant)) (map number_in (rows floats)) (rows made)
-  pub dtype : dtype_of made ≡ column.Bool (nullability_of (dtype_of floats))
-  pub form : IsDecodedForm (rows made) (column_of made)
+  pub runs : Runs
+  pub compared : AreTruthRuns (format_of (dtype_of floats)) (λ other. HoldsBy is_ieee operator (format_of (dtype_of floats)) other constant) (rows floats) (nullability_of (dtype_of floats)) runs
+  pub is : column_of made ≡ column_of_runs runs
 
 -- which floats have a place between the least and the greatest: numbers, or all
 abbrev pub CountsBy : Bool → FloatFormat → ℕ → Type 0

@@ -1,5 +1,5 @@
 //! Whether the columns of two handles have the same rows.
-ghost use Rattle.std.specs.Prelude.{◌≡◌, IfOk, pos};
+ghost use Rattle.std.specs.Prelude.{◌≡◌, ◌≢◌, IfOk, pos};
 ghost use Rattle.column_core.specs.Refusal.{IsRefusedBy};
 ghost use Rattle.c_columns.specs.Ending.{WhereBoth};
 ghost use Rattle.c_columns.specs.Flags.{Tells};
@@ -27,6 +27,7 @@ pub fn equal_handles(
     ensures same_right { right.new.column ≡ right.old.column }
     ensures told { result ≡ pos 0 →
         WhereBoth (λ c d. Tells truth.new (AreEqual c d)) left.old.column right.old.column }
+    ensures kept { result ≢ pos 0 → truth.new ≡ truth.old }
     ensures ended { EndsOnTwo equal_fault left.old.column right.old.column result error.new }
 {
     let Some(lent) = left.take(alloc) else {

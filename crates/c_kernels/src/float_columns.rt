@@ -40,9 +40,9 @@ pub fn decoded(alloc: Global, floats: &ArrayRef<Global>) -> VortexResult<Boxed>
     boxed(alloc, ArrayRef::Primitive(bits))
 }
 
-/// Returns of each float whether it compares so with the one with these bits: as numbers by IEEE 754, or else in its
-/// total order. Refused as `TypeMismatch` unless the type is `i16`, `i32` or `i64`, then as `CastOutOfRange` where the
-/// format has fewer bits, both before any memory is taken, else only as `OutOfMemory`.
+/// Returns of each float whether it compares so with the one with these bits, in runs: as numbers by IEEE 754, or else
+/// in its total order. Refused as `TypeMismatch` unless the type is `i16`, `i32` or `i64`, then as `CastOutOfRange`
+/// where the format has fewer bits, both before any memory is taken, else only as `OutOfMemory`.
 pub fn compared(
     alloc: Global,
     floats: &ArrayRef<Global>,
@@ -57,9 +57,9 @@ pub fn compared(
 {
     let mut ctx = plain_context(alloc);
     if is_ieee {
-        boxed(alloc, compare_numbers(floats, operator, bits, &mut ctx)?)
+        boxed_runs(alloc, compare_numbers(floats, operator, bits, &mut ctx)?)
     } else {
-        boxed(alloc, compare_total(floats, operator, bits, &mut ctx)?)
+        boxed_runs(alloc, compare_total(floats, operator, bits, &mut ctx)?)
     }
 }
 

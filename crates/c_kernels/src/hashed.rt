@@ -1,5 +1,5 @@
 //! The hash of the rows of the column of a handle.
-ghost use Rattle.std.specs.Prelude.{◌≡◌, IfOk, IsSomeAnd, pos};
+ghost use Rattle.std.specs.Prelude.{◌≡◌, ◌≢◌, IfOk, IsSomeAnd, pos};
 ghost use Rattle.column_core.specs.Kinds.{list_fault};
 ghost use Rattle.column_core.specs.Refusal.{IsRefusedBy};
 ghost use Rattle.runend_array.specs.Array.{dtype_of};
@@ -23,6 +23,7 @@ pub fn hash_handle(
 ) -> i32
     ensures same { column.new.column ≡ column.old.column }
     ensures told { result ≡ pos 0 → IsSomeAnd column.old.column (λ c. HasHash c hash.new) }
+    ensures kept { result ≢ pos 0 → hash.new ≡ hash.old }
     ensures ended { EndsOnHash column.old.column result error.new }
 {
     let Some(array) = column.take(alloc) else {

@@ -22,6 +22,7 @@ pub extern "C" fn hv_write_size(
 ) -> i32
     ensures same { column.new.column ≡ column.old.column }
     ensures told { result ≡ pos 0 → IsSomeAnd column.old.column (λ c. HasMessage (column_of c) size.new) }
+    ensures kept { result ≢ pos 0 → size.new ≡ size.old }
     ensures ended { EndsOnSize column.old.column result error.new }
 {
     let Some(array) = column.take(alloc) else {
@@ -48,6 +49,7 @@ pub extern "C" fn hv_write(
     ensures told { result ≡ pos 0
         → IsSomeAnd column.old.column (λ c. IsMessageAtFront (column_of c) size.new bytes.new) }
     ensures kept { result ≢ pos 0 → bytes.new ≡ bytes.old }
+    ensures kept_size { result ≢ pos 0 → size.new ≡ size.old }
     ensures ended { EndsOnWrite (length bytes.old) column.old.column result error.new }
 {
     let Some(array) = column.take(alloc) else {

@@ -103,6 +103,7 @@ pub extern "C" fn hv_equals(
     ensures same_right { right.new.column ≡ right.old.column }
     ensures told { result ≡ pos 0 →
         WhereBoth (λ c d. Tells truth.new (AreEqual c d)) left.old.column right.old.column }
+    ensures kept { result ≢ pos 0 → truth.new ≡ truth.old }
     ensures ended { EndsOnTwo equal_fault left.old.column right.old.column result error.new }
 {
     equal_handles(alloc, left, right, truth, error)
@@ -142,6 +143,7 @@ pub extern "C" fn hv_hash(
 ) -> i32
     ensures same { column.new.column ≡ column.old.column }
     ensures told { result ≡ pos 0 → IsSomeAnd column.old.column (λ c. HasHash c hash.new) }
+    ensures kept { result ≢ pos 0 → hash.new ≡ hash.old }
     ensures ended { EndsOnHash column.old.column result error.new }
 {
     hash_handle(alloc, column, hash, error)

@@ -1,5 +1,5 @@
 //! Calls that ask about a column.
-ghost use Rattle.std.specs.Prelude.{◌≡◌, false, true, IsSomeAnd, MatchOption, length, pos, Some};
+ghost use Rattle.std.specs.Prelude.{◌≡◌, ◌≢◌, false, true, IsSomeAnd, MatchOption, length, pos, Some};
 ghost use Rattle.column_ops.specs.OrderFacts as order;
 ghost use Rattle.runend_array.specs.Array.{column_of, dtype_of, rows};
 ghost use Rattle.runend_array.specs.declared.session.Kernel.TheVariants as kernel;
@@ -35,6 +35,7 @@ pub extern "C" fn hv_sum(
 ) -> i32
     ensures same { column.new.column ≡ column.old.column }
     ensures told { result ≡ pos 0 → IsSomeAnd column.old.column (λ c. IsTotalOf (dtype_of c) (rows c) total.new) }
+    ensures kept { result ≢ pos 0 → total.new ≡ total.old }
     ensures ended { EndsOn column.old.column (Some Sum) result error.new }
     ensures memory { IsNeverShortOn session.now kernel.Sum column.old.column result }
 {
@@ -59,6 +60,7 @@ pub extern "C" fn hv_is_constant(
 ) -> i32
     ensures same { column.new.column ≡ column.old.column }
     ensures told { result ≡ pos 0 → IsSomeAnd column.old.column (λ c. Tells truth.new (order.IsConstant (rows c))) }
+    ensures kept { result ≢ pos 0 → truth.new ≡ truth.old }
     ensures ended { EndsOn column.old.column (Some IsConstant) result error.new }
     ensures memory { IsNeverShortOn session.now kernel.IsConstant column.old.column result }
 {
@@ -86,6 +88,7 @@ pub extern "C" fn hv_is_sorted(
     ensures same { column.new.column ≡ column.old.column }
     ensures told { result ≡ pos 0
         → IsSomeAnd column.old.column (λ c. Tells truth.new (order.IsSorted (flag_of strict) (rows c))) }
+    ensures kept { result ≢ pos 0 → truth.new ≡ truth.old }
     ensures ended { EndsOn column.old.column (Some (IsSorted (flag_of strict))) result error.new }
     ensures memory { IsNeverShortOn session.now kernel.IsSorted column.old.column result }
 {
@@ -114,6 +117,8 @@ pub extern "C" fn hv_extreme(
     ensures same { column.new.column ≡ column.old.column }
     ensures told { result ≡ pos 0
         → IsSomeAnd column.old.column (λ c. IsExtremeOf (flag_of greatest) (plain c) text.new value.new) }
+    ensures kept_value { result ≢ pos 0 → value.new ≡ value.old }
+    ensures kept_text { result ≢ pos 0 → text.new ≡ text.old }
     ensures ended { EndsOnExtreme (flag_of greatest) (length text.old) column.old.column result error.new }
     ensures memory { IsExtremeNeverShortOn session.now column.old.column result }
 {
@@ -145,6 +150,10 @@ pub extern "C" fn hv_min_max(
         → IsSomeAnd column.old.column (λ c. IsExtremeOf false (plain c) least_text.new least.new) }
     ensures told_greatest { result ≡ pos 0
         → IsSomeAnd column.old.column (λ c. IsExtremeOf true (plain c) greatest_text.new greatest.new) }
+    ensures kept_least { result ≢ pos 0 → least.new ≡ least.old }
+    ensures kept_least_text { result ≢ pos 0 → least_text.new ≡ least_text.old }
+    ensures kept_greatest { result ≢ pos 0 → greatest.new ≡ greatest.old }
+    ensures kept_greatest_text { result ≢ pos 0 → greatest_text.new ≡ greatest_text.old }
     ensures ended { EndsOnEnds (length least_text.old) (length greatest_text.old) column.old.column result error.new }
     ensures memory { IsExtremeNeverShortOn session.now column.old.column result }
 {
@@ -177,6 +186,8 @@ pub extern "C" fn hv_at(
 ) -> i32
     ensures same { column.new.column ≡ column.old.column }
     ensures told { result ≡ pos 0 → IsSomeAnd column.old.column (λ c. IsShownAt row c text.new value.new) }
+    ensures kept_value { result ≢ pos 0 → value.new ≡ value.old }
+    ensures kept_text { result ≢ pos 0 → text.new ≡ text.old }
     ensures ended { EndsOnRow row (length text.old) column.old.column result error.new }
 {
     let Some(array) = column.take(alloc) else {

@@ -2,7 +2,7 @@
 //! first, these rows alone.
 #![tactic(auto, using(crate::proofs::ReadEndings::read_empty, crate::proofs::ReadEndings::read_done, crate::proofs::ReadEndings::read_refused))]
 
-ghost use Rattle.std.specs.Prelude.{◌≡◌, IsSomeAnd, length, map, pos};
+ghost use Rattle.std.specs.Prelude.{◌≡◌, ◌≢◌, IsSomeAnd, length, map, pos};
 ghost use Rattle.column_base.specs.declared.dtype.PType.TheVariants.{U8, U16, U32, U64, I8, I16, I32, I64};
 ghost use Rattle.runend_array.specs.Array.{column_of, rows};
 ghost use Rattle.c_columns.specs.ReadFaults.{EndsOnRead, EndsOnRows, bytes_fault, decimals_fault, flags_fault, numbers_fault, offsets_fault, truths_fault};
@@ -28,6 +28,7 @@ pub extern "C" fn hv_read_u8(
     ensures same { column.new.column ≡ column.old.column }
     ensures told { result ≡ pos 0
         → IsSomeAnd column.old.column (λ c. AreNumbersFrom (column_of c) start (map pos items.new)) }
+    ensures kept { result ≢ pos 0 → items.new ≡ items.old }
     ensures ended { EndsOnRows (numbers_fault U8 start (length items.old)) column.old.column result error.new }
 {
     let Some(array) = column.take(alloc) else {
@@ -52,6 +53,7 @@ pub extern "C" fn hv_read_u16(
     ensures same { column.new.column ≡ column.old.column }
     ensures told { result ≡ pos 0
         → IsSomeAnd column.old.column (λ c. AreNumbersFrom (column_of c) start (map pos items.new)) }
+    ensures kept { result ≢ pos 0 → items.new ≡ items.old }
     ensures ended { EndsOnRows (numbers_fault U16 start (length items.old)) column.old.column result error.new }
 {
     let Some(array) = column.take(alloc) else {
@@ -76,6 +78,7 @@ pub extern "C" fn hv_read_u32(
     ensures same { column.new.column ≡ column.old.column }
     ensures told { result ≡ pos 0
         → IsSomeAnd column.old.column (λ c. AreNumbersFrom (column_of c) start (map pos items.new)) }
+    ensures kept { result ≢ pos 0 → items.new ≡ items.old }
     ensures ended { EndsOnRows (numbers_fault U32 start (length items.old)) column.old.column result error.new }
 {
     let Some(array) = column.take(alloc) else {
@@ -100,6 +103,7 @@ pub extern "C" fn hv_read_u64(
     ensures same { column.new.column ≡ column.old.column }
     ensures told { result ≡ pos 0
         → IsSomeAnd column.old.column (λ c. AreNumbersFrom (column_of c) start (map pos items.new)) }
+    ensures kept { result ≢ pos 0 → items.new ≡ items.old }
     ensures ended { EndsOnRows (numbers_fault U64 start (length items.old)) column.old.column result error.new }
 {
     let Some(array) = column.take(alloc) else {
@@ -123,6 +127,7 @@ pub extern "C" fn hv_read_i8(
 ) -> i32
     ensures same { column.new.column ≡ column.old.column }
     ensures told { result ≡ pos 0 → IsSomeAnd column.old.column (λ c. AreNumbersFrom (column_of c) start (items.new)) }
+    ensures kept { result ≢ pos 0 → items.new ≡ items.old }
     ensures ended { EndsOnRows (numbers_fault I8 start (length items.old)) column.old.column result error.new }
 {
     let Some(array) = column.take(alloc) else {
@@ -146,6 +151,7 @@ pub extern "C" fn hv_read_i16(
 ) -> i32
     ensures same { column.new.column ≡ column.old.column }
     ensures told { result ≡ pos 0 → IsSomeAnd column.old.column (λ c. AreNumbersFrom (column_of c) start (items.new)) }
+    ensures kept { result ≢ pos 0 → items.new ≡ items.old }
     ensures ended { EndsOnRows (numbers_fault I16 start (length items.old)) column.old.column result error.new }
 {
     let Some(array) = column.take(alloc) else {
@@ -169,6 +175,7 @@ pub extern "C" fn hv_read_i32(
 ) -> i32
     ensures same { column.new.column ≡ column.old.column }
     ensures told { result ≡ pos 0 → IsSomeAnd column.old.column (λ c. AreNumbersFrom (column_of c) start (items.new)) }
+    ensures kept { result ≢ pos 0 → items.new ≡ items.old }
     ensures ended { EndsOnRows (numbers_fault I32 start (length items.old)) column.old.column result error.new }
 {
     let Some(array) = column.take(alloc) else {
@@ -192,6 +199,7 @@ pub extern "C" fn hv_read_i64(
 ) -> i32
     ensures same { column.new.column ≡ column.old.column }
     ensures told { result ≡ pos 0 → IsSomeAnd column.old.column (λ c. AreNumbersFrom (column_of c) start (items.new)) }
+    ensures kept { result ≢ pos 0 → items.new ≡ items.old }
     ensures ended { EndsOnRows (numbers_fault I64 start (length items.old)) column.old.column result error.new }
 {
     let Some(array) = column.take(alloc) else {
@@ -215,6 +223,7 @@ pub extern "C" fn hv_read_decimals(
 ) -> i32
     ensures same { column.new.column ≡ column.old.column }
     ensures told { result ≡ pos 0 → IsSomeAnd column.old.column (λ c. ArePairsFrom (column_of c) start pairs.new) }
+    ensures kept { result ≢ pos 0 → pairs.new ≡ pairs.old }
     ensures ended { EndsOnRows (decimals_fault start (length pairs.old)) column.old.column result error.new }
 {
     let Some(array) = column.take(alloc) else {
@@ -236,6 +245,7 @@ pub extern "C" fn hv_read_bools(
 ) -> i32
     ensures same { column.new.column ≡ column.old.column }
     ensures told { result ≡ pos 0 → IsSomeAnd column.old.column (λ c. AreTruthWords (column_of c) words.new) }
+    ensures kept { result ≢ pos 0 → words.new ≡ words.old }
     ensures ended { EndsOnRead (truths_fault (length words.old)) column.old.column result error.new }
 {
     let Some(array) = column.take(alloc) else {
@@ -257,6 +267,7 @@ pub extern "C" fn hv_read_validity(
 ) -> i32
     ensures same { column.new.column ≡ column.old.column }
     ensures told { result ≡ pos 0 → IsSomeAnd column.old.column (λ c. AreValidityWords (column_of c) words.new) }
+    ensures kept { result ≢ pos 0 → words.new ≡ words.old }
     ensures ended { EndsOnRead (flags_fault (length words.old)) column.old.column result error.new }
 {
     let Some(array) = column.take(alloc) else {
@@ -280,6 +291,7 @@ pub extern "C" fn hv_read_offsets(
 ) -> i32
     ensures same { column.new.column ≡ column.old.column }
     ensures told { result ≡ pos 0 → IsSomeAnd column.old.column (λ c. AreOffsetsFrom (column_of c) start offsets.new) }
+    ensures kept { result ≢ pos 0 → offsets.new ≡ offsets.old }
     ensures ended { EndsOnRows (offsets_fault I32 start (length offsets.old)) column.old.column result error.new }
 {
     let Some(array) = column.take(alloc) else {
@@ -303,6 +315,7 @@ pub extern "C" fn hv_read_large_offsets(
 ) -> i32
     ensures same { column.new.column ≡ column.old.column }
     ensures told { result ≡ pos 0 → IsSomeAnd column.old.column (λ c. AreOffsetsFrom (column_of c) start offsets.new) }
+    ensures kept { result ≢ pos 0 → offsets.new ≡ offsets.old }
     ensures ended { EndsOnRows (offsets_fault I64 start (length offsets.old)) column.old.column result error.new }
 {
     let Some(array) = column.take(alloc) else {
@@ -328,6 +341,7 @@ pub extern "C" fn hv_read_bytes(
     ensures same { column.new.column ≡ column.old.column }
     ensures told { result ≡ pos 0
         → IsSomeAnd column.old.column (λ c. AreBytesFrom (column_of c) start count bytes.new) }
+    ensures kept { result ≢ pos 0 → bytes.new ≡ bytes.old }
     ensures ended { EndsOnRows (bytes_fault start count (length bytes.old)) column.old.column result error.new }
 {
     let Some(array) = column.take(alloc) else {

@@ -1,7 +1,7 @@
 //! Calls that tell of the runs of a run column. None of them takes memory.
 #![tactic(auto, using(crate::proofs::ReadEndings::read_empty, crate::proofs::ReadEndings::read_done, crate::proofs::ReadEndings::read_refused))]
 
-ghost use Rattle.std.specs.Prelude.{◌≡◌, IsSomeAnd, length, pos};
+ghost use Rattle.std.specs.Prelude.{◌≡◌, ◌≢◌, IsSomeAnd, length, pos};
 ghost use Rattle.runend_array.specs.Array.{column_of};
 ghost use Rattle.c_columns.specs.ReadFaults.{EndsOnRead};
 ghost use Rattle.c_columns.specs.RunParts.{no_runs_fault};
@@ -23,6 +23,7 @@ pub extern "C" fn hv_run_count(
 ) -> i32
     ensures same { column.new.column ≡ column.old.column }
     ensures told { result ≡ pos 0 → IsSomeAnd column.old.column (λ c. IsRunCount count.new (column_of c)) }
+    ensures kept { result ≢ pos 0 → count.new ≡ count.old }
     ensures ended { EndsOnRead no_runs_fault column.old.column result error.new }
 {
     let Some(array) = column.take(alloc) else {
@@ -44,6 +45,7 @@ pub extern "C" fn hv_run_of(
 ) -> i32
     ensures same { column.new.column ≡ column.old.column }
     ensures told { result ≡ pos 0 → IsSomeAnd column.old.column (λ c. IsRunOfRow row run.new (column_of c)) }
+    ensures kept { result ≢ pos 0 → run.new ≡ run.old }
     ensures ended { EndsOnRead (run_of_row_fault row) column.old.column result error.new }
 {
     let Some(array) = column.take(alloc) else {
@@ -71,6 +73,10 @@ pub extern "C" fn hv_run(
     ensures same { column.new.column ≡ column.old.column }
     ensures told { result ≡ pos 0
         → IsSomeAnd column.old.column (λ c. IsRunTold run start.new stop.new text.new value.new (column_of c)) }
+    ensures kept_start { result ≢ pos 0 → start.new ≡ start.old }
+    ensures kept_stop { result ≢ pos 0 → stop.new ≡ stop.old }
+    ensures kept_value { result ≢ pos 0 → value.new ≡ value.old }
+    ensures kept_text { result ≢ pos 0 → text.new ≡ text.old }
     ensures ended { EndsOnRun run (length text.old) column.old.column result error.new }
 {
     let Some(array) = column.take(alloc) else {
@@ -101,6 +107,7 @@ pub extern "C" fn hv_read_ends_u64(
 ) -> i32
     ensures same { column.new.column ≡ column.old.column }
     ensures told { result ≡ pos 0 → IsSomeAnd column.old.column (λ c. AreStopsFrom first stops.new (column_of c)) }
+    ensures kept { result ≢ pos 0 → stops.new ≡ stops.old }
     ensures ended { EndsOnRead (stops_fault first (length stops.old)) column.old.column result error.new }
 {
     let Some(array) = column.take(alloc) else {

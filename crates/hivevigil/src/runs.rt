@@ -104,6 +104,8 @@ pub extern "C" fn hv_serialize(
     ensures same { column.new.column ≡ column.old.column }
     ensures told { result ≡ pos 0
         → IsSomeAnd column.old.column (λ c. IsRecordAtFront (column_of c) size.new bytes.new) }
+    ensures kept_bytes { result ≢ pos 0 → bytes.new ≡ bytes.old }
+    ensures kept_size { result ≢ pos 0 → size.new ≡ size.old }
     ensures ended { EndsOnHeldUnless (SerializeFault (length bytes.old)) column.old.column result error.new }
 {
     let Some(array) = column.take(alloc) else {

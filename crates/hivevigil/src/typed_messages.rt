@@ -24,6 +24,7 @@ pub extern "C" fn hv_typed_size(
     ensures same { column.new.column ≡ column.old.column }
     ensures told { result ≡ pos 0
         → IsSomeAnd column.old.column (λ c. HasTypedMessage format.now (column_of c) size.new) }
+    ensures kept { result ≢ pos 0 → size.new ≡ size.old }
     ensures ended { EndsOnTypedSize format.now column.old.column result error.new }
 {
     let Some(array) = column.take(alloc) else {
@@ -51,6 +52,7 @@ pub extern "C" fn hv_write_typed(
     ensures told { result ≡ pos 0
         → IsSomeAnd column.old.column (λ c. IsTypedMessageAtFront format.now (column_of c) size.new bytes.new) }
     ensures kept { result ≢ pos 0 → bytes.new ≡ bytes.old }
+    ensures kept_size { result ≢ pos 0 → size.new ≡ size.old }
     ensures ended { EndsOnTypedWrite (length bytes.old) format.now column.old.column result error.new }
 {
     let Some(array) = column.take(alloc) else {

@@ -1,7 +1,7 @@
 //! Calls that read the bits of a window of rows, in any form.
 #![tactic(auto, using(crate::proofs::ReadEndings::window_empty, crate::proofs::ReadEndings::window_done, crate::proofs::ReadEndings::window_refused))]
 
-ghost use Rattle.std.specs.Prelude.{◌≡◌, IsSomeAnd, length, pos};
+ghost use Rattle.std.specs.Prelude.{◌≡◌, ◌≢◌, IsSomeAnd, length, pos};
 ghost use Rattle.runend_array.specs.Array.{column_of};
 ghost use Rattle.c_columns.specs.ReadFaults.{EndsOnWindow, flags_from_fault, truths_from_fault};
 ghost use Rattle.c_columns.specs.Reads.{AreTruthWordsFrom, AreValidityWordsFrom};
@@ -25,6 +25,7 @@ pub extern "C" fn hv_read_bools_from(
     ensures same { column.new.column ≡ column.old.column }
     ensures told { result ≡ pos 0
         → IsSomeAnd column.old.column (λ c. AreTruthWordsFrom (column_of c) start count words.new) }
+    ensures kept { result ≢ pos 0 → words.new ≡ words.old }
     ensures ended { EndsOnWindow (truths_from_fault start count (length words.old)) column.old.column result error.new }
 {
     let Some(array) = column.take(alloc) else {
@@ -49,6 +50,7 @@ pub extern "C" fn hv_read_validity_from(
     ensures same { column.new.column ≡ column.old.column }
     ensures told { result ≡ pos 0
         → IsSomeAnd column.old.column (λ c. AreValidityWordsFrom (column_of c) start count words.new) }
+    ensures kept { result ≢ pos 0 → words.new ≡ words.old }
     ensures ended { EndsOnWindow (flags_from_fault start count (length words.old)) column.old.column result error.new }
 {
     let Some(array) = column.take(alloc) else {
