@@ -6,8 +6,8 @@ ghost use Rattle.runend_windows.specs.Ends.{IsEndsType};
 use crate::parts::bits;
 use std::alloc::Allocator;
 use vortex_runend::{
-    ArrayRef, ExecutionCtx, NativePType, PrimitiveArray, RunEnd, RunEndArray, ScalarView,
-    UnsignedPType, Validity, VortexResult, VortexSession, initialize,
+    ArrayRef, ExecutionCtx, NativePType, PrimitiveArray, RunEnd, ScalarView, UnsignedPType,
+    Validity, VortexResult, VortexSession, initialize,
 };
 
 /// Returns a context in which no kernel is registered.
@@ -58,20 +58,7 @@ pub(crate) fn ends_column<T: UnsignedPType, A: Allocator + Copy>(
     Ok(PrimitiveArray::new_unchecked(T::wrap(ends), Validity::NonNullable))
 }
 
-/// Runs of these ends and values, `length` rows from row `offset` on.
-pub(crate) fn runs_of<A: Allocator + Copy>(
-    ends: VortexResult<PrimitiveArray<A>>,
-    values: VortexResult<PrimitiveArray<A>>,
-    offset: usize,
-    length: usize,
-    ctx: &mut ExecutionCtx<A>,
-) -> VortexResult<RunEndArray<A>> {
-    let (ends, values) = both(ends, values)?;
-    let (ends, values) = (ArrayRef::Primitive(ends), ArrayRef::Primitive(values));
-    RunEnd::try_new_offset_length(ends, values, offset, length, ctx)
-}
-
-/// Returns the same as a column of any form.
+/// Runs of these ends and values, `length` rows from row `offset` on, as a column of any form.
 pub(crate) fn run_column<A: Allocator + Copy>(
     ends: VortexResult<PrimitiveArray<A>>,
     values: VortexResult<PrimitiveArray<A>>,
@@ -79,7 +66,9 @@ pub(crate) fn run_column<A: Allocator + Copy>(
     length: usize,
     ctx: &mut ExecutionCtx<A>,
 ) -> VortexResult<ArrayRef<A>> {
-    let runs = runs_of(ends, values, offset, length, ctx)?;
+    let (ends, values) = both(ends, values)?;
+    let (ends, values) = (ArrayRef::Primitive(ends), ArrayRef::Primitive(values));
+    let runs = RunEnd::try_new_offset_length(ends, values, offset, length, ctx)?;
     ArrayRef::of_runs(*ctx.allocator(), runs)
 }
 

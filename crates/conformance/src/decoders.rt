@@ -3,22 +3,21 @@ ghost use Rattle.std.specs.Prelude.{◌≡◌, IfOk, length};
 ghost use Rattle.column_core.specs.PrimitiveForm.{primitive_dtype};
 ghost use Rattle.runend_windows.specs.Ends.{IsEndsType};
 
-use crate::columns::{both, context, ends_column, full_context, nullable, required};
-use crate::parts::{bits, nullable_truths, three_lists, three_texts};
+use crate::columns::{context, ends_column, full_context, nullable};
+use crate::parts::{bits, three_lists, three_texts};
 use crate::shown::are_shown;
 use refusing::{Calls, are_answered_in_turn};
 use runend_windows::validate_ends;
-use std::alloc::{Allocator, Global};
+use std::alloc::Allocator;
 use std::test::Fail;
 use vortex_runend::compress::{
     runend_decode_decimal, runend_decode_listview, runend_decode_primitive,
     runend_decode_typed_primitive, runend_decode_varbinview,
 };
-use vortex_runend::decompress_bool::{runend_decode_bools, runend_decode_typed_bool};
+use vortex_runend::decompress_bool::runend_decode_typed_bool;
 use vortex_runend::{
-    ArrayRef, BitBuffer, BitBufferMut, BoolArray, DecimalArray, DecimalDType, ExecutionCtx, Mask,
-    Nullability, PrimitiveArray, UnsignedPType, Validity, VortexError, VortexResult,
-    trimmed_ends_iter,
+    ArrayRef, BitBuffer, BitBufferMut, DecimalArray, DecimalDType, ExecutionCtx, Mask, Nullability,
+    PrimitiveArray, UnsignedPType, Validity, VortexResult, trimmed_ends_iter,
 };
 
 // Where three runs end. Of the rows 1 to 8 one is in the first run, three in the second and four in the last. The first
@@ -53,36 +52,6 @@ fn numbers<A: Allocator + Copy>(ctx: &mut ExecutionCtx<A>) -> VortexResult<Array
     let (ends, values) = with_ends(alloc, &FOUR_ENDS, values)?;
     match validate_ends(&ends, values.len(), 1, 8) {
         Ok(()) => runend_decode_primitive(ends, values, 1, 8, ctx),
-        Err(error) => {
-            drop(ends);
-            drop(values);
-            Err(error)
-        }
-    }
-}
-
-// True, null over a stored true, and false.
-fn truths<A: Allocator + Copy>(ctx: &mut ExecutionCtx<A>) -> VortexResult<ArrayRef<A>> {
-    let alloc = *ctx.allocator();
-    let values = nullable_truths(alloc, &[true, true, false], &[true, false, true]);
-    let (ends, values) = with_ends(alloc, &THREE_ENDS, values)?;
-    match validate_ends(&ends, values.len(), 1, 8) {
-        Ok(()) => runend_decode_bools(ends, values, 1, 8, ctx),
-        Err(error) => {
-            drop(ends);
-            drop(values);
-            Err(error)
-        }
-    }
-}
-
-// True, false and true, from the row on at which the first run ends.
-fn required_truths<A: Allocator + Copy>(ctx: &mut ExecutionCtx<A>) -> VortexResult<ArrayRef<A>> {
-    let alloc = *ctx.allocator();
-    let values = BoolArray::try_new(three_bits(alloc)?, Validity::NonNullable);
-    let (ends, values) = with_ends(alloc, &THREE_ENDS, values)?;
-    match validate_ends(&ends, values.len(), 2, 6) {
-        Ok(()) => runend_decode_bools(ends, values, 2, 6, ctx),
         Err(error) => {
             drop(ends);
             drop(values);
@@ -135,9 +104,26 @@ fn words<A: Allocator + Copy>(ctx: &mut ExecutionCtx<A>) -> VortexResult<ArrayRe
     }
 }
 
-struct FlatValues {}
+// The lists 1 2, null and 4 5 6.
+fn lists<A: Allocator + Copy>(ctx: &mut ExecutionCtx<A>) -> VortexResult<ArrayRef<A>> {
+    let alloc = *ctx.allocator();
+    let (ends, values) = with_ends(alloc, &[2u8, 5, 6], three_lists(ctx))?;
+    match validate_ends(&ends, values.len(), 0, 6) {
+        Ok(()) => {
+            let lists = runend_decode_listview(ends, values, 0, 6, ctx)?;
+            Ok(ArrayRef::ListView(Box::new(alloc, lists)?))
+        }
+        Err(error) => {
+            drop(ends);
+            drop(values);
+            Err(error)
+        }
+    }
+}
 
-impl Calls for FlatValues {
+struct Parts {}
+
+impl Calls for Parts {
     fn are_answered<A: Allocator + Copy>(alloc: A) -> VortexResult<bool> {
         let mut ctx = context(alloc);
         let (null, one, two) = (None::<i64>, Some(1i64), Some(2i64));
@@ -145,9 +131,6 @@ impl Calls for FlatValues {
             numbers(&mut ctx),
             &[null, one, one, one, two, two, null, null],
         );
-        let (yes, null, no) = (Some(true), None::<bool>, Some(false));
-        let truths = are_shown(truths(&mut ctx), &[yes, null, null, null, no, no, no, no]);
-        let required = are_shown(required_truths(&mut ctx), &[no, no, no, yes, yes, yes]);
         let (first, null, last) = (Some(12345i128), None, Some(-12300i128));
         let decimals = are_shown(
             decimals(&mut ctx),
@@ -158,13 +141,19 @@ impl Calls for FlatValues {
             words(&mut ctx),
             &[first, null, null, null, last, last, last],
         );
-        Ok(numbers? && truths? && required? && decimals? && words?)
+        let (first, null, last) = (
+            Some([1i64, 2].as_slice()),
+            None,
+            Some([4i64, 5, 6].as_slice()),
+        );
+        let lists = are_shown(lists(&mut ctx), &[first, first, null, null, null, last]);
+        Ok(numbers? && decimals? && words? && lists?)
     }
 }
 
 #[test]
-fn flat_values_are_decoded(rt: HostRuntime) -> Result<(), Fail> {
-    assert!(rt; are_answered_in_turn::<FlatValues>(rt.alloc()));
+fn parts_are_decoded(rt: HostRuntime) -> Result<(), Fail> {
+    assert!(rt; are_answered_in_turn::<Parts>(rt.alloc()));
     Ok(())
 }
 
@@ -186,46 +175,6 @@ fn are_in_one_buffer<A: Allocator + Copy>(made: VortexResult<ArrayRef<A>>) -> Vo
 fn decoded_texts_keep_their_buffer(rt: HostRuntime) -> Result<(), Fail> {
     let made = words(&mut context(rt.alloc()));
     assert!(rt; are_in_one_buffer(made)?);
-    Ok(())
-}
-
-fn three_runs_of_lists<A: Allocator + Copy>(
-    ctx: &mut ExecutionCtx<A>,
-) -> VortexResult<ArrayRef<A>> {
-    let alloc = *ctx.allocator();
-    let (ends, values) = with_ends(alloc, &[2u8, 5, 6], three_lists(ctx))?;
-    match validate_ends(&ends, values.len(), 0, 6) {
-        Ok(()) => {
-            let lists = runend_decode_listview(ends, values, 0, 6, ctx)?;
-            Ok(ArrayRef::ListView(Box::new(alloc, lists)?))
-        }
-        Err(error) => {
-            drop(ends);
-            drop(values);
-            Err(error)
-        }
-    }
-}
-
-struct Lists {}
-
-impl Calls for Lists {
-    fn are_answered<A: Allocator + Copy>(alloc: A) -> VortexResult<bool> {
-        let (first, null, last) = (
-            Some([1i64, 2].as_slice()),
-            None,
-            Some([4i64, 5, 6].as_slice()),
-        );
-        are_shown(
-            three_runs_of_lists(&mut context(alloc)),
-            &[first, first, null, null, null, last],
-        )
-    }
-}
-
-#[test]
-fn lists_are_decoded(rt: HostRuntime) -> Result<(), Fail> {
-    assert!(rt; are_answered_in_turn::<Lists>(rt.alloc()));
     Ok(())
 }
 
@@ -279,26 +228,4 @@ impl Calls for TypedValues {
 fn values_are_decoded_by_ends_from_an_iterator(rt: HostRuntime) -> Result<(), Fail> {
     assert!(rt; are_answered_in_turn::<TypedValues>(rt.alloc()));
     Ok(())
-}
-
-// One run of more rows than memory has items for.
-fn longest_run(ctx: &mut ExecutionCtx<Global>) -> VortexResult<ArrayRef<Global>> {
-    let alloc = *ctx.allocator();
-    let (ends, values) = with_ends(alloc, &[u64::MAX], required(alloc, &[7u8]))?;
-    match validate_ends(&ends, values.len(), 0, usize::MAX) {
-        Ok(()) => runend_decode_primitive(ends, values, 0, usize::MAX, ctx),
-        Err(error) => {
-            drop(ends);
-            drop(values);
-            Err(error)
-        }
-    }
-}
-
-#[test]
-fn a_run_past_all_memory_is_refused(rt: HostRuntime) {
-    let decoded = longest_run(&mut context(rt.alloc()));
-    let is_refused = matches!(&decoded, Err(VortexError::OutOfMemory));
-    drop(decoded);
-    assert!(rt; is_refused);
 }

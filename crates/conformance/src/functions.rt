@@ -1,16 +1,14 @@
-//! Kernels that no command makes: the ends of kept runs, functions of rows, and rows at indices that were tested
-//! before, with each request for memory refused in turn.
+//! Kernels that no command makes: the ends of kept runs, and functions of rows, with each request for memory refused in
+//! turn.
 use crate::columns::{are_rows, context, full_context, required, run_column};
 use crate::shown::are_shown;
 use refusing::{Calls, are_answered_in_turn};
 use std::alloc::Allocator;
 use std::test::Fail;
-use vortex_runend::compute::{
-    filter_run_end_primitive, map_rows, map_rows_bool, take_indices_unchecked,
-};
+use vortex_runend::compute::{filter_run_end_primitive, map_rows, map_rows_bool};
 use vortex_runend::{
     ArrayRef, BitBuffer, BitBufferMut, DType, ExecutionCtx, Mask, NativePType, Nullability, PType,
-    Validity, VortexError, VortexResult,
+    VortexResult,
 };
 
 // Every other of 112 rows, from the first on.
@@ -104,42 +102,5 @@ impl Calls for Mapped {
 #[test]
 fn functions_are_asked_for_visible_rows(rt: HostRuntime) -> Result<(), Fail> {
     assert!(rt; are_answered_in_turn::<Mapped>(rt.alloc()));
-    Ok(())
-}
-
-// The rows 9, 8, 1 and 3 of twelve.
-fn four_rows<A: Allocator + Copy>(
-    column: &ArrayRef<A>,
-    ctx: &mut ExecutionCtx<A>,
-) -> VortexResult<ArrayRef<A>> {
-    let length = column.len();
-    match column {
-        ArrayRef::RunEnd(runs) if length >= 12 => {
-            take_indices_unchecked(runs, &[9u8, 8, 1, 3], &Validity::NonNullable, ctx)
-        }
-        _ => Err(VortexError::OutOfBounds { index: 9, length }),
-    }
-}
-
-// Of twelve rows in runs of 1, 4, 2 and 5.
-struct TakenRows {}
-
-impl Calls for TakenRows {
-    fn are_answered<A: Allocator + Copy>(alloc: A) -> VortexResult<bool> {
-        let mut ctx = full_context(alloc);
-        let (ends, values) = (
-            required(alloc, &[3u32, 6, 8, 12]),
-            required(alloc, &[1i32, 4, 2, 5]),
-        );
-        let column = run_column(ends, values, 0, 12, &mut ctx)?;
-        let taken = four_rows(&column, &mut ctx);
-        drop(column);
-        are_shown(taken, &[Some(5i64), Some(5), Some(1), Some(4)])
-    }
-}
-
-#[test]
-fn rows_are_taken_at_tested_indices(rt: HostRuntime) -> Result<(), Fail> {
-    assert!(rt; are_answered_in_turn::<TakenRows>(rt.alloc()));
     Ok(())
 }

@@ -7,23 +7,21 @@ mod batch_append;
 #[cfg(test)]
 mod batch_forms;
 #[cfg(test)]
+mod batch_parts;
+#[cfg(test)]
 mod batches;
 #[cfg(test)]
 mod columns;
-#[cfg(test)]
-mod constants;
 #[cfg(test)]
 mod decoders;
 #[cfg(test)]
 mod functions;
 #[cfg(test)]
-mod laws;
-#[cfg(test)]
 mod list_steps;
 #[cfg(test)]
 mod lists;
 #[cfg(test)]
-mod lookups;
+mod messages;
 #[cfg(test)]
 mod names;
 #[cfg(test)]
@@ -33,6 +31,6 @@ mod refusals;
 #[cfg(test)]
 mod shown;
 #[cfg(test)]
-mod strategies;
+mod tables;
 #[cfg(test)]
 mod usage;

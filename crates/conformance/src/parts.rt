@@ -1,11 +1,11 @@
-//! Columns of which run columns are made: booleans, texts and lists.
+//! Bits, and columns of which run columns are made: texts and lists.
 use crate::columns::{both, required};
 use bytes::Bytes;
 use std::alloc::Allocator;
 use std::rc::Rc;
 use vortex_runend::{
-    ArrayRef, BitBuffer, BitBufferMut, BoolArray, ExecutionCtx, FlatColumn, ListViewArray,
-    RowValidity, Validity, VarBinKind, VarBinViewArray, View, VortexResult,
+    ArrayRef, BitBuffer, BitBufferMut, ExecutionCtx, FlatColumn, ListViewArray, RowValidity,
+    Validity, VarBinKind, VarBinViewArray, View, VortexResult,
 };
 
 /// Returns a bit for each flag.
@@ -15,16 +15,6 @@ pub(crate) fn bits<A: Allocator + Copy>(alloc: A, flags: &[bool]) -> VortexResul
         bits.append(*flag)?;
     }
     Ok(bits.freeze())
-}
-
-/// Booleans, null where the flag is false.
-pub(crate) fn nullable_truths<A: Allocator + Copy>(
-    alloc: A,
-    items: &[bool],
-    flags: &[bool],
-) -> VortexResult<BoolArray<A>> {
-    let (items, flags) = both(bits(alloc, items), bits(alloc, flags))?;
-    BoolArray::try_new(items, Validity::Bits(flags))
 }
 
 /// Returns the lists 1 2, null and 4 5 6.

@@ -1,15 +1,15 @@
-//! What makers and commands refuse of arguments that no call of C can be given, as its makers have no such parts: flags
-//! of another number of rows, views past a buffer, ends of a signed type, a scalar of another width, casts to lists.
+//! What makers and commands refuse of arguments that no call of C can be given: flags of another number of rows, views
+//! past a buffer, a scalar of another width, casts to lists.
 use crate::columns::{both, full_context, required, run_column};
-use crate::parts::{bits, nullable_truths};
+use crate::parts::bits;
 use bytes::Bytes;
 use std::alloc::Global;
 use std::test::Fail;
 use vortex_runend::compute::CompareOperator;
 use vortex_runend::{
     ArrayRef, DType, ElementDType, ExecutionCtx, Nullability, PType, PrimitiveArray,
-    PrimitiveValues, RunEnd, Scalar, ScalarValue, Validity, VarBinKind, VarBinViewArray, View,
-    VortexError, VortexResult, arrays,
+    PrimitiveValues, Scalar, ScalarValue, Validity, VarBinKind, VarBinViewArray, View, VortexError,
+    VortexResult, arrays,
 };
 
 // Three numbers and two flags.
@@ -30,15 +30,15 @@ fn numbers_with_few_flags(alloc: Global) -> VortexResult<()> {
     }
 }
 
-// Texts in one buffer of these bytes: the first two, and two from the third on.
-fn texts_in(alloc: Global, bytes: &[u8]) -> VortexResult<()> {
+// Texts in one buffer of three bytes: the first two, and two from the third on.
+fn texts_past_a_buffer(alloc: Global) -> VortexResult<()> {
     let view = |start, size| View {
         buffer: 0,
         start,
         size,
     };
     let mut buffers = Vec::with_capacity(alloc, 1)?;
-    let bytes = Bytes::copy_from_slice(alloc, bytes)?;
+    let bytes = Bytes::copy_from_slice(alloc, b"abc")?;
     buffers.push_reserved(bytes);
     match Vec::from_slice(alloc, &[view(0, 2), view(2, 2)]) {
         Ok(views) => {
@@ -55,19 +55,6 @@ fn texts_in(alloc: Global, bytes: &[u8]) -> VortexResult<()> {
             Err(error.into())
         }
     }
-}
-
-// Booleans, which only `encode_rows` encodes.
-fn encoded_truths(ctx: &mut ExecutionCtx<Global>) -> VortexResult<()> {
-    let truths = nullable_truths(*ctx.allocator(), &[true, false], &[true, true])?;
-    RunEnd::encode(ArrayRef::Bool(truths), ctx).map(drop)
-}
-
-// Runs whose ends have a sign.
-fn signed_ends(ctx: &mut ExecutionCtx<Global>) -> VortexResult<()> {
-    let alloc = *ctx.allocator();
-    let (ends, values) = both(required(alloc, &[2i64]), required(alloc, &[7i64]))?;
-    RunEnd::try_new(ArrayRef::Primitive(ends), ArrayRef::Primitive(values), ctx).map(drop)
 }
 
 // Two rows of 64 bits in one run.
@@ -99,12 +86,14 @@ fn cast_to_lists(ctx: &mut ExecutionCtx<Global>) -> VortexResult<()> {
 }
 
 #[test]
-fn makers_refuse_parts_that_do_not_fit(rt: HostRuntime) -> Result<(), Fail> {
+fn what_does_not_fit_is_refused(rt: HostRuntime) -> Result<(), Fail> {
     let alloc = rt.alloc();
+    let mut ctx = full_context(alloc);
     let refused = [
         numbers_with_few_flags(alloc),
-        texts_in(alloc, b"abc"),
-        texts_in(alloc, b"ab\xFF\xFE"),
+        texts_past_a_buffer(alloc),
+        compared_with_another_width(&mut ctx),
+        cast_to_lists(&mut ctx),
     ];
     let due = [
         Err(VortexError::ColumnLength { left: 3, right: 2 }),
@@ -112,24 +101,6 @@ fn makers_refuse_parts_that_do_not_fit(rt: HostRuntime) -> Result<(), Fail> {
             index: 1,
             length: 2,
         }),
-        Err(VortexError::TypeMismatch),
-    ];
-    assert!(rt; refused == due);
-    Ok(())
-}
-
-#[test]
-fn commands_refuse_types_that_do_not_fit(rt: HostRuntime) -> Result<(), Fail> {
-    let mut ctx = full_context(rt.alloc());
-    let refused = [
-        encoded_truths(&mut ctx),
-        signed_ends(&mut ctx),
-        compared_with_another_width(&mut ctx),
-        cast_to_lists(&mut ctx),
-    ];
-    let due = [
-        Err(VortexError::OnlyPrimitive),
-        Err(VortexError::EndsNotUnsigned),
         Err(VortexError::TypeMismatch),
         Err(VortexError::Unsupported),
     ];

@@ -1,5 +1,5 @@
 //! The library as a program calls it. The README and `docs/CALLING.md` show these lines.
-use crate::columns::{are_rows, both};
+use crate::columns::{are_rows, both, full_context};
 use column_bytes::{
     is_message, is_typed_message, message_size, read_column, read_typed, typed_size, write_column,
     write_typed,
@@ -18,13 +18,6 @@ const THIRTY_FIVE: SumAnswer = SumAnswer {
     sum: Some(SumValue::Signed(35)),
     is_empty: false,
 };
-
-// All kernels, with the thresholds of the library.
-fn context(alloc: Global) -> ExecutionCtx<Global> {
-    let mut session = VortexSession::empty();
-    initialize(&mut session);
-    ExecutionCtx::new(session, alloc)
-}
 
 // Rows 4, 4, null, null and 9, as a flat column of i64.
 fn rows_with_null(alloc: Global) -> VortexResult<PrimitiveArray<Global>> {
@@ -88,7 +81,7 @@ fn filled_with_zero(
 
 #[test]
 fn nulls_are_filled_by_a_kernel(rt: HostRuntime) -> Result<(), Fail> {
-    let mut ctx = context(rt.alloc());
+    let mut ctx = full_context(rt.alloc());
     let runs = runs_with_null(rt.alloc(), &mut ctx)?;
     let filled = filled_with_zero(&runs, &mut ctx);
     drop(runs);
@@ -114,7 +107,7 @@ fn sum_with_zero(
 
 #[test]
 fn operations_serve_arrays_of_any_form(rt: HostRuntime) -> Result<(), Fail> {
-    let mut ctx = context(rt.alloc());
+    let mut ctx = full_context(rt.alloc());
     let (flat, runs) = both(
         rows_with_null(rt.alloc()),
         array_with_null(rt.alloc(), &mut ctx),
@@ -149,7 +142,7 @@ fn truth_of(row: ScalarView<'_, Global>) -> Option<bool> {
 
 #[test]
 fn commands_are_run_as_a_list(rt: HostRuntime) -> Result<(), Fail> {
-    let mut ctx = context(rt.alloc());
+    let mut ctx = full_context(rt.alloc());
     let runs = runs_with_null(rt.alloc(), &mut ctx)?;
     let mut column = ArrayRef::of_runs(rt.alloc(), runs)?;
 
@@ -185,7 +178,7 @@ fn number_of(row: ScalarView<'_, Global>) -> Option<i64> {
 
 #[test]
 fn rows_are_read(rt: HostRuntime) -> Result<(), Fail> {
-    let mut ctx = context(rt.alloc());
+    let mut ctx = full_context(rt.alloc());
     let runs = runs_with_null(rt.alloc(), &mut ctx)?;
     let probe = RunEndProbe::new(&runs);
     let last = probe.execute_scalar(4).map(number_of);
@@ -241,7 +234,7 @@ fn recorded(
 
 #[test]
 fn a_record_is_written_and_read(rt: HostRuntime) -> Result<(), Fail> {
-    let mut ctx = context(rt.alloc());
+    let mut ctx = full_context(rt.alloc());
     let runs = runs_with_null(rt.alloc(), &mut ctx)?;
     let read = recorded(&runs, &mut ctx);
     drop(runs);
@@ -254,7 +247,7 @@ fn a_record_is_written_and_read(rt: HostRuntime) -> Result<(), Fail> {
 
 #[test]
 fn a_column_is_kept_as_bytes(rt: HostRuntime) -> Result<(), Fail> {
-    let mut ctx = context(rt.alloc());
+    let mut ctx = full_context(rt.alloc());
     let column = array_with_null(rt.alloc(), &mut ctx)?;
     let size = message_size(&column);
     let bytes = write_column(rt.alloc(), &column);
@@ -273,7 +266,7 @@ fn a_column_is_kept_as_bytes(rt: HostRuntime) -> Result<(), Fail> {
 
 #[test]
 fn a_column_of_bytes_keeps_its_logical_type(rt: HostRuntime) -> Result<(), Fail> {
-    let mut ctx = context(rt.alloc());
+    let mut ctx = full_context(rt.alloc());
     let column = array_with_null(rt.alloc(), &mut ctx)?;
     let size = typed_size("tdD", &column);
     let bytes = write_typed(rt.alloc(), "tdD", &column);
