@@ -87,7 +87,7 @@ else
     skip "names of the header" "nm and readelf"
 fi
 
-for test in first errors layout answers refusals levels forms constants lists groups pairs sorts sums totals floats float_casts float_pairs decimals decimal_casts builders messages typed_messages arrow_arrays; do
+for test in first errors layout answers refusals levels forms constants lists groups pairs sorts sums totals floats float_casts float_pairs decimals decimal_casts builders messages typed_messages arrow_arrays long_rows; do
     run "c/$test.c" built "$cc" "$c_flags $level" "examples/c/$test.c"
 done
 wraps="-Wl,--wrap=malloc,--wrap=calloc,--wrap=realloc,--wrap=free"
@@ -99,15 +99,16 @@ if [ "$quick" ]; then
     skip "all but these, which take seconds: sh examples/check.sh runs sanitizers, Arrow, Rust, databases, packages" "time"
     finish
 fi
+run "bench/growth, no other call grows with rows" sh bench/growth/run.sh --check
 run "c/many_runs.c" built "$cc" "$c_flags -O2 ${wraps%,*}" examples/c/many_runs.c
 
 echo 'int main(void) { return 0; }' >"$work/empty.c"
 if $cc $watched "$work/empty.c" -o "$work/empty" 2>/dev/null && "$work/empty"; then
     run "vectors, the stored lines under sanitizers" sh examples/vectors/run.sh --sanitize
-    for test in errors answers refusals levels forms constants lists groups pairs sorts sums totals floats float_casts float_pairs decimals decimal_casts builders messages typed_messages arrow_arrays; do
+    for test in errors answers refusals levels forms constants lists groups pairs sorts sums totals floats float_casts float_pairs decimals decimal_casts builders messages typed_messages arrow_arrays long_rows; do
         run "c/$test.c under sanitizers" built "$cc" "$c_flags $watched" "examples/c/$test.c"
     done
-    for test in demo numbers decimal_casts decimal_scales spans tables table_rows; do
+    for test in demo numbers decimal_casts decimal_scales spans tables table_rows long_rows; do
         has "$cxx" && run "cpp/$test.cpp under sanitizers" built "$cxx" "$cxx_flags $watched" "examples/cpp/$test.cpp"
     done
     has "$cxx" && run "cpp/spans.cpp in C++20, under sanitizers" built "$cxx" "$cxx_flags -std=c++20 $watched" \
@@ -176,7 +177,7 @@ headers_alone() {
     printf '#include <hivevigil.hpp>\nint main() { hv::Column::of(std::vector<double>{1.5}); }\n' >"$work/refused.cpp"
     $cxx -std=c++17 -Iinclude -fsyntax-only "$work/refused.cpp" 2>"$work/said" && return 1
     grep -q "made by hv::Floats" "$work/said" || return 1
-    for test in demo numbers decimal_casts decimal_scales spans tables table_rows table_tool; do
+    for test in demo numbers decimal_casts decimal_scales spans tables table_rows table_tool long_rows; do
         $cxx -std=c++17 $warned "examples/cpp/$test.cpp" && $cxx -std=c++20 $warned "examples/cpp/$test.cpp" || return 1
     done
     echo "those of C and C++, and what is made of their templates"
@@ -195,7 +196,7 @@ tables_page() {
 if has "$cxx"; then
     run "headers alone, with every warning" headers_alone
     run "the page of tables, in C++ and C" tables_page
-    for test in demo numbers decimal_casts decimal_scales spans tables table_rows; do run "cpp/$test.cpp" built "$cxx" "$cxx_flags -O2" "examples/cpp/$test.cpp"; done
+    for test in demo numbers decimal_casts decimal_scales spans tables table_rows long_rows; do run "cpp/$test.cpp" built "$cxx" "$cxx_flags -O2" "examples/cpp/$test.cpp"; done
     run "cpp/spans.cpp in C++20" built "$cxx" "$cxx_flags -std=c++20 -O2" examples/cpp/spans.cpp
 else
     skip "cpp/demo.cpp" "$cxx"
@@ -379,14 +380,20 @@ if echo '#include <sqlite3ext.h>' | $cc -E - >/dev/null 2>&1; then
     run "sqlite/test_steps.c$arrow_how" with_sqlite test_steps "$arrow_flags"
     run "sqlite/test_floats.c$arrow_how" with_sqlite test_floats "$arrow_flags"
     run "sqlite/memory.c" with_sqlite memory "-O2 $wraps"
+    # the same where columns of few runs are worked stretch by stretch too
+    run "sqlite/test.c by stretches$arrow_how" with_sqlite test "$arrow_flags -DRUNS_AT_ONCE=3"
+    run "sqlite/test_steps.c by stretches$arrow_how" with_sqlite test_steps "$arrow_flags -DRUNS_AT_ONCE=3"
+    run "sqlite/test_floats.c by stretches$arrow_how" with_sqlite test_floats "$arrow_flags -DRUNS_AT_ONCE=20"
+    run "sqlite/memory.c by stretches" with_sqlite memory "-O2 $wraps -DRUNS_AT_ONCE=20"
     run "sqlite, the extension as it is loaded" sqlite_loaded test
     run "sqlite, the same of test_steps.c" sqlite_loaded test_steps
     run "sqlite, the same of test_floats.c" sqlite_loaded test_floats
     if loads=$(python_of_extensions); then
         run "sqlite/figures.py" timeout 200 "$loads" examples/sqlite/figures.py --rows 20000
         run "engines/typed_test.py" timeout 200 "$loads" -B examples/engines/typed_test.py sqlite lib/hivevigil_sqlite.so
+        run "engines/long_test.py" timeout 200 "$loads" -B examples/engines/long_test.py sqlite lib/hivevigil_sqlite.so
     else
-        skip "sqlite/figures.py, engines/typed_test.py" "Python whose sqlite3 loads extensions"
+        skip "sqlite/figures.py, engines/typed_test.py, long_test.py" "Python whose sqlite3 loads extensions"
     fi
     if has protoc && found=$(python_with google.protobuf) &&
         "$found" -c 'import sqlite3; sqlite3.connect(":memory:").enable_load_extension(True)' 2>/dev/null; then
@@ -422,7 +429,7 @@ fi
 # PostgreSQL: a server of its own, which does not run as root
 if has pg_config && has make && [ -e "$(pg_config --includedir-server)/postgres.h" ] &&
     [ -x "$(pg_config --bindir)/postgres" ] && { [ "$(id -u)" != 0 ] || has runuser; }; then
-    run "postgres/test.sql" timeout 400 sh examples/postgres/test.sh
+    run "postgres/test.sql" timeout 900 sh examples/postgres/test.sh
 else
     skip "postgres/test.sql" "PostgreSQL with its headers (and runuser, as root)"
 fi

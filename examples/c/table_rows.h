@@ -255,7 +255,7 @@ static void make_column(plain_column *column, size_t count, hv_column *out) {
     hv_put(out, &flat);
 }
 
-static void random_table(plain_table *plain, hv_table *out) {
+static inline void random_table(plain_table *plain, hv_table *out) {
     static const size_t sizes[] = {0, 1, 2, 9, 40, MOST_ROWS};
     hv_column columns[MOST_COLUMNS] = {HV_EMPTY};
     const char *names[MOST_COLUMNS], *formats[MOST_COLUMNS];
@@ -323,7 +323,7 @@ static void check_rows(const hv_column *column, const plain_column *plain, const
     hv_free(&lists);
 }
 
-static void check_table(const hv_table *table, const plain_table *plain, const size_t *order) {
+static inline void check_table(const hv_table *table, const plain_table *plain, const size_t *order) {
     CHECK(table->rows == plain->rows && table->count == plain->count);
     for (size_t i = 0; i < plain->count; i++) {
         CHECK(!strcmp(table->names[i], plain->columns[i].name));

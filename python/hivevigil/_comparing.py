@@ -33,7 +33,8 @@ class Comparisons:
 
     def compare(self, operator: str, right: Any) -> Column:
         """Row by row whether `row operator right`, for a column of the same type or one value, with one of == != > >=
-        < <=; null where either is null. Numbers are compared exactly, also with one that the type does not have."""
+        < <=; null where either is null. Numbers are compared exactly, also with one that the type does not have. Of a
+        column in runs the answer is in runs."""
         column: Any = self
         return (with_column if isinstance(right, Comparisons) else with_value)(column, operator, right)
 
@@ -96,7 +97,16 @@ def with_value(column: Column, sign: str, value: Any) -> Column:
         fits = _WIDE if name == "decimal" else range_of(name)
         sign, number = _decided(sign, *_place(value, column._kind.scale), fits)
     parts = passed(column._kind, value) if number is None else stored(name, number)
+    if column.form == "runs" and name != "list":
+        return column._made(calls.hv_combine, column, operator_of(sign), _constant(column, parts, is_missing(value)))
     return column._made(calls.hv_compare_scalar, session, column, operator_of(sign), *parts)
+
+
+def _constant(column: Column, parts: Any, is_null: bool) -> Column:
+    """A value in each row of a column, of its type: one run."""
+    kind = column._kind
+    kind.nullable = is_null
+    return column._made(calls.hv_constant, kind, *parts, column._length)
 
 
 def _has_rows(value: Any) -> bool:

@@ -228,6 +228,8 @@ def with_column(column: Column, sign: str, right: Column) -> Column:
     holds = _one_pattern_each(column).compare(sign, _one_pattern_each(right))
     bounded = right if sign in ("<", "<=") else column
     is_number = _of_values(bounded, lambda values: with_value(values, "<=", float("inf")))
+    if holds.form == "flat":
+        is_number = is_number.decode()
     return holds.gt(_flipped(is_number))  # both: where a NaN is bounded, it holds of none
 
 

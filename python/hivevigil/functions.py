@@ -20,9 +20,9 @@ def columns_from_arrow(source: Any) -> dict[str, Column]:
 
 
 def concat(columns: Iterable[Column]) -> Column:
-    """The rows of columns, one column after the other: lists as lists, runs where each column is runs or a constant, else
-    flat. Columns of several types of numbers, or of times in several units, are joined in the type that has the rows of
-    all (`docs/TYPES.md`), and else refused."""
+    """The rows of columns, one column after the other: lists as lists, runs where each column is runs or a constant, or
+    where there are more than 64 rows for each run and each flat row, else flat. Columns of several types of numbers, or
+    of times in several units, are joined in the type that has the rows of all (`docs/TYPES.md`), and else refused."""
     given = [_column(column) for column in listed(columns, "columns")]
     return joined(given, "concat", [f"column {number}" for number in range(len(given))])
 

@@ -1,6 +1,6 @@
 //! Commands on columns.
 use crate::raw::{self, Handle};
-use crate::{fits, Column, Error, ErrorKind, Fields, Kind, Operator, Session, Value};
+use crate::{fits, Column, Error, ErrorKind, Fields, Form, Kind, Operator, Session, Value};
 use std::ops::{Bound, RangeBounds};
 
 /// Commands, each of which makes a column.
@@ -168,7 +168,8 @@ impl Column {
         .map_err(|error| error.of_other("codes are integers, not", self.kind()))
     }
 
-    /// Compares row by row, null where either row is null; decimals of two scales exactly.
+    /// Compares row by row, null where either row is null; decimals of two scales exactly. The answer is in runs unless
+    /// both columns are flat.
     ///
     /// ```
     /// use hivevigil::{Column, Decimal, Kind, Operator, Value};
@@ -182,6 +183,9 @@ impl Column {
             return self
                 .compared_exactly(operator, right, |left, right| left.compare(operator, right));
         }
+        if (self.form(), right.form()) != (Form::Flat, Form::Flat) {
+            return self.compared(operator, right);
+        }
         let (session, left, operator) = (Session::initial(), self.handle.get(), operator as u8);
         let (kind, other) = (self.kind(), right.kind());
         self.beside(right, |right, out, fields| unsafe {
@@ -194,7 +198,8 @@ impl Column {
     }
 
     /// Compares each row with one value, of the column's sort or null. Any number is compared with integers and
-    /// decimals: each row of `i8` is less than 300, and 0.51 is greater than 0.505.
+    /// decimals: each row of `i8` is less than 300, and 0.51 is greater than 0.505. The answer is in runs where the
+    /// column is.
     ///
     /// ```
     /// use hivevigil::{Column, Operator, Value};
@@ -210,6 +215,9 @@ impl Column {
         value: impl Into<Value>,
     ) -> Result<Column, Error> {
         let (operator, value) = fits::comparison(operator, value.into(), self.kind());
+        if self.form() == Form::Runs && !self.kind().is_list() {
+            return self.compared_by_runs(operator, &value);
+        }
         let (passed, text) = value.passed();
         self.command(|session, column, out, fields| unsafe {
             let (some, count) = (text.as_ptr(), text.len());
@@ -224,6 +232,21 @@ impl Column {
                 fields,
             )
         })
+        .map_err(|error| error.not_compared(self.kind(), value.sort()))
+    }
+
+    /// Compares each row with one value as a column of it, which is one run: no row is written.
+    fn compared_by_runs(&self, operator: Operator, value: &Value) -> Result<Column, Error> {
+        let kind = match value {
+            Value::Null => self.kind().nullable(),
+            _ => self.kind().not_nullable(),
+        };
+        let (passed, text) = value.passed();
+        let (some, count) = (text.as_ptr(), text.len());
+        Column::made(|out, fields| unsafe {
+            raw::hv_constant(&kind, &passed, some, count, self.len(), out, fields)
+        })
+        .and_then(|constant| self.combined(operator as u8, &constant))
         .map_err(|error| error.not_compared(self.kind(), value.sort()))
     }
 

@@ -265,7 +265,7 @@ impl Column {
         self.compared(Operator::GreaterOrEqual, right)
     }
 
-    fn combined(&self, operator: u8, right: &Column) -> Result<Column, Error> {
+    pub(crate) fn combined(&self, operator: u8, right: &Column) -> Result<Column, Error> {
         let left = self.handle.get();
         self.beside(right, |right, out, fields| unsafe {
             raw::hv_combine(left, operator, right, out, fields)
@@ -279,7 +279,7 @@ impl Column {
         })
     }
 
-    fn compared(&self, operator: Operator, right: &Column) -> Result<Column, Error> {
+    pub(crate) fn compared(&self, operator: Operator, right: &Column) -> Result<Column, Error> {
         if self.kind().is_other_decimal(right.kind()) {
             return self.compared_exactly(operator, right, |left, right| {
                 left.compared(operator, right)

@@ -191,9 +191,9 @@ fn imported(
 }
 
 /// Joins columns of one type, but for null, one after the other: runs over flat values where each is runs or a
-/// constant, else flat; lists as lists; decimals of several types as those of one that has the digits of each. Refused
-/// as `TypeMismatch` for two types, as `Unsupported` for no columns, and as `CastOutOfRange` for a row that has more
-/// than 38 digits at the greatest scale.
+/// constant, or where there are more than 64 rows for each run and each flat row, else flat; lists as lists; decimals of
+/// several types as those of one that has the digits of each. Refused as `TypeMismatch` for two types, as `Unsupported`
+/// for no columns, and as `CastOutOfRange` for a row that has more than 38 digits at the greatest scale.
 ///
 /// ```
 /// use hivevigil::{arrow::concat, Column, Form};
