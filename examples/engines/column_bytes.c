@@ -1,6 +1,7 @@
 #include "column_bytes.h"
 #include "float_columns.h"
 #include "hivevigil_helpers.h"
+#include "stretches.h"
 #include <stdlib.h>
 
 /* Is no row of an encoding other than null? Then it has no run, or one. */
@@ -13,12 +14,15 @@ static uint8_t is_null_encoding(const hv_column *runs) {
     return !hv_at(runs, 0, &value, NULL, 0, &error) && value.kind == HV_NULL;
 }
 
+static int32_t see_nulls(void *is_null, const hv_column *part, uint64_t start, hv_error *error) {
+    (void)start, (void)error;
+    *(uint8_t *)is_null = hv_null_count(part) == hv_length(part);
+    return *(uint8_t *)is_null ? HV_OK : SEEN;
+}
+
 int32_t column_is_null_alone(const hv_column *column, uint8_t *is_null, hv_error *error) {
-    hv_column runs = HV_EMPTY;
-    const int32_t answer = hv_encode_rows(column, &runs, error);
-    if (!answer) *is_null = is_null_encoding(&runs);
-    hv_free(&runs);
-    return answer;
+    *is_null = 1;
+    return hv_kind_of(column).number == HV_LIST ? HV_UNSUPPORTED : look_by_stretches(column, see_nulls, is_null, error);
 }
 
 int32_t column_cast(const hv_column *column, const hv_kind *kind, hv_column *out, hv_error *error) {
@@ -110,7 +114,7 @@ int32_t encoding_bytes_write(hv_column *runs, const logical_type *type, uint8_t 
 int32_t column_bytes_write(const hv_column *column, const logical_type *type, uint8_t **bytes, size_t *size,
                            hv_error *error) {
     hv_column runs = HV_EMPTY;
-    int32_t answer = hv_encode_rows(column, &runs, error);
+    int32_t answer = encoded_by_stretches(column, &runs, error);
     if (!answer) answer = encoding_bytes_write(&runs, type, bytes, size, error);
     hv_free(&runs);
     return answer;
@@ -159,23 +163,30 @@ static int32_t read_message(const uint8_t *bytes, size_t size, hv_column *out, u
     return answer;
 }
 
+/* The rows as those of a database; `how` is the type of the keys of floats, else HV_LIST. */
+static int32_t served(const void *how, const hv_column *column, const hv_column *none, hv_column *out,
+                      hv_error *error) {
+    const uint8_t keys = *(const uint8_t *)how;
+    hv_kind kind = hv_kind_of(column);
+    (void)none;
+    if (keys != HV_LIST) return float_column_of_keys(column, keys, out, error);
+    if (kind.number == HV_BOOL) return column_of_truths(column, out, error);
+    if (kind.number >= HV_I64) return HV_UNSUPPORTED;
+    kind.number = HV_I64;
+    return column_cast(column, &kind, out, error);
+}
+
 int32_t column_bytes_read(const uint8_t *bytes, size_t size, hv_column *out, logical_type *type, hv_error *error) {
     logical_type found = NO_LOGICAL_TYPE;
     hv_column column = HV_EMPTY;
     uint8_t keys;
     int32_t answer = read_message(bytes, size, &column, &keys, &found, error);
     if (answer) return answer;
-    hv_kind kind = hv_kind_of(&column);
-    if (keys != HV_LIST) {
-        answer = float_column_of_keys(&column, keys, out, error);
-    } else if (kind.number == HV_I64 || kind.number == HV_UTF8 || kind.number == HV_BINARY) {
-        hv_put(out, &column);
-    } else if (kind.number < HV_I64) {
-        kind.number = HV_I64;
-        answer = column_cast(&column, &kind, out, error);
-    } else {
-        answer = kind.number == HV_BOOL ? column_of_truths(&column, out, error) : HV_UNSUPPORTED;
-    }
+    const uint8_t number = hv_kind_of(&column).number;
+    if (keys == HV_LIST && (number == HV_I64 || number == HV_UTF8 || number == HV_BINARY)) hv_put(out, &column);
+    else if (number != HV_LIST && is_long(&column))
+        answer = made_by_stretches(&column, NULL, served, &keys, out, error);
+    else answer = served(&keys, &column, NULL, out, error);
     if (!answer && type) *type = found;
     hv_free(&column);
     return answer;

@@ -15,8 +15,8 @@ int32_t column_bytes_write(const hv_column *column, const logical_type *type, ui
 int32_t encoding_bytes_write(hv_column *runs, const logical_type *type, uint8_t **bytes, size_t *size,
                              hv_error *error);
 
-/* The column that the bytes are, in the form in which it was written, whoever wrote it: texts, bytes, or integers of
- * any type, which are signed numbers of 64 bits then, as booleans are; floats as their bits. Its logical type, which is
+/* The column that the bytes are, in the form in which it was written, or encoded, whoever wrote it: texts, bytes, or
+ * integers of any type, which are signed numbers of 64 bits then, as booleans are; floats as their bits. Its logical type, which is
  * borrowed of the bytes, goes to `type`, unless that is null: none for floats and booleans. 17 where they are none, also
  * where a type of floats is not of such keys, 13 for rows of another type, 14 for a number past 2^63, 21. */
 int32_t column_bytes_read(const uint8_t *bytes, size_t size, hv_column *out, logical_type *type, hv_error *error);
@@ -28,7 +28,7 @@ int32_t column_cast(const hv_column *column, const hv_kind *kind, hv_column *out
 /* Booleans as numbers, by their runs: 1, 0 and null. */
 int32_t column_of_truths(const hv_column *truths, hv_column *out, hv_error *error);
 
-/* Is no row other than null? Such a column goes with columns of every type. 13 for lists, 21. */
+/* Is no row other than null? Such a column goes with columns of every type. 13 for lists, INTERRUPTED, 21. */
 int32_t column_is_null_alone(const hv_column *column, uint8_t *is_null, hv_error *error);
 
 #endif

@@ -1,7 +1,7 @@
 #include "column_pairs.h"
 #include "column_bytes.h"
 #include "hivevigil_helpers.h"
-#include <stdbool.h>
+#include "stretches.h"
 
 int32_t column_of_value(const row_value *value, size_t rows, hv_column *out, hv_error *error) {
     const hv_value given = value_of_row(value);
@@ -16,28 +16,39 @@ static int32_t truths_of(const hv_column *numbers, hv_column *out, hv_error *err
     const hv_value zero = {0, 0, HV_SIGNED, 0};
     hv_session session;
     hv_session_initial(&session);
-    return hv_compare_scalar(&session, numbers, HV_NE, &zero, NULL, 0, out, error);
+    return hv_compare_value(&session, numbers, HV_NE, &zero, NULL, 0, out, error);
 }
 
-int32_t column_not(const hv_column *column, hv_column *out, hv_error *error) {
+static int32_t negated(const void *how, const hv_column *column, const hv_column *none, hv_column *out,
+                       hv_error *error) {
     const hv_value zero = {0, 0, HV_SIGNED, 0};
     hv_column truths = HV_EMPTY;
     hv_session session;
+    (void)how, (void)none;
     hv_session_initial(&session);
-    int32_t answer = hv_compare_scalar(&session, column, HV_EQ, &zero, NULL, 0, &truths, error);
+    int32_t answer = hv_compare_value(&session, column, HV_EQ, &zero, NULL, 0, &truths, error);
     if (!answer) answer = column_of_truths(&truths, out, error);
     hv_free(&truths);
     return answer;
 }
 
-int32_t column_where(const hv_column *column, const hv_column *mask, hv_column *out, hv_error *error) {
+int32_t column_not(const hv_column *column, hv_column *out, hv_error *error) {
+    return made_by_stretches(column, NULL, negated, NULL, out, error);
+}
+
+static int32_t kept(const void *how, const hv_column *column, const hv_column *mask, hv_column *out, hv_error *error) {
     hv_column truths = HV_EMPTY;
     hv_session session;
+    (void)how;
     hv_session_initial(&session);
     int32_t answer = truths_of(mask, &truths, error);
     if (!answer) answer = hv_filter(&session, column, &truths, out, error);
     hv_free(&truths);
     return answer;
+}
+
+int32_t column_where(const hv_column *column, const hv_column *mask, hv_column *out, hv_error *error) {
+    return made_by_stretches(column, mask, kept, NULL, out, error);
 }
 
 /* ---- Two columns ---- */
@@ -51,23 +62,28 @@ static int32_t as_null(const hv_column *column, hv_kind kind, hv_column *made, h
     return answer || !is_null ? answer : hv_constant(&kind, &null, NULL, 0, hv_length(column), made, error);
 }
 
+/* What is done to two columns. */
+typedef struct pair_question {
+    uint8_t operator_;
+    nan_order nans;
+} pair_question;
+
 /* Compares two columns of floats, which are not worked otherwise. */
-static int32_t combine_floats(const hv_column *left, uint8_t operator_, const hv_column *right, nan_order nans,
-                              hv_column *out, hv_error *error) {
+static int32_t combine_floats(pair_question asked, const hv_column *left, const hv_column *right, hv_column *out,
+                              hv_error *error) {
     hv_column truths = HV_EMPTY;
-    int32_t answer = operator_ > HV_LE ? HV_TYPE_MISMATCH : HV_OK;
-    if (!answer) answer = float_columns_mask(left, operator_, right, nans, &truths, error);
+    int32_t answer = asked.operator_ > HV_LE ? HV_TYPE_MISMATCH : HV_OK;
+    if (!answer) answer = float_columns_mask(left, asked.operator_, right, asked.nans, &truths, error);
     if (!answer) answer = column_of_truths(&truths, out, error);
     hv_free(&truths);
     return answer;
 }
 
-static int32_t combine(const hv_column *left, uint8_t operator_, const hv_column *right, hv_column *out,
+static int32_t combine(uint8_t operator_, const hv_column *left, const hv_column *right, hv_column *out,
                        hv_error *error) {
     hv_column left_truths = HV_EMPTY, right_truths = HV_EMPTY, made = HV_EMPTY;
-    const bool connects = operator_ == HV_AND || operator_ == HV_OR;
     int32_t answer = HV_OK;
-    if (connects) {
+    if (operator_ == HV_AND || operator_ == HV_OR) {
         answer = truths_of(left, &left_truths, error);
         if (!answer) answer = truths_of(right, &right_truths, error);
         left = &left_truths, right = &right_truths;
@@ -79,8 +95,18 @@ static int32_t combine(const hv_column *left, uint8_t operator_, const hv_column
     return answer;
 }
 
+/* The same of two columns of one type, or of floats of two widths. */
+static int32_t paired(const void *how, const hv_column *left, const hv_column *right, hv_column *out,
+                      hv_error *error) {
+    const pair_question asked = *(const pair_question *)how;
+    const bool are_floats = is_float_type(hv_kind_of(left).number) && is_float_type(hv_kind_of(right).number);
+    return are_floats ? combine_floats(asked, left, right, out, error)
+                      : combine(asked.operator_, left, right, out, error);
+}
+
 int32_t columns_combine(const hv_column *left, uint8_t operator_, const hv_column *right, nan_order nans,
                         hv_column *out, hv_error *error) {
+    const pair_question asked = {operator_, nans};
     hv_column nulls = HV_EMPTY;
     int32_t answer = HV_OK;
     if (hv_kind_of(left).number != hv_kind_of(right).number) {
@@ -89,9 +115,7 @@ int32_t columns_combine(const hv_column *left, uint8_t operator_, const hv_colum
         else if (!answer) answer = as_null(right, hv_kind_of(left), &nulls, error);
         if (!answer && left != &nulls && !hv_is_empty(&nulls)) right = &nulls;
     }
-    const bool are_floats = is_float_type(hv_kind_of(left).number) && is_float_type(hv_kind_of(right).number);
-    if (!answer && are_floats) answer = combine_floats(left, operator_, right, nans, out, error);
-    else if (!answer) answer = combine(left, operator_, right, out, error);
+    if (!answer) answer = made_by_stretches(left, right, paired, &asked, out, error);
     hv_free(&nulls);
     return answer;
 }

@@ -1,5 +1,6 @@
-/* Two columns of a database worked row by row, at the cost of their runs. A database keeps no booleans here: a truth is
- * a number, 1 or 0 as an answer, and any number but 0 is true as an argument. */
+/* Two columns of a database worked row by row, at the cost of their runs and by stretches; each answer is an encoding.
+ * A database keeps no booleans here: a truth is a number, 1 or 0 as an answer, and any number but 0 is true as an
+ * argument. Next to what is said all but the last may be refused as INTERRUPTED. */
 #ifndef HIVEVIGIL_COLUMN_PAIRS_H
 #define HIVEVIGIL_COLUMN_PAIRS_H
 #include "float_columns.h"

@@ -1,6 +1,7 @@
 #include "float_buckets.h"
 #include "float_columns.h"
 #include "hivevigil_helpers.h"
+#include "stretches.h"
 #include <math.h>
 
 /* Division rounds, so that the bucket before or after may be the one. */
@@ -27,11 +28,14 @@ static int32_t add_run(hv_builder *builder, const hv_column *runs, size_t run, f
     return hv_append_value(builder, &value, NULL, 0, stop - start, error);
 }
 
-int32_t float_column_buckets(const hv_column *column, float_grid grid, hv_column *out, hv_error *error) {
+static int32_t buckets_of(const void *how, const hv_column *column, const hv_column *none, hv_column *out,
+                          hv_error *error) {
+    const float_grid grid = *(const float_grid *)how;
     const hv_kind kind = {HV_U64, 1, 0, 0};
     hv_column runs = HV_EMPTY;
     hv_builder builder = HV_EMPTY;
     size_t count = 0;
+    (void)none;
     int32_t answer = hv_encode_rows(column, &runs, error);
     if (!answer) answer = hv_run_count(&runs, &count, error);
     if (!answer) answer = hv_builder_new(&kind, &builder, error);
@@ -40,4 +44,8 @@ int32_t float_column_buckets(const hv_column *column, float_grid grid, hv_column
     hv_builder_free(&builder);
     hv_free(&runs);
     return answer;
+}
+
+int32_t float_column_buckets(const hv_column *column, float_grid grid, hv_column *out, hv_error *error) {
+    return made_by_stretches(column, NULL, buckets_of, &grid, out, error);
 }

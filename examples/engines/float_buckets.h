@@ -9,7 +9,7 @@ typedef struct float_grid { double width, origin; } float_grid;
 
 /* The bucket of each row of floats of 64 bits, in as few runs as possible: the last one that does not begin above it.
  * Null stays null, and so do infinities and NaNs. 14 (row) for the first row that is further from the origin than the
- * finite numbers reach; 21. */
+ * finite numbers reach; INTERRUPTED, 21. */
 int32_t float_column_buckets(const hv_column *column, float_grid grid, hv_column *out, hv_error *error);
 
 #endif

@@ -1,5 +1,6 @@
 #include "float_columns.h"
 #include "hivevigil_helpers.h"
+#include "stretches.h"
 #include <stdlib.h>
 #include <string.h>
 
@@ -136,12 +137,18 @@ int32_t float_column_of_keys(const hv_column *column, uint8_t keys, hv_column *o
     return answer;
 }
 
-int32_t float_column_canonical(const hv_column *column, hv_column *out, hv_error *error) {
+static int32_t canonical(const void *how, const hv_column *column, const hv_column *none, hv_column *out,
+                         hv_error *error) {
     hv_column keys = HV_EMPTY;
+    (void)how, (void)none;
     int32_t answer = hv_float_encode(column, 1, &keys, error);
     if (!answer) answer = converted(&keys, NULL, false, out, error);
     hv_free(&keys);
     return answer;
+}
+
+int32_t float_column_canonical(const hv_column *column, hv_column *out, hv_error *error) {
+    return made_by_stretches(column, NULL, canonical, NULL, out, error);
 }
 
 /* ---- Comparisons ---- */
@@ -224,11 +231,43 @@ static int32_t keys_of(const hv_column *column, hv_column *out, hv_error *error)
                                                : hv_float_encode(column, 0, out, error);
 }
 
-int32_t float_column_extremes(const hv_column *column, nan_order nans, float_extremes *found, hv_error *error) {
+/* The same of a column of one stretch. */
+static int32_t extremes_of_part(const hv_column *part, nan_order nans, float_extremes *found, hv_error *error) {
     hv_column keys = HV_EMPTY;
-    int32_t answer = keys_of(column, &keys, error);
+    int32_t answer = keys_of(part, &keys, error);
     if (!answer) answer = extremes_of_keys(&keys, nans, found, error);
     hv_free(&keys);
+    return answer;
+}
+
+/* The extremes of stretches, whose extremes are those of all. */
+typedef struct part_extremes {
+    nan_order nans;
+    hv_builder of_parts;
+} part_extremes;
+
+static int32_t add_extremes(void *given, const hv_column *part, uint64_t start, hv_error *error) {
+    part_extremes *at = given;
+    float_extremes found = {false, 0, 0};
+    int32_t answer = extremes_of_part(part, at->nans, &found, error);
+    const hv_value least = {.kind = HV_UNSIGNED, .as_unsigned = found.least};
+    const hv_value greatest = {.kind = HV_UNSIGNED, .as_unsigned = found.greatest};
+    (void)start;
+    if (!answer && found.found) answer = hv_append_value(&at->of_parts, &least, NULL, 0, 1, error);
+    if (!answer && found.found) answer = hv_append_value(&at->of_parts, &greatest, NULL, 0, 1, error);
+    return answer;
+}
+
+int32_t float_column_extremes(const hv_column *column, nan_order nans, float_extremes *found, hv_error *error) {
+    part_extremes at = {nans, HV_EMPTY};
+    const hv_kind kind = hv_kind_of(column);
+    hv_column few = HV_EMPTY;
+    if (!is_long(column)) return extremes_of_part(column, nans, found, error);
+    int32_t answer = hv_builder_new(&kind, &at.of_parts, error);
+    if (!answer) answer = look_by_stretches(column, add_extremes, &at, error);
+    if (!answer) answer = hv_finish(&at.of_parts, &few, error);
+    if (!answer) answer = extremes_of_part(&few, nans, found, error);
+    hv_builder_free(&at.of_parts), hv_free(&few);
     return answer;
 }
 
@@ -303,6 +342,7 @@ static int32_t fold_groups(const hv_column *keys, const uint64_t *rows, size_t c
         if (answer == HV_CAST_OUT_OF_RANGE) error->first = group;
         if (!answer && is_valid) valid[group / 8] |= (uint8_t)(1 << group % 8);
         narrow[group] = (uint32_t)wide[group];
+        if (!answer && is_interrupted()) answer = INTERRUPTED;
         hv_free(&part);
     }
     const hv_validity validity = hv_valid_bits(valid, bytes, 0);

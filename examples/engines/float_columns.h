@@ -38,7 +38,7 @@ int32_t float_column_of_keys(const hv_column *column, uint8_t keys, hv_column *o
 /* Floats of 32 bits as those of 64: the same numbers, and NaNs with their payload. Any other column as it is. 21. */
 int32_t float_column_widened(const hv_column *column, hv_column *out, hv_error *error);
 
-/* The same rows with one zero and one NaN in place of all; 21. */
+/* The encoding of the same rows with one zero and one NaN in place of all; INTERRUPTED, 21. */
 int32_t float_column_canonical(const hv_column *column, hv_column *out, hv_error *error);
 
 /* The bits of a float, and back. */
@@ -66,7 +66,7 @@ typedef struct float_extremes {
 } float_extremes;
 
 /* The extremes of the numbers, where -0.0 is below 0.0. Where NaNs are unordered they are left out; else one is the
- * greatest where there is one, and the least where there is nothing else. 21. */
+ * greatest where there is one, and the least where there is nothing else. INTERRUPTED, 21. */
 int32_t float_column_extremes(const hv_column *column, nan_order nans, float_extremes *found, hv_error *error);
 
 /* How many rows are not null, and the bits, of 64, of their exact sum, as hv_float_sum. Where NaNs are the greatest, 14
@@ -74,7 +74,7 @@ int32_t float_column_extremes(const hv_column *column, nan_order nans, float_ext
 int32_t float_column_sum(const hv_column *column, nan_order nans, uint64_t *count, uint64_t *bits, hv_error *error);
 
 /* What hv_fold_by answers of keys and values of any type, where values may be floats: their sum has 64 bits, and is
- * refused as above with its group. */
+ * refused as above with its group; INTERRUPTED. */
 int32_t column_fold_by(const hv_column *keys, const hv_column *values, uint8_t fold, nan_order nans,
                        hv_column *out_keys, hv_column *out_answers, hv_error *error);
 

@@ -2,6 +2,7 @@
 #include "column_bytes.h"
 #include "float_columns.h"
 #include "run_parts.h"
+#include "stretches.h"
 #include <stdlib.h>
 
 __extension__ typedef unsigned __int128 wide;
@@ -52,17 +53,12 @@ static void add_runs(float_total *total, const run_parts *runs, const uint64_t *
     }
 }
 
-int32_t float_total_add(float_total *total, const hv_column *column, hv_error *error) {
+static int32_t add_part(void *total, const hv_column *part, uint64_t start, hv_error *error) {
     run_parts runs = RUN_PARTS_EMPTY;
     hv_column wide_column = HV_EMPTY;
     uint64_t *bits = NULL;
-    uint8_t is_null = 0;
-    int32_t answer = HV_OK;
-    if (!is_float_type(hv_kind_of(column).number)) {
-        answer = column_is_null_alone(column, &is_null, error);
-        return answer || is_null ? answer : HV_TYPE_MISMATCH;
-    }
-    answer = float_column_widened(column, &wide_column, error);
+    (void)start;
+    int32_t answer = float_column_widened(part, &wide_column, error);
     if (!answer) answer = run_parts_read(&wide_column, &runs, error);
     if (!answer) bits = calloc(runs.count + 1, sizeof *bits);
     if (!answer) answer = bits ? hv_read_u64(&runs.values, 0, bits, runs.count, error) : HV_OUT_OF_MEMORY;
@@ -70,6 +66,19 @@ int32_t float_total_add(float_total *total, const hv_column *column, hv_error *e
     free(bits);
     hv_free(&wide_column);
     run_parts_free(&runs);
+    return answer;
+}
+
+int32_t float_total_add(float_total *total, const hv_column *column, hv_error *error) {
+    float_total made = *total;
+    uint8_t is_null = 0;
+    int32_t answer = HV_OK;
+    if (!is_float_type(hv_kind_of(column).number)) {
+        answer = column_is_null_alone(column, &is_null, error);
+        return answer || is_null ? answer : HV_TYPE_MISMATCH;
+    }
+    answer = look_by_stretches(column, add_part, &made, error);
+    if (!answer) *total = made;
     return answer;
 }
 

@@ -14,7 +14,7 @@ typedef struct float_total {
 } float_total;
 
 /* Adds the rows of a column of floats of fewer than 2^63 rows, by its runs; of only null none, whatever its type. 12
- * for other rows, and then the total is what it was; 21. */
+ * for other rows, INTERRUPTED, 21, and then the total is what it was. */
 int32_t float_total_add(float_total *total, const hv_column *column, hv_error *error);
 
 /* Adds all rows of another. */

@@ -2,6 +2,7 @@
 #include "column_bytes.h"
 #include "float_columns.h"
 #include "run_parts.h"
+#include "stretches.h"
 #include <stdlib.h>
 #include <string.h>
 
@@ -83,42 +84,56 @@ static int32_t with_numbers(const hv_column *encoding, const run_parts *runs, co
     return answer;
 }
 
-static int32_t recounted(const hv_column *encoding, time_unit from, time_unit to, hv_column *out, hv_error *error) {
+/* From which unit to which numbers are counted. */
+typedef struct unit_change {
+    time_unit from, to;
+} unit_change;
+
+static int32_t recounted(const void *how, const hv_column *column, const hv_column *none, hv_column *out,
+                         hv_error *error) {
+    const unit_change *units = how;
+    hv_column encoding = HV_EMPTY;
     run_parts runs = RUN_PARTS_EMPTY;
     int64_t *numbers = NULL;
-    int32_t answer = run_parts_read(encoding, &runs, error);
+    (void)none;
+    int32_t answer = hv_encode_rows(column, &encoding, error);
+    if (!answer) answer = run_parts_read(&encoding, &runs, error);
     if (!answer) answer = run_parts_numbers(&runs, &numbers, error);
-    if (!answer) answer = count_anew(&runs, numbers, from, to, error);
-    if (!answer) answer = with_numbers(encoding, &runs, numbers, out, error);
+    if (!answer) answer = count_anew(&runs, numbers, units->from, units->to, error);
+    if (!answer) answer = with_numbers(&encoding, &runs, numbers, out, error);
     free(numbers);
     run_parts_free(&runs);
+    hv_free(&encoding);
     return answer;
 }
 
 int32_t column_recount(const hv_column *column, const logical_type *from, const logical_type *to, hv_column *out,
                        hv_error *error) {
-    time_unit before, after = {INSTANT, 1, HV_I64};
-    hv_column runs = HV_EMPTY;
+    unit_change units = {{INSTANT, 1, HV_I64}, {INSTANT, 1, HV_I64}};
     uint8_t is_null = 0;
     const uint8_t kind = hv_kind_of(column).number;
     int32_t answer = column_is_null_alone(column, &is_null, error);
     if (answer) return answer;
     if (!to->len || is_null) return is_float_type(kind) && !is_null ? HV_TYPE_MISMATCH : hv_clone(column, out, error);
-    if (kind != HV_I64 || !is_time_unit(to->format, to->len, &after)) return HV_TYPE_MISMATCH;
-    if (!from->len) before = after;
-    else if (!is_time_unit(from->format, from->len, &before) || before.sort != after.sort) return HV_TYPE_MISMATCH;
-    answer = hv_encode_rows(column, &runs, error);
-    if (!answer) answer = recounted(&runs, before, after, out, error);
-    hv_free(&runs);
+    if (kind != HV_I64 || !is_time_unit(to->format, to->len, &units.to)) return HV_TYPE_MISMATCH;
+    if (!from->len) units.from = units.to;
+    else if (!is_time_unit(from->format, from->len, &units.from) || units.from.sort != units.to.sort)
+        return HV_TYPE_MISMATCH;
+    return made_by_stretches(column, NULL, recounted, &units, out, error);
+}
+
+static int32_t as_stored(const void *how, const hv_column *runs, const hv_column *none, hv_column *out,
+                         hv_error *error) {
+    const uint8_t stored = *(const uint8_t *)how;
+    const unit_change units = {{INSTANT, 1, HV_I64}, {INSTANT, 1, stored}};
+    const hv_kind kind = {stored, hv_kind_of(runs).nullable, 0, 0};
+    hv_column numbers = HV_EMPTY;
+    int32_t answer = recounted(&units, runs, none, &numbers, error);
+    if (!answer) answer = column_cast(&numbers, &kind, out, error);
+    hv_free(&numbers);
     return answer;
 }
 
 int32_t column_as_stored(const hv_column *runs, uint8_t stored, hv_column *out, hv_error *error) {
-    const time_unit any = {INSTANT, 1, HV_I64}, fitting = {INSTANT, 1, stored};
-    const hv_kind kind = {stored, hv_kind_of(runs).nullable, 0, 0};
-    hv_column numbers = HV_EMPTY;
-    int32_t answer = recounted(runs, any, fitting, &numbers, error);
-    if (!answer) answer = column_cast(&numbers, &kind, out, error);
-    hv_free(&numbers);
-    return answer;
+    return made_by_stretches(runs, NULL, as_stored, &stored, out, error);
 }

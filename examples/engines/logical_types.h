@@ -28,11 +28,12 @@ int32_t logical_type_named(const uint8_t *format, size_t len, logical_type *out)
 
 /* The rows, numbers of one logical type, as numbers that count the same in another. Numbers without a type mean what
  * the other says; as ones without a type they remain as they are. By runs; 12 where the types are of two sorts, one has
- * a zone and the other none, or the rows are not numbers; PAST_LOGICAL_TYPE for the first row without such a count. */
+ * a zone and the other none, or the rows are not numbers; PAST_LOGICAL_TYPE for the first row without such a count,
+ * INTERRUPTED, 21. */
 int32_t column_recount(const hv_column *column, const logical_type *from, const logical_type *to, hv_column *out,
                        hv_error *error);
 
-/* Numbers, an encoding, in the type that the message of a logical type has; PAST_LOGICAL_TYPE, 21. */
+/* Numbers in the type that the message of a logical type has, as an encoding; PAST_LOGICAL_TYPE, INTERRUPTED, 21. */
 int32_t column_as_stored(const hv_column *runs, uint8_t stored, hv_column *out, hv_error *error);
 
 #endif

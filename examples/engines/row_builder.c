@@ -1,5 +1,6 @@
 #include "row_builder.h"
 #include "column_bytes.h"
+#include "stretches.h"
 #include <stdlib.h>
 #include <string.h>
 
@@ -60,9 +61,11 @@ int32_t row_builder_add(row_builder *rows, const row_value *value, uint64_t coun
 }
 
 /* The rows of a column of the builder's kind, whose type may have no null. */
-static int32_t append_column(row_builder *rows, const hv_column *column, hv_error *error) {
+static int32_t append_part(void *given, const hv_column *column, uint64_t start, hv_error *error) {
+    row_builder *rows = given;
     hv_kind kind = hv_kind_of(column);
     hv_column with_null = HV_EMPTY;
+    (void)start;
     if (kind.nullable) return hv_append(&rows->runs, column, error);
     kind.nullable = 1;
     int32_t answer = column_cast(column, &kind, &with_null, error);
@@ -79,7 +82,7 @@ int32_t row_builder_add_column(row_builder *rows, const hv_column *column, hv_er
     if (!answer && kind != rows->kind) answer = column_is_null_alone(column, &is_null, error);
     if (!answer && !is_null) answer = begin(rows, kind, error);
     if (!answer && is_null) answer = append_rows(rows, &null_row, hv_length(column), error);
-    else if (!answer) answer = append_column(rows, column, error);
+    else if (!answer) answer = look_by_stretches(column, append_part, rows, error);
     if (!answer) rows->rows += hv_length(column);
     return answer;
 }

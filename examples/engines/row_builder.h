@@ -41,7 +41,8 @@ hv_value value_of_row(const row_value *value);
 int32_t row_builder_add(row_builder *rows, const row_value *value, uint64_t count, hv_error *error);
 
 /* Adds all rows of a column of any form; one of only null goes with rows of every type. Refused as above, and as 13
- * unless the column is one of signed numbers of 64 bits, floats, texts or bytes. */
+ * unless the column is one of signed numbers of 64 bits, floats, texts or bytes; as INTERRUPTED. Where a long column is
+ * refused as this or as 21, some of its rows may be added. */
 int32_t row_builder_add_column(row_builder *rows, const hv_column *column, hv_error *error);
 
 /* The same with the logical type of the column, after which all rows are of it: rows without one are taken to be of the

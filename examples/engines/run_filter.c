@@ -2,6 +2,7 @@
 #include "column_bytes.h"
 #include "hivevigil_helpers.h"
 #include "run_parts.h"
+#include "stretches.h"
 #include <stdlib.h>
 #include <string.h>
 
@@ -16,66 +17,91 @@ uint8_t operator_number(const char *name) {
     return NO_OPERATOR;
 }
 
-/* How many rows the runs have that are not null. */
-static uint64_t valid_rows(const run_parts *runs) {
-    uint64_t start = 0, rows = 0;
-    for (size_t run = 0; run < runs->count; run++) {
-        if (run_is_valid(runs, run)) rows += runs->stops[run] - start;
-        start = runs->stops[run];
-    }
-    return rows;
+static int32_t count_valid(void *rows, const hv_column *part, uint64_t start, hv_error *error) {
+    (void)start, (void)error;
+    *(uint64_t *)rows += hv_length(part) - hv_null_count(part);
+    return HV_OK;
 }
 
 int32_t column_valid_rows(const hv_column *column, uint64_t *rows, hv_error *error) {
-    run_parts runs = RUN_PARTS_EMPTY;
-    const int32_t answer = run_parts_read(column, &runs, error);
-    if (!answer) *rows = valid_rows(&runs);
-    run_parts_free(&runs);
-    return answer;
+    *rows = 0;
+    return look_by_stretches(column, count_valid, rows, error);
 }
 
-/* Equal neighbours are one run of an encoding, so that next to a run of null there is none. */
-int32_t column_valid_row(const hv_column *column, bool last, size_t *row, hv_error *error) {
-    hv_column runs = HV_EMPTY;
+/* Which row that is not null is looked for, and the one that was found. */
+typedef struct valid_row {
+    bool last;
+    size_t row;
+} valid_row;
+
+/* Finds the row of a stretch. Equal neighbours are one run of an encoding, so that next to a run of null there is none. */
+static int32_t find_valid(void *found, const hv_column *part, uint64_t start, hv_error *error) {
+    valid_row *at = found;
+    hv_column valid = HV_EMPTY, runs = HV_EMPTY;
     hv_value value;
-    size_t count = 0;
+    size_t count = 0, row = at->last ? hv_length(part) - 1 : 0;
     uint64_t end = 0;
-    *row = last && hv_length(column) ? hv_length(column) - 1 : 0;
-    int32_t answer = hv_at(column, *row, &value, NULL, 0, error);
-    if (answer == HV_COLUMN_LENGTH) return HV_OK; /* a text, longer than none */
-    if (answer || value.kind != HV_NULL) return answer;
-    answer = hv_encode_rows(column, &runs, error);
+    if (hv_null_count(part) == hv_length(part)) return HV_OK;
+    int32_t answer = hv_is_valid(part, &valid, error);
+    if (!answer) answer = hv_at(&valid, row, &value, NULL, 0, error);
+    if (!answer) answer = hv_encode_rows(&valid, &runs, error);
     if (!answer) answer = hv_run_count(&runs, &count, error);
-    if (!answer && count > 1) {
-        answer = hv_read_ends_u64(&runs, last ? count - 2 : 0, &end, 1, error);
-        *row = last ? end - 1 : end;
+    if (!answer && !value.truth) {
+        answer = hv_read_ends_u64(&runs, at->last ? count - 2 : 0, &end, 1, error);
+        row = at->last ? end - 1 : end;
     }
-    hv_free(&runs);
+    if (!answer) at->row = start + row;
+    hv_free(&valid), hv_free(&runs);
+    return answer || at->last ? answer : SEEN;
+}
+
+int32_t column_valid_row(const hv_column *column, bool last, size_t *row, hv_error *error) {
+    valid_row found = {last, last && hv_length(column) ? hv_length(column) - 1 : 0};
+    hv_value value;
+    int32_t answer = hv_at(column, found.row, &value, NULL, 0, error);
+    if (!answer && value.kind == HV_NULL) answer = look_by_stretches(column, find_valid, &found, error);
+    if (answer == HV_COLUMN_LENGTH) answer = HV_OK; /* a text, longer than none */
+    *row = found.row;
     return answer;
 }
 
-/* The row with which the sum leaves the range, or the number of rows. */
-static uint64_t overflow_row(const run_parts *runs, const int64_t *numbers) {
+/* The sum so far, and, once it leaves the range, the row with which it does. */
+typedef struct sum_so_far {
+    int64_t sum;
+    uint64_t row;
+} sum_so_far;
+
+/* Adds the runs that fit; SEEN with the first that does not. */
+static int32_t add_fitting(sum_so_far *at, const run_parts *runs, const int64_t *numbers, uint64_t first) {
     uint64_t start = 0;
-    int64_t sum = 0;
     for (size_t run = 0; run < runs->count; run++) {
         const bool valid = run_is_valid(runs, run);
-        const uint64_t rows = runs->stops[run] - start, fit = valid ? rows_that_fit(sum, numbers[run]) : UINT64_MAX;
-        if (fit < rows) return start + fit;
-        if (valid) sum = (int64_t)((uint64_t)sum + (uint64_t)numbers[run] * rows);
+        const uint64_t rows = runs->stops[run] - start, fit = valid ? rows_that_fit(at->sum, numbers[run]) : UINT64_MAX;
+        if (fit < rows) {
+            at->row = first + start + fit;
+            return SEEN;
+        }
+        if (valid) at->sum = (int64_t)((uint64_t)at->sum + (uint64_t)numbers[run] * rows);
         start = runs->stops[run];
     }
-    return start;
+    return HV_OK;
+}
+
+static int32_t find_overflow(void *found, const hv_column *part, uint64_t start, hv_error *error) {
+    run_parts runs = RUN_PARTS_EMPTY;
+    int64_t *numbers = NULL;
+    int32_t answer = run_parts_read(part, &runs, error);
+    if (!answer) answer = run_parts_numbers(&runs, &numbers, error);
+    if (!answer) answer = add_fitting(found, &runs, numbers, start);
+    free(numbers);
+    run_parts_free(&runs);
+    return answer;
 }
 
 int32_t column_overflow_row(const hv_column *column, uint64_t *row, hv_error *error) {
-    run_parts runs = RUN_PARTS_EMPTY;
-    int64_t *numbers = NULL;
-    int32_t answer = run_parts_read(column, &runs, error);
-    if (!answer) answer = run_parts_numbers(&runs, &numbers, error);
-    if (!answer) *row = overflow_row(&runs, numbers);
-    free(numbers);
-    run_parts_free(&runs);
+    sum_so_far found = {0, 0};
+    const int32_t answer = look_by_stretches(column, find_overflow, &found, error);
+    *row = found.row;
     return answer;
 }
 
@@ -110,23 +136,59 @@ static int32_t keep_runs(const hv_session *session, run_parts *runs, const hv_co
     return answer;
 }
 
-int32_t column_filter(const hv_column *column, uint8_t operator_, const row_value *value, hv_column *out,
-                      hv_error *error) {
+/* What rows are compared with. */
+typedef struct value_question {
+    uint8_t operator_;
+    const row_value *value;
+} value_question;
+
+static int32_t kept_by_value(const void *how, const hv_column *column, const hv_column *none, hv_column *out,
+                             hv_error *error) {
+    const value_question *asked = how;
+    const row_value *value = asked->value;
     const hv_value right = value_of_row(value);
     const bool is_float = value->kind == ROW_FLOAT32 || value->kind == ROW_FLOAT64;
     run_parts runs = RUN_PARTS_EMPTY;
     hv_column mask = HV_EMPTY;
     hv_session session;
+    (void)none;
+    hv_session_initial(&session);
+    if (value->kind == HV_NULL || hv_null_count(column) == hv_length(column))
+        return hv_slice(&session, column, 0, 0, out, error);
+    if (is_float) return HV_TYPE_MISMATCH;
+    int32_t answer = run_parts_read(column, &runs, error);
+    if (!answer)
+        answer = hv_compare_scalar(&session, &runs.values, asked->operator_, &right, value->bytes, value->len, &mask,
+                                   error);
+    if (!answer) answer = keep_runs(&session, &runs, &mask, out, error);
+    run_parts_free(&runs);
+    hv_free(&mask);
+    return answer;
+}
+
+int32_t column_filter(const hv_column *column, uint8_t operator_, const row_value *value, hv_column *out,
+                      hv_error *error) {
+    const value_question asked = {operator_, value};
+    return made_by_stretches(column, NULL, kept_by_value, &asked, out, error);
+}
+
+/* What floats are compared with. */
+typedef struct ordered_question {
+    float_question asked;
+    nan_order nans;
+} ordered_question;
+
+static int32_t kept_floats(const void *how, const hv_column *column, const hv_column *none, hv_column *out,
+                           hv_error *error) {
+    const ordered_question *question = how;
+    run_parts runs = RUN_PARTS_EMPTY;
+    hv_column mask = HV_EMPTY;
+    hv_session session;
+    (void)none;
     hv_session_initial(&session);
     int32_t answer = run_parts_read(column, &runs, error);
-    if (!answer && (value->kind == HV_NULL || !valid_rows(&runs))) {
-        answer = hv_slice(&session, column, 0, 0, out, error);
-    } else if (!answer) {
-        answer = is_float ? HV_TYPE_MISMATCH
-                          : hv_compare_scalar(&session, &runs.values, operator_, &right, value->bytes, value->len,
-                                              &mask, error);
-        if (!answer) answer = keep_runs(&session, &runs, &mask, out, error);
-    }
+    if (!answer) answer = float_mask(&runs.values, question->asked, question->nans, &mask, error);
+    if (!answer) answer = keep_runs(&session, &runs, &mask, out, error);
     run_parts_free(&runs);
     hv_free(&mask);
     return answer;
@@ -134,23 +196,23 @@ int32_t column_filter(const hv_column *column, uint8_t operator_, const row_valu
 
 int32_t column_filter_floats(const hv_column *column, float_question asked, nan_order nans, hv_column *out,
                              hv_error *error) {
-    run_parts runs = RUN_PARTS_EMPTY;
-    hv_column mask = HV_EMPTY;
-    hv_session session;
-    hv_session_initial(&session);
-    int32_t answer = run_parts_read(column, &runs, error);
-    if (!answer) answer = float_mask(&runs.values, asked, nans, &mask, error);
-    if (!answer) answer = keep_runs(&session, &runs, &mask, out, error);
-    run_parts_free(&runs);
-    hv_free(&mask);
+    const ordered_question question = {asked, nans};
+    return made_by_stretches(column, NULL, kept_floats, &question, out, error);
+}
+
+static int32_t compared_floats(const void *how, const hv_column *column, const hv_column *none, hv_column *out,
+                               hv_error *error) {
+    const ordered_question *question = how;
+    hv_column truths = HV_EMPTY;
+    (void)none;
+    int32_t answer = float_mask(column, question->asked, question->nans, &truths, error);
+    if (!answer) answer = column_of_truths(&truths, out, error);
+    hv_free(&truths);
     return answer;
 }
 
 int32_t column_compare_floats(const hv_column *column, float_question asked, nan_order nans, hv_column *out,
                               hv_error *error) {
-    hv_column truths = HV_EMPTY;
-    int32_t answer = float_mask(column, asked, nans, &truths, error);
-    if (!answer) answer = column_of_truths(&truths, out, error);
-    hv_free(&truths);
-    return answer;
+    const ordered_question question = {asked, nans};
+    return made_by_stretches(column, NULL, compared_floats, &question, out, error);
 }

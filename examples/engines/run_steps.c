@@ -1,19 +1,10 @@
 #include "run_steps.h"
 #include "column_bytes.h"
 #include "run_parts.h"
+#include "stretches.h"
 #include <stdlib.h>
 
 enum { FEW = 512 };
-
-/* A column that is made from the runs of another, one after the other. Single rows wait, and go to the builder together,
- * which is faster. */
-typedef struct walk {
-    hv_builder made;
-    int64_t last; /* the number before, or the sum so far */
-    bucket_grid grid;
-    size_t waiting;
-    int64_t few[FEW];
-} walk;
 
 /* A run of rows of one number. */
 typedef struct number_run {
@@ -21,8 +12,21 @@ typedef struct number_run {
     int64_t number;
 } number_run;
 
+typedef struct walk walk;
+
 /* Adds what is made of a run. */
 typedef int32_t add_run(walk *at, const number_run *run, hv_error *error);
+
+/* A column that is made from the runs of another, one after the other. Single rows wait, and go to the builder together,
+ * which is faster. */
+struct walk {
+    hv_builder made;
+    add_run *add;
+    int64_t last; /* the number before, or the sum so far */
+    bucket_grid grid;
+    size_t waiting;
+    int64_t few[FEW];
+};
 
 static int32_t add_batch(walk *at, hv_error *error) {
     hv_column rows = HV_EMPTY;
@@ -37,6 +41,7 @@ static int32_t add_few(walk *at, hv_error *error) {
     hv_value value = {0, 0, HV_SIGNED, 0};
     int32_t answer = HV_OK;
     if (hv_builder_runs(&at->made) >= MOST_RUNS) return TOO_MANY_RUNS;
+    if (is_interrupted()) return INTERRUPTED;
     if (at->waiting > FEW / 32) answer = add_batch(at, error), at->waiting = 0;
     for (size_t row = 0; !answer && row < at->waiting; row++) {
         value.as_signed = at->few[row];
@@ -141,46 +146,50 @@ static int32_t add_step_buckets(walk *at, const number_run *run, hv_error *error
 
 /* ---- All runs ---- */
 
-static int32_t add_all(walk *at, const run_parts *runs, const int64_t *numbers, add_run *add, hv_error *error) {
+/* Adds what is made of the runs of a stretch, which are numbers, from row `first` on. */
+static int32_t add_runs(walk *at, const run_parts *runs, const int64_t *numbers, uint64_t first, hv_error *error) {
     const hv_value null = {0, 0, HV_NULL, 0};
     uint64_t start = 0;
     int32_t answer = HV_OK;
     for (size_t run = 0; !answer && run < runs->count; run++) {
-        const number_run next = {start, runs->stops[run] - start, numbers[run]};
-        answer = run_is_valid(runs, run) ? add(at, &next, error) : add_value(at, &null, next.rows, error);
+        const number_run next = {first + start, runs->stops[run] - start, numbers[run]};
+        if (next.rows && run_is_valid(runs, run)) answer = at->add(at, &next, error);
+        else if (next.rows) answer = add_value(at, &null, next.rows, error);
         start = runs->stops[run];
     }
-    return answer ? answer : add_few(at, error);
+    return answer;
 }
 
-/* Makes a column from an encoding of numbers. */
-static int32_t walked(const hv_column *encoding, bucket_grid grid, add_run *add, hv_column *out, hv_error *error) {
-    const hv_kind numbers_or_null = {HV_I64, 1, 0, 0};
+static int32_t add_part(void *given, const hv_column *part, uint64_t start, hv_error *error) {
     run_parts runs = RUN_PARTS_EMPTY;
-    walk at = {.made = HV_EMPTY, .grid = grid};
     int64_t *numbers = NULL;
-    int32_t answer = run_parts_read(encoding, &runs, error);
+    int32_t answer = run_parts_read(part, &runs, error);
     if (!answer) answer = run_parts_numbers(&runs, &numbers, error);
-    if (!answer) answer = hv_builder_new(&numbers_or_null, &at.made, error);
-    if (!answer) answer = add_all(&at, &runs, numbers, add, error);
-    if (!answer) answer = hv_finish(&at.made, out, error);
+    if (!answer) answer = add_runs(given, &runs, numbers, start, error);
     free(numbers);
     run_parts_free(&runs);
+    return answer;
+}
+
+/* Makes a column from one of numbers. */
+static int32_t walked(const hv_column *column, bucket_grid grid, add_run *add, hv_column *out, hv_error *error) {
+    const hv_kind numbers_or_null = {HV_I64, 1, 0, 0};
+    walk at = {.made = HV_EMPTY, .add = add, .grid = grid};
+    int32_t answer = hv_builder_new(&numbers_or_null, &at.made, error);
+    if (!answer) answer = look_by_stretches(column, add_part, &at, error);
+    if (!answer) answer = add_few(&at, error);
+    if (!answer) answer = hv_finish(&at.made, out, error);
     hv_builder_free(&at.made);
     return answer;
 }
 
 /* The same from a column of any form; only null is null again, of whichever type it is. */
 static int32_t made_of(const hv_column *column, bucket_grid grid, add_run *add, hv_column *out, hv_error *error) {
-    const bool is_number = hv_kind_of(column).number == HV_I64;
-    hv_column encoding = HV_EMPTY;
     uint8_t is_null = 0;
-    int32_t answer = hv_encode_rows(column, &encoding, error);
-    if (!answer && !is_number) answer = column_is_null_alone(column, &is_null, error);
-    if (!answer && !is_number && !is_null) answer = HV_TYPE_MISMATCH;
-    if (!answer) answer = is_number ? walked(&encoding, grid, add, out, error) : hv_clone(&encoding, out, error);
-    hv_free(&encoding);
-    return answer;
+    if (hv_kind_of(column).number == HV_I64) return walked(column, grid, add, out, error);
+    const int32_t answer = column_is_null_alone(column, &is_null, error);
+    if (answer || !is_null) return answer ? answer : HV_TYPE_MISMATCH;
+    return encoded_by_stretches(column, out, error);
 }
 
 static const bucket_grid no_grid = {1, 0};

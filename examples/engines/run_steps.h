@@ -2,7 +2,7 @@
  * its own number. Times at regular steps are one number and one run. A null is a null of both.
  *
  * All of it by runs, for a column of any form; 12 for one of texts or bytes, 14 (row) for the first row whose number is
- * not one of 64 bits, TOO_MANY_RUNS, 21. */
+ * not one of 64 bits, TOO_MANY_RUNS, INTERRUPTED, 21. */
 #ifndef HIVEVIGIL_RUN_STEPS_H
 #define HIVEVIGIL_RUN_STEPS_H
 #include "hivevigil.h"

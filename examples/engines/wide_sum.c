@@ -1,6 +1,7 @@
 #include "wide_sum.h"
 #include "column_bytes.h"
 #include "run_parts.h"
+#include "stretches.h"
 #include <stdlib.h>
 
 __extension__ typedef __int128 wide;
@@ -30,20 +31,28 @@ static void add_runs(wide_sum *sum, const run_parts *runs, const int64_t *number
     }
 }
 
-int32_t wide_sum_add(wide_sum *sum, const hv_column *column, hv_error *error) {
+static int32_t add_part(void *sum, const hv_column *part, uint64_t start, hv_error *error) {
     run_parts runs = RUN_PARTS_EMPTY;
     int64_t *numbers = NULL;
+    (void)start;
+    int32_t answer = run_parts_read(part, &runs, error);
+    if (!answer) answer = run_parts_numbers(&runs, &numbers, error);
+    if (!answer) add_runs(sum, &runs, numbers);
+    free(numbers);
+    run_parts_free(&runs);
+    return answer;
+}
+
+int32_t wide_sum_add(wide_sum *sum, const hv_column *column, hv_error *error) {
+    wide_sum made = *sum;
     uint8_t is_null = 0;
     int32_t answer = HV_OK;
     if (hv_kind_of(column).number != HV_I64) {
         answer = column_is_null_alone(column, &is_null, error);
         return answer || is_null ? answer : HV_TYPE_MISMATCH;
     }
-    answer = run_parts_read(column, &runs, error);
-    if (!answer) answer = run_parts_numbers(&runs, &numbers, error);
-    if (!answer) add_runs(sum, &runs, numbers);
-    free(numbers);
-    run_parts_free(&runs);
+    answer = look_by_stretches(column, add_part, &made, error);
+    if (!answer) *sum = made;
     return answer;
 }
 

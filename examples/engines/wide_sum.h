@@ -11,8 +11,8 @@ typedef struct wide_sum {
     bool any;
 } wide_sum;
 
-/* Adds the rows of a column of fewer than 2^63 rows, by its runs; of only null none. 12 for texts or bytes, and then
- * the sum is what it was; 21. */
+/* Adds the rows of a column of fewer than 2^63 rows, by its runs; of only null none. 12 for texts or bytes, INTERRUPTED,
+ * 21, and then the sum is what it was. */
 int32_t wide_sum_add(wide_sum *sum, const hv_column *column, hv_error *error);
 
 /* The sum as a number of 64 bits; false where it is none. */

@@ -14,7 +14,7 @@ static bytea *encoded(const char *function, bytea *bytes) {
     const int32_t answer = float_column_canonical(&column, &one_of_each, &error);
     hv_free(&column);
     hv_raise(function, answer, &error);
-    return hv_bytes_of_column(function, &one_of_each);
+    return hv_bytes_of_encoding(function, &one_of_each, NULL);
 }
 
 static bool same_bytes(const bytea *left, const bytea *right) {

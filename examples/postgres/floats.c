@@ -129,7 +129,7 @@ static Datum compared(const char *function, FunctionCallInfo fcinfo, compare *by
     const int32_t answer = by(&column, asked, NAN_GREATEST, &out, &error);
     hv_free(&column);
     hv_raise(function, answer, &error);
-    PG_RETURN_BYTEA_P(hv_bytes_of_column(function, &out));
+    PG_RETURN_BYTEA_P(hv_bytes_of_encoding(function, &out, NULL));
 }
 
 HV_FUNCTION(pg_hv_compare_float) { return compared("hv_compare", fcinfo, column_compare_floats); }
@@ -254,5 +254,5 @@ HV_FUNCTION(pg_hv_buckets_floats) {
         ereport(ERROR, (errcode(ERRCODE_NUMERIC_VALUE_OUT_OF_RANGE), errmsg("hv_buckets: double precision out of range"),
                         errdetail("The bucket of row " UINT64_FORMAT " leaves the range.", (uint64)error.first)));
     hv_raise("hv_buckets", answer, &error);
-    PG_RETURN_BYTEA_P(hv_bytes_of_column("hv_buckets", &made));
+    PG_RETURN_BYTEA_P(hv_bytes_of_encoding("hv_buckets", &made, NULL));
 }

@@ -3,6 +3,7 @@
 
 #include "hivevigil_errors.h"
 #include "mb/pg_wchar.h"
+#include "miscadmin.h"
 #include "utils/builtins.h"
 #include "utils/memutils.h"
 #include <stdlib.h>
@@ -30,8 +31,30 @@ const char *hv_words_of(hv_kind kind) {
     return kind.number == HV_UTF8 ? "texts" : kind.number == HV_BINARY ? "bytes" : "numbers";
 }
 
+/* Whether an error waits that ends the statement: it was raised while memory was held. */
+static bool is_ended = false;
+
+/* An interrupt that ends no statement is served here; the error of any other waits for hv_raise. */
+bool is_interrupted(void) {
+    const MemoryContext before = CurrentMemoryContext;
+    if (is_ended || !INTERRUPTS_PENDING_CONDITION()) return is_ended;
+    PG_TRY();
+    { CHECK_FOR_INTERRUPTS(); }
+    PG_CATCH();
+    {
+        MemoryContextSwitchTo(before);
+        is_ended = true;
+    }
+    PG_END_TRY();
+    return is_ended;
+}
+
 void hv_raise(const char *function, int32_t answer, const hv_error *error) {
     char text[HV_ERROR_TEXT];
+    if (is_ended) {
+        is_ended = false;
+        PG_RE_THROW();
+    }
     if (!answer) return;
     const char *why = hv_error_text(answer, error, text);
     if (answer == HV_BAD_METADATA) why = "the bytes are not a column";
@@ -68,7 +91,7 @@ bytea *hv_bytes_of_column(const char *function, hv_column *column) { return hv_b
 bytea *hv_bytes_of_typed(const char *function, hv_column *column, const logical_type *type) {
     hv_error error = {0, 0, 0};
     hv_column runs = HV_EMPTY;
-    const int32_t answer = hv_encode_rows(column, &runs, &error);
+    const int32_t answer = encoded_by_stretches(column, &runs, &error);
     hv_free(column);
     hv_raise(function, answer, &error);
     return hv_bytes_of_encoding(function, &runs, type);
@@ -322,7 +345,7 @@ static Datum filtered(FunctionCallInfo fcinfo, const row_value *value) {
                         errmsg("hv_filter: a column of %s is not compared with a %s", words,
                                value->kind == HV_TEXT ? "text" : "bigint")));
     hv_raise("hv_filter", answer, &error);
-    PG_RETURN_BYTEA_P(hv_bytes_of_typed("hv_filter", &left, &type));
+    PG_RETURN_BYTEA_P(hv_bytes_of_encoding("hv_filter", &left, &type));
 }
 
 HV_FUNCTION(pg_hv_filter_numbers) {

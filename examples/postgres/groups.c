@@ -2,7 +2,7 @@
 #include "pg_column.h"
 
 #include "funcapi.h"
-#include "hivevigil_helpers.h"
+#include "group_folds.h"
 #include "utils/memutils.h"
 
 enum { MOST = 7 };
@@ -39,7 +39,7 @@ static int32_t fold(const question *asked, held_groups *held, const hv_column *k
                     hv_error *error) {
     int32_t answer = HV_OK;
     for (int i = 0; !answer && i < asked->count; i++)
-        answer = column_fold_by(keys, values, asked->folds[i], NAN_GREATEST, &held->columns[0], &held->columns[1 + i],
+        answer = groups_fold_by(keys, values, asked->folds[i], NAN_GREATEST, &held->columns[0], &held->columns[1 + i],
                                 error);
     return answer;
 }

@@ -34,7 +34,7 @@ static Datum paired(const pairing *called, hv_column *left, hv_column *right) {
     hv_free(left);
     hv_free(right);
     raise(called, answer, &error, kind, other);
-    PG_RETURN_BYTEA_P(hv_bytes_of_column(called->name, &out));
+    PG_RETURN_BYTEA_P(hv_bytes_of_encoding(called->name, &out, NULL));
 }
 
 /* The column of an argument while another is held, which is freed where the bytes are none. */
@@ -120,7 +120,7 @@ HV_FUNCTION(pg_hv_not) {
     const int32_t answer = column_not(&column, &out, &error);
     hv_free(&column);
     raise(&to_not, answer, &error, kind, kind);
-    PG_RETURN_BYTEA_P(hv_bytes_of_column("hv_not", &out));
+    PG_RETURN_BYTEA_P(hv_bytes_of_encoding("hv_not", &out, NULL));
 }
 
 /* The rows at which a mask is true. */
@@ -137,5 +137,5 @@ HV_FUNCTION(pg_hv_filter_mask) {
     hv_free(&column);
     hv_free(&mask);
     raise(&called, answer, &error, kind, kind);
-    PG_RETURN_BYTEA_P(hv_bytes_of_typed("hv_filter", &out, &type));
+    PG_RETURN_BYTEA_P(hv_bytes_of_encoding("hv_filter", &out, &type));
 }

@@ -3,6 +3,7 @@
  * PostgreSQL leaves a function by a long jump where it raises an error. So no function raises one, nor asks PostgreSQL
  * for memory that may be refused by one, while it holds memory of malloc's or a column of the library's: what is held
  * is freed first. What outlives a call (the rows of an aggregate) is freed with the memory context that it belongs to.
+ * A statement that is cancelled ends a call between two stretches of a column (stretches.h), in the same way.
  */
 #ifndef HIVEVIGIL_PG_COLUMN_H
 #define HIVEVIGIL_PG_COLUMN_H
@@ -11,6 +12,7 @@
 #include "column_bytes.h"
 #include "fmgr.h"
 #include "run_filter.h"
+#include "stretches.h"
 
 /* A function that SQL calls; its arguments are the macros' `fcinfo`. */
 #define HV_FUNCTION(name)                                                                                              \

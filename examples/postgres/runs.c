@@ -47,7 +47,7 @@ static void begin(const run_values *asked, FunctionCallInfo fcinfo) {
         hv_recounted(function, &column, &type, &times, &counted);
         column = counted;
     }
-    int32_t answer = hv_encode_rows(&column, runs, &error);
+    int32_t answer = encoded_by_stretches(&column, runs, &error);
     if (!answer) answer = hv_run_count(runs, &count, &error);
     hv_free(&column);
     hv_raise(function, answer, &error);

@@ -96,6 +96,11 @@ typed_questions() {
     if command -v python3 >/dev/null; then python3 -B "$top/examples/engines/typed_test.py" postgres
     else echo "SELECT 'PostgreSQL: no python3 to make columns with a logical type by hand';"; fi
 }
+# columns of 2^40 rows in a few runs, held against a model in Python
+long_questions() {
+    if command -v python3 >/dev/null; then python3 -B "$top/examples/engines/long_test.py" postgres
+    else echo "SELECT 'PostgreSQL: no python3 for a model of columns of 2^40 rows';"; fi
+}
 # sharded SENSORS DAYS [STAMPS]: a year of sensors, and then the same over two servers, with answers compared
 sharded() {
     started other
@@ -121,6 +126,9 @@ figures.sql) ask ${count:+-v "count=$count"} -At -f "$scripts/figures.sql" ;;
     ask -At -f "$scripts/test_types.sql"
     typed_questions >"$work/typed.sql" || fail "no questions of columns with a logical type"
     ask -At <"$work/typed.sql"
+    long_questions >"$work/long.sql" || fail "no questions of columns of 2^40 rows"
+    ask -At <"$work/long.sql"
+    ask -At -f "$scripts/test_timeouts.sql" 2>"$work/log" || fail "a statement is not ended in time: $(cat "$work/log")"
     sharded 5 12 10000 >"$work/sensors"
     tail -n 1 "$work/sensors"
     restored

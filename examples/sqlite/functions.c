@@ -20,6 +20,7 @@
 #include <sqlite3ext.h>
 SQLITE_EXTENSION_INIT1
 #include "hivevigil_errors.h"
+#include "../engines/stretches.h"
 #include "sqlite_column.h"
 #include <stdint.h>
 #include <stdlib.h>
@@ -33,6 +34,9 @@ const char *type_in_words(int type) {
     default: return "NULL";
     }
 }
+
+/* SQLite asks a function nothing while it runs. */
+bool is_interrupted(void) { return false; }
 
 const char *kind_in_words(uint8_t kind) {
     if (kind == ROW_FLOAT64 || kind == HV_U64) return "real numbers";
@@ -108,7 +112,7 @@ void answer_encoding(sqlite3_context *context, const char *function, hv_column *
 void answer_column(sqlite3_context *context, const char *function, const hv_column *column, const logical_type *type) {
     hv_error error = {0, 0, 0};
     hv_column runs = HV_EMPTY;
-    const int32_t answer = hv_encode_rows(column, &runs, &error);
+    const int32_t answer = encoded_by_stretches(column, &runs, &error);
     if (answer) refuse(context, function, answer, &error);
     else answer_encoding(context, function, &runs, type);
     hv_free(&runs);
@@ -418,7 +422,7 @@ static int32_t ask_filter(question *asked) {
         answer = column_filter_floats(asked->column, question_of_number(operator_, asked->values[2]), NAN_UNORDERED,
                                       &kept, &asked->error);
     else answer = column_filter(asked->column, operator_, &value, &kept, &asked->error);
-    if (!answer) answer_column(asked->context, "hv_filter", &kept, asked->type);
+    if (!answer) answer_encoding(asked->context, "hv_filter", &kept, asked->type);
     if (answer == HV_TYPE_MISMATCH) answer = say_not_compared(asked, &value);
     hv_free(&kept);
     return answer;

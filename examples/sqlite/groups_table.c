@@ -1,4 +1,5 @@
 /* hv_groups(keys, values): a table of a row for each run of equal neighbouring keys, with what is asked of it. */
+#include "../engines/group_folds.h"
 #include "sqlite_column.h"
 #include <stdlib.h>
 #include <string.h>
@@ -93,11 +94,11 @@ static int32_t fold(cursor *at, int asked, const hv_column *keys, const hv_colum
                                          HV_FOLD_LEAST, HV_FOLD_GREATEST, HV_FOLD_FIRST, HV_FOLD_LAST};
     hv_column spare = HV_EMPTY;
     int32_t answer = HV_OK;
-    if (!(asked >> 1)) answer = hv_fold_by(keys, values, folds[KEY], &at->columns[KEY], &spare, error);
+    if (!(asked >> 1)) answer = groups_fold_by(keys, values, folds[KEY], NAN_UNORDERED, &at->columns[KEY], &spare, error);
     hv_free(&spare);
     for (int i = 1; !answer && i < SHOWN; i++)
         if (asked >> i & 1)
-            answer = column_fold_by(keys, values, folds[i], NAN_UNORDERED, &at->columns[KEY], &at->columns[i], error);
+            answer = groups_fold_by(keys, values, folds[i], NAN_UNORDERED, &at->columns[KEY], &at->columns[i], error);
     at->count = hv_length(&at->columns[KEY]);
     return answer;
 }

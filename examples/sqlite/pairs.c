@@ -79,7 +79,7 @@ static void answer_pairs(sqlite3_context *context, const pairing *called, sqlite
         if (answer) reason = why(called, answer, &error, &columns[0], &columns[1]);
         done = !answer;
     }
-    if (done) answer_column(context, called->name, &out, NULL);
+    if (done) answer_encoding(context, called->name, &out, NULL);
     else fail(context, reason);
     hv_free(&columns[0]), hv_free(&columns[1]), hv_free(&out);
 }
@@ -110,7 +110,7 @@ static void ask_not(sqlite3_context *context, int count, sqlite3_value **values)
         if (answer) reason = why(&called, answer, &error, &column, &column);
         done = !answer;
     }
-    if (done) answer_column(context, "hv_not", &out, NULL);
+    if (done) answer_encoding(context, "hv_not", &out, NULL);
     else fail(context, reason);
     hv_free(&column), hv_free(&out);
 }
@@ -131,7 +131,7 @@ static void ask_where(sqlite3_context *context, int count, sqlite3_value **value
         if (answer) reason = why(&called, answer, &error, &mask, &mask);
         done = !answer;
     }
-    if (done) answer_column(context, "hv_filter", &out, &type);
+    if (done) answer_encoding(context, "hv_filter", &out, &type);
     else fail(context, reason);
     hv_free(&column), hv_free(&mask), hv_free(&out);
 }

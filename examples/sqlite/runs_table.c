@@ -1,4 +1,5 @@
 /* hv_runs(column): a table of a row for each run, made when it is asked for. */
+#include "../engines/stretches.h"
 #include "sqlite_column.h"
 #include <stdlib.h>
 #include <string.h>
@@ -97,7 +98,7 @@ static int begin(sqlite3_vtab_cursor *base, int plan, const char *name, int coun
     if (sqlite3_value_type(values[0]) == SQLITE_NULL) return SQLITE_OK;
     bool done = column_of("hv_runs", values[0], &column, &reason);
     if (done) {
-        int32_t answer = hv_encode_rows(&column, &at->runs, &error);
+        int32_t answer = encoded_by_stretches(&column, &at->runs, &error);
         if (!answer) answer = hv_run_count(&at->runs, &at->count, &error);
         if (!answer) answer = look(at, &error);
         if (answer) reason = refusal("hv_runs", answer, &error);
