@@ -354,6 +354,13 @@ def asked(answers: Answers, work: list[str]) -> str | None:
     column = answers.column(name)
     if column.type.is_list and verb not in OF_LISTS or verb == "encode" and not column.type.is_integer:
         raise Unknown
+    if verb == "filter" and rest[:1] == ["column"]:
+        mask = answers.column(*rest[1:])
+        if not mask.type.is_boolean:
+            return "refused 12"
+        if len(mask.rows) != len(column.rows):
+            return f"refused 10 {len(mask.rows)} {len(column.rows)}"
+        rest = ["".join("01"[row is True] for row in mask.rows)]
     if verb in COMMANDS:
         type, rows = called(COMMANDS[verb], column, *rest)
         answers.made = Column(name, type, rows, form_after(column, verb, rows)), None

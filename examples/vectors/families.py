@@ -8,6 +8,8 @@ from typing import Callable
 import decimals
 import float_lines
 import groups
+import lookups
+import masks
 import mixed
 import orders
 import pairs
@@ -106,6 +108,35 @@ NUMBERS = {
         decimals.pick_case,
         85,
     ),
+}
+# Filters by masks in runs.
+MASKS = {
+    "runs": Family(
+        6,
+        "runs filtered by masks in runs, windows of both with hidden runs: under thresholds, with the kernel and without",
+        masks.runs_case,
+        150,
+    ),
+    "others": Family(2, "flat columns and constants filtered by masks in runs", masks.other_case, 30),
+    "lists": Family(1, "runs of lists filtered by masks in runs", masks.lists_case, 12),
+    "long": Family(1, "runs of 2^40 rows filtered by masks of as many, at the cost of the runs", masks.long_case, 20),
+}
+# Rows looked up by codes and by indices.
+LOOKUPS = {
+    "runs": Family(
+        6,
+        "codes and indices in any form, looked up in columns in any form: hidden runs, refusals, with the kernel or not",
+        lookups.runs_case,
+        150,
+    ),
+    "lists": Family(1, "codes and indices looked up in runs of lists", lookups.lists_case, 20),
+    "long": Family(
+        2,
+        "codes and indices looked up in 2^40 rows in runs or of one value, at the cost of the runs",
+        lookups.long_case,
+        60,
+    ),
+    "types": Family(1, "codes and indices of other types than integers, in 2^40 rows", lookups.types_case, 12),
 }
 # Messages that keep a logical type: all but the last are lines of fixed columns, and no chance makes them.
 TYPED = {

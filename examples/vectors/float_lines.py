@@ -9,7 +9,7 @@ from typing import Callable
 import floats
 from float_columns import FloatColumn, any_bits, bits, float_rows, keys, keys_type, make, spelled
 from floats import F64, FORMATS, Format, NotThere, word
-from words import COMPARISONS, INTEGERS, Type, constant_form, encoded_form, flat_form, shown, spaced
+from words import COMPARISONS, INTEGERS, Type, constant_form, encoded_form, shown, spaced
 from words import words as plain
 from writer import Writer
 
@@ -117,8 +117,7 @@ def compare(writer: Writer, asked: FloatColumn, verb: str, operation: str, other
     writer.say("m rows", shown(truths))
     writer.say("m type", str(type))
     if asked.form in ("floats", "flat", "encoded") and writer.happens(0.5):
-        is_null = truths and all(truth is None for truth in truths)
-        writer.say("m form", constant_form(type, None, len(truths)) if is_null else flat_form(type, truths))
+        writer.say("m form", encoded_form(type, truths))
 
 
 def make_each(writer: Writer, line: str, form: str, rows: Rows, one: Callable[[int], int], show: Show) -> None:

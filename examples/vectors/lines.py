@@ -2,7 +2,7 @@
 """Writes lines of vectors with their answers, which the rows themselves give: nothing of the library is used.
 
     python3 examples/vectors/lines.py SEED COUNT            lines of COUNT cases of each group, by chance from SEED
-        --group rows|floats|numbers|typed                   of this group only
+        --group rows|floats|numbers|masks|lookups|typed     of this group only
         --wide                                              some columns have hundreds of rows
     python3 examples/vectors/lines.py --stored GROUP        the lines of a group, or of `picks` or `layers`, in
                                                             lines.txt
@@ -18,7 +18,7 @@ from __future__ import annotations
 
 import argparse
 
-from families import FLOATS, NUMBERS, ROWS, TYPED, as_stored, by_chance, in_turn
+from families import FLOATS, LOOKUPS, MASKS, NUMBERS, ROWS, TYPED, as_stored, by_chance, in_turn
 from writer import Writer
 
 WITHOUT_PICKS = {name: family for name, family in NUMBERS.items() if name != "picks"}
@@ -30,9 +30,13 @@ STORED = {
     "numbers": (WITHOUT_PICKS, 2911, False, False),
     "picks": (PICKS, 2912, True, False),
     "typed": (TYPED, 2913, True, False),
+    "masks": (MASKS, 2914, True, False),
+    "lookups": (LOOKUPS, 3012, True, False),
     "layers": (ROWS, 3011, True, True),
 }
 GROUPS = {"numbers": (NUMBERS, by_chance), "rows": (ROWS, by_chance), "floats": (FLOATS, in_turn)}
+GROUPS["masks"] = (MASKS, by_chance)
+GROUPS["lookups"] = (LOOKUPS, by_chance)
 GROUPS["typed"] = (TYPED, by_chance)
 
 

@@ -128,20 +128,32 @@ inline Command read_slice(const Words &words, const Workspace &workspace) {
     });
 }
 
-inline Command read_filter(const Words &words, const Workspace &workspace) {
+// A mask of bits, or of the rows of a column.
+inline Shared read_mask(const Words &words, const Workspace &workspace) {
+    if (words.size() == 3 && words[1] == "column") return workspace.find(words[2]);
     require(words.size() == 2);
-    const Shared mask = booleans(read_bits(words[1]), PassedValidity({never_null, {}}));
+    return booleans(read_bits(words[1]), PassedValidity({never_null, {}}));
+}
+
+inline Command read_filter(const Words &words, const Workspace &workspace) {
+    const Shared mask = read_mask(words, workspace);
     return leaving_flat(workspace,
                         [mask](const hv_session *session, const hv_column *column, hv_column *out, hv_error *error) {
                             return hv_filter(session, column, mask->get(), out, error);
                         });
 }
 
-inline Command read_take(const Words &words, const Workspace &workspace) {
+// Indices that are written out, or the rows of a column.
+inline Shared read_indices(const Words &words, const Workspace &workspace) {
     require(words.size() > 1);
+    if (words.size() == 3 && words[1] == "column") return workspace.find(words[2]);
     const Type type = read_type(words[1]);
     require(!type.is_list && is_integer(type.kind));
-    const Shared indices = flat_column(type.kind, read_rows(words_from(words, 2)));
+    return flat_column(type.kind, read_rows(words_from(words, 2)));
+}
+
+inline Command read_take(const Words &words, const Workspace &workspace) {
+    const Shared indices = read_indices(words, workspace);
     return leaving_rows_at(
         workspace, indices,
         [indices](const hv_session *session, const hv_column *column, hv_column *out, hv_error *error) {

@@ -76,10 +76,13 @@ public:
     // Calls that only say more of an answer are given all memory while one of these is there.
     class Aside {
     public:
-        Aside() { is_aside = true; }
+        Aside() : was_aside(is_aside) { is_aside = true; }
         Aside(const Aside &) = delete;
         Aside &operator=(const Aside &) = delete;
-        ~Aside() { is_aside = false; }
+        ~Aside() { is_aside = was_aside; }
+
+    private:
+        bool was_aside;
     };
 
 private:

@@ -283,6 +283,28 @@ private:
     hv_builder handle = HV_EMPTY;
 };
 
+// What a builder makes of the parts from one on.
+inline Shared built_from(Builder &builder, const std::vector<BuilderPart> &parts, size_t first) {
+    for (size_t at = first; at < parts.size(); at++) builder.append(parts[at]);
+    return builder.finish();
+}
+
+// A builder that was refused memory has what it had: the same call, and those after it, leave what a new one makes of
+// all parts. One that is finished has nothing: it then makes the same once more.
+inline void check_goes_on(Builder &builder, const hv_kind &kind, const std::vector<BuilderPart> &parts, size_t first) {
+    const Memory::Aside aside;
+    Shared due;
+    try {
+        Builder fresh(kind);
+        due = built_from(fresh, parts, 0);
+    } catch (const Refused &) {
+        return; // a later part is refused whatever memory there is
+    }
+    for (const size_t from : {first, size_t{0}})
+        if (form_text(*built_from(builder, parts, from)) != form_text(*due))
+            throw std::runtime_error("a builder that was refused memory has lost rows, or has more");
+}
+
 inline BuilderPart read_builder_part(const Words &words, const Workspace &workspace) {
     if (words.size() == 1) return {workspace.find(words[0]), {}, 0};
     require(words.size() == 3);
@@ -299,8 +321,14 @@ inline Call read_built(const Words &words, const Workspace &workspace) {
     if (type.is_list) throw NotServed("a builder of lists", true);
     return [=] {
         Builder builder(type.kind);
-        for (const BuilderPart &part : parts) builder.append(part);
-        return done(builder.finish());
+        size_t at = 0;
+        try {
+            for (; at < parts.size(); at++) builder.append(parts[at]);
+            return done(builder.finish());
+        } catch (const Refused &refused) {
+            if (refused.number == HV_OUT_OF_MEMORY) check_goes_on(builder, type.kind, parts, at);
+            throw;
+        }
     };
 }
 

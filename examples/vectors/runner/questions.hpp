@@ -69,9 +69,11 @@ inline Command read_meta(const Words &words, const Workspace &) {
     return [](const Column &column) {
         require(column.form() == HV_FORM_RUNS);
         std::string bytes(64, 0); // a record has at most 22
-        size_t size = 0;
+        size_t size = 0, same_size = 0;
         ask([&](hv_error *error) { return hv_serialize(column.get(), data_of(bytes), bytes.size(), &size, error); });
-        return said(byte_words(bytes.substr(0, size)));
+        // And into just the room that it takes.
+        ask([&](hv_error *error) { return hv_serialize(column.get(), data_of(bytes), size, &same_size, error); });
+        return said(byte_words(bytes.substr(0, same_size)));
     };
 }
 
