@@ -16,7 +16,7 @@ from pathlib import Path
 
 ROOT = Path(__file__).resolve().parent.parent
 SCREEN = 72
-PAGES = {"docs/DECISIONS.md": 250, "docs/PERFORMANCE.md": 130, "docs/PROVED.md": 160}
+PAGES = {"docs/DECISIONS.md": 260, "docs/PERFORMANCE.md": 205, "docs/PROVED.md": 160}
 TESTS = {"column_tests", "conformance"}
 LEFT_OUT = {"lib", "main", "Lib"}
 

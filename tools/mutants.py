@@ -13,8 +13,9 @@ seconds, or a program that fails, or else why there is none: no line reaches the
 What is not a body of a function of the library is not built: constants, macros, contracts, and crates that the library
 does not use.
 
-It ends in 'N seen, M not seen, K not built'. FOLDER is made anew where the sources or the pages have changed. What is
-seen is in FOLDER/evidence.txt too, which `tools/ledger.py evidence` reads. A program that is linked with
+It ends in 'N seen, M not seen, K not built'. FOLDER is made anew where the sources or the pages have changed. What the
+file of vectors or a program sees is in FOLDER/evidence.txt too, which `tools/ledger.py evidence` reads, with what was
+there and still holds. A program that is linked with
 FOLDER/libhivevigil.a runs with the wrong body whose number HV_MUTANT has in its environment, and leaves in the file
 HV_MUTANT_REACHED the numbers of all that it reaches.
 """
@@ -194,10 +195,15 @@ def build(kit: Path, work: Path, found: dict[int, WrongBody]) -> dict[int, str]:
 
 
 def compile_runner(work: Path) -> None:
-    """Compiles what answers the lines, and links it with the library."""
-    compiler = [os.environ.get("CXX", "c++"), "-std=c++17", "-O1", f"-I{ROOT / 'include'}"]
+    """Compiles what answers the lines, and links it with the library, where this or the runner has changed."""
+    program, library = work / "mutants", work / "libhivevigil.a"
+    parts = [library, *RUNNER.parent.iterdir(), *ROOT.glob("include/*")]
+    if program.exists() and program.stat().st_mtime > max(part.stat().st_mtime for part in parts):
+        return
+    # What the runner does itself takes little: it is compiled as quickly as can be.
+    compiler = [os.environ.get("CXX", "c++"), "-std=c++17", "-O0", f"-I{ROOT / 'include'}"]
     links = [*mutant_programs.WRAPPED, mutant_programs.ONLY_USED]
-    subprocess.run([*compiler, RUNNER, work / "libhivevigil.a", *links, "-o", work / "mutants"], check=True)
+    subprocess.run([*compiler, RUNNER, library, *links, "-o", program], check=True)
 
 
 def mark_of_sources() -> str:
@@ -238,6 +244,20 @@ def report(found: dict[int, WrongBody], unbuilt: dict[int, str], told: dict[int,
     return counts
 
 
+def kept_results(path: Path, found: dict[int, WrongBody], lines: Vectors) -> dict[int, str]:
+    """The evidence that a file of results has of wrong bodies as they are now: no text of them has changed, and each
+    line and test is still there."""
+    results = evidence.results_of(path.read_text(encoding="utf-8")) if path.is_file() else []
+    numbers = {(ledger.name_of(wrong), ledger.mark_of(wrong)): number for number, wrong in found.items()}
+    known = {numbers.get((result.name, result.mark), 0): result.evidence for result in results}
+    return {number: how for number, how in known.items() if number and not evidence.fault(how, ROOT, lines)}
+
+
+def with_kept(told: dict[int, str], kept: dict[int, str]) -> dict[int, str]:
+    """What became of each wrong body, where one that this run did not see has the evidence of an earlier one."""
+    return told | {number: how for number, how in kept.items() if not told.get(number, "").startswith(evidence.SEEN)}
+
+
 def write_results(path: Path, found: dict[int, WrongBody], told: dict[int, str]) -> None:
     """Writes what is seen as tools/ledger.py reads it."""
     seen = {number: how for number, how in sorted(told.items()) if how.startswith(evidence.SEEN)}
@@ -266,11 +286,14 @@ def main() -> int:
     command = [work / "mutants", words.file, str(len(found)), write_known(work, found, lines)]
     command += [str(words.most)] if words.most else []
     told = seen_by_lines(subprocess.run(command, check=True, stdout=subprocess.PIPE, text=True).stdout, lines)
+    if words.file == VECTORS:
+        told = with_kept(told, kept_results(work / "evidence.txt", found, lines))
     if words.programs:
         unseen = [number for number, how in told.items() if how in ("unseen", "unreached") and number not in unbuilt]
         told |= mutant_programs.seen(work, unseen)
     counts = report(found, unbuilt, told)
-    write_results(work / "evidence.txt", found, told)
+    if words.file == VECTORS:
+        write_results(work / "evidence.txt", found, told)
     print(f"{counts['seen']} seen, {counts['not seen']} not seen, {counts['not built']} not built")
     return 0
 
