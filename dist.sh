@@ -70,7 +70,7 @@ make_library_deb() {
     DESTDIR=$root sh "$top/install.sh" --prefix /usr --libdir "${folder%/}" >/dev/null
     # dpkg has the list of files, and looks for the licence under the package's name; the program has its own package
     rm -r "$root/usr/share/hivevigil" "$root/usr/share/doc/hivevigil/LICENSE"
-    rm -rf "${root:?}/usr/bin" "${root:?}/usr/share/man/man1"
+    rm -rf "${root:?}/usr/bin" "${root:?}/usr/share/man/man1" "${root:?}/usr/share/bash-completion"
     mkdir -p "$root/DEBIAN"
     printf 'activate-noawait ldconfig\n' >"$root/DEBIAN/triggers"
     deb libhivevigil-dev libc6 libdevel "run-end encoded columns for C and C++" <<'TEXT'
@@ -81,8 +81,10 @@ TEXT
 
 make_program_deb() {
     root=$work/hivevigil
-    mkdir -p "$root/usr/bin" "$root/usr/share/man/man1" "$root/usr/share/doc/hivevigil"
+    completions=$root/usr/share/bash-completion/completions
+    mkdir -p "$root/usr/bin" "$root/usr/share/man/man1" "$root/usr/share/doc/hivevigil" "$completions"
     cp "$work/bin/hivevigil" "$root/usr/bin/"
+    install -m 644 "$top/tools/packages/hivevigil.bash" "$completions/hivevigil"
     cp "$top/man/hivevigil.1" "$root/usr/share/man/man1/"
     needs=
     is_static "$work/bin/hivevigil" || needs=libc6

@@ -1,7 +1,8 @@
 #!/bin/sh
 # Puts the built library in place: headers, archive, shared object, pkg-config and CMake files, licence, pages of the
 # manual, and those that its users read: the binary interface, errors, what stays, columns as bytes, their schema, and
-# stored messages with their rows. So is the program hivevigil, where program/build.sh has built it.
+# stored messages with their rows. So is the program hivevigil with its completions for bash, where program/build.sh has
+# built it.
 #     sh install.sh --prefix DIR [--libdir lib]     installs below DIR
 #     sh install.sh --prefix DIR --uninstall        takes away what an install put there, and nothing else
 # DESTDIR, if set, comes before DIR, as for other installers. sh examples/build.sh builds the library first.
@@ -91,6 +92,7 @@ for file in HivevigilConfig.cmake HivevigilConfigVersion.cmake; do filled "$file
 if [ -e "$top/bin/hivevigil" ]; then
     place 755 "$top/bin/hivevigil" bin/hivevigil
     place 644 "$top/man/hivevigil.1" share/man/man1/hivevigil.1
+    place 644 "$top/tools/packages/hivevigil.bash" share/bash-completion/completions/hivevigil
 fi
 place 644 "$top/man/hivevigil.3" share/man/man3/hivevigil.3
 # man hv_sum shows the page of all calls

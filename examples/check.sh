@@ -206,7 +206,8 @@ fi
 program_as() {
     FLAGS=$2 sh program/build.sh "$work/$1" && timeout 900 "$model" -B program/test.py "$work/$1/hivevigil" $3 &&
         timeout 900 "$model" -B program/test_tables.py "$work/$1/hivevigil" $3 &&
-        timeout 900 "$model" -B program/test_kept.py "$work/$1/hivevigil" ${3%% --messages*}
+        timeout 900 "$model" -B program/test_kept.py "$work/$1/hivevigil" ${3%% --messages*} || return
+    ! has bash || timeout 900 "$model" -B program/test_completions.py "$work/$1/hivevigil"
 }
 # Debian's packages belong to /usr/bin/python3, which is not always the python3 on PATH
 python_with() {
@@ -225,8 +226,8 @@ python_of_extensions() {
     return 1
 }
 if has "$cxx" && { model=$(has protoc && python_with google.protobuf) || model=$(python_with csv); }; then
-    run "program/test.py, test_tables.py, test_kept.py" program_as shipped "" "--files 25 --messages 300"
-    [ "$arrow_how" ] && run "program/test.py, test_tables.py, test_kept.py$arrow_how" \
+    run "program/test.py, test_tables.py, test_kept.py, test_completions.py" program_as shipped "" "--files 25 --messages 300"
+    [ "$arrow_how" ] && run "program/test.py, test_tables.py, test_kept.py, test_completions.py$arrow_how" \
         program_as watched "$watched" "--files 6 --messages 100"
 else
     skip "the program" "$cxx and Python"

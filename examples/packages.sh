@@ -118,7 +118,7 @@ RUST
     echo "cargo add --path $(basename "$1")"
 }
 
-# the program $1 by itself, and its page below the folder of manuals $2
+# the program $1 by itself, its page below the folder of manuals $2, and its completions, which are next to that folder
 command_line() {
     printf 'place,count\nOslo,4\nOslo,4\n"a, b",7\n' >towns.csv
     expect 'column  type   rows  nulls  runs  bytes flat  bytes in runs
@@ -129,6 +129,10 @@ count   i32?      3      0     2          12             10
     expect 15 env -i "$1" query count.hv sum
     expect 7 env -i "$1" query count.hv filter '> 4'
     page "$2" hivevigil 1
+    completions=$2/../bash-completion/completions/hivevigil
+    [ -f "$completions" ] || fail "no $completions"
+    ! command -v bash >/dev/null || expect head bash -euc "source '$completions'; COMP_WORDS=(hivevigil he); COMP_CWORD=1
+        _hivevigil; echo \"\${COMPREPLY[@]}\""
     echo "$("$1" --version), and its page of the manual"
 }
 # page FOLDER NAME SECTION: man finds the page below the folder, and has nothing to say against it

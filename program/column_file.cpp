@@ -2,7 +2,6 @@
 #include "failure.hpp"
 #include "values.hpp"
 #include <algorithm>
-#include <sys/stat.h>
 
 static const std::string line_of_type = "hivevigil type 1 ";
 
@@ -14,14 +13,6 @@ Kept kept_as(std::string_view begun) {
     const size_t line = begins(line_of_type) ? begun.find('\n') : begun.npos;
     const bool is_after_line = line != begun.npos && begun.substr(line + 1, 3) == "\x08\x01\x10";
     return is_after_line ? Kept::column : Kept::nothing;
-}
-
-bool is_kept(const std::string &path) {
-    struct stat found;
-    if (stat(path.c_str(), &found) || !S_ISREG(found.st_mode)) return false;
-    constexpr size_t most = 1 << 10;
-    const hv::Bytes bytes = hv::StoredFile(path).read(0, most);
-    return kept_as({reinterpret_cast<const char *>(bytes.data()), bytes.size()}) != Kept::nothing;
 }
 
 // The format in the line of a type, which is taken off the bytes; none where there is no such line.

@@ -22,9 +22,6 @@ enum class Kept { nothing, table, column };
 
 Kept kept_as(std::string_view begun);
 
-// Does a file that can be read twice begin as that of a table or of a column? A pipe is read as a CSV file.
-bool is_kept(const std::string &path);
-
 // The column of a file. Throws a Failure where it is not a column's.
 StoredColumn load_column(const hv::StoredFile &file);
 

@@ -11,7 +11,7 @@ using Fields = std::vector<std::string>;
 // Reads the records after the names, each with as many fields as there are names.
 class NamedReader {
 public:
-    explicit NamedReader(const CsvOptions &options) : reader(options.path, options.separator) {
+    NamedReader(const CsvOptions &options, InputFile file) : reader(std::move(file), options.separator) {
         if (!reader.next(found)) throw Failure(options.path + ": no line of names");
         if (!are_texts(found)) throw Failure(options.path + ": the names are not UTF-8");
         Fields sorted = found;
@@ -180,8 +180,8 @@ static void add_field(Gathered &column, const std::string &field, const NamedRea
     }
 }
 
-std::vector<CsvColumn> read_csv(const CsvOptions &options) {
-    NamedReader reader(options);
+std::vector<CsvColumn> read_csv(const CsvOptions &options, InputFile file) {
+    NamedReader reader(options, std::move(file));
     const std::vector<size_t> places = places_of(options, reader.names());
     std::vector<Gathered> gathered;
     for (RowType &type : guessed(options, reader, places)) gathered.emplace_back(std::move(type));

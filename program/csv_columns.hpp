@@ -21,8 +21,8 @@ struct CsvColumn {
     size_t nulls;
 };
 
-// The columns, in the order of the file. Throws a Failure that names the line where it has not as many fields as the
-// first, which has the names, or where a field does not fit the type.
-std::vector<CsvColumn> read_csv(const CsvOptions &options);
+// The columns of a file, which is at the path of the options, in its order. Throws a Failure that names the line where
+// it has not as many fields as the first, which has the names, or where a field does not fit the type.
+std::vector<CsvColumn> read_csv(const CsvOptions &options, InputFile file);
 
 #endif

@@ -7,6 +7,7 @@ import itertools
 import random
 import re
 from decimal import Decimal
+from fractions import Fraction
 
 import logical_model
 from logical_model import is_logical, storage_of
@@ -88,6 +89,26 @@ def run_bytes(rows: list, kind: str) -> int:
     runs = runs_of(rows)
     width = next(width for width in (1, 2, 4, 8) if len(rows) < 256**width)
     return width * len(runs) + flat_bytes([value for _, _, value in runs], kind)
+
+
+# ---- What rows that are not null are asked
+
+
+def is_number(kind: str) -> bool:
+    """Whether rows have a mean: integers, decimals and floats."""
+    if is_logical(kind):
+        return logical_model.sort_of(kind) == "float"
+    return kind.startswith("decimal") or re.fullmatch(r"[iu]\d+\??", kind) is not None
+
+
+def mean(valid: list, kind: str) -> str:
+    """The exact quotient of the sum by the number of rows, rounded once, of floats that of their rounded sum; nothing
+    of no rows."""
+    if not valid:
+        return ""
+    if is_logical(kind):
+        return repr(float(logical_model.total(valid, kind)) / len(valid))
+    return repr(float(sum(map(Fraction, valid), Fraction(0)) / len(valid)))
 
 
 # ---- Random files

@@ -16,8 +16,16 @@ static File copied(std::FILE *from, const std::string &path, std::vector<char> &
 
 InputFile::InputFile(const std::string &path) : name(path), file(std::fopen(path.c_str(), "rb")), block(1 << 16) {
     if (!file) throw refused_file(name);
-    if (std::fseek(file.get(), 0, SEEK_SET)) file = copied(file.get(), name, block);
+    was_copied = std::fseek(file.get(), 0, SEEK_SET) != 0;
+    if (was_copied) file = copied(file.get(), name, block);
     restart();
+}
+
+std::vector<uint8_t> InputFile::bytes() {
+    restart();
+    std::vector<uint8_t> all;
+    for (int byte; (byte = get()) != EOF;) all.push_back(static_cast<uint8_t>(byte));
+    return all;
 }
 
 void InputFile::restart() {
@@ -48,11 +56,12 @@ static char separator_of(std::string_view begun) {
     return best == marks.npos ? ',' : marks[best];
 }
 
-CsvReader::CsvReader(const std::string &path, std::optional<char> separator)
-    : input(path), mark(separator ? *separator : separator_of(input.begun())) {
+CsvReader::CsvReader(InputFile file, std::optional<char> separator)
+    : input(std::move(file)), mark(separator ? *separator : separator_of(input.begun())) {
     const Kept kept = kept_as(input.begun());
     if (kept != Kept::nothing)
-        throw Failure(path + " is the file of a " + (kept == Kept::table ? "table" : "column") + ", not a CSV file");
+        throw Failure(input.path() + " is the file of a " + (kept == Kept::table ? "table" : "column") +
+                      ", not a CSV file");
     restart();
 }
 

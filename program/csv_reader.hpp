@@ -2,6 +2,7 @@
 // needs to be built: Debian's libcsv, say, would have to be installed first.
 #ifndef HIVEVIGIL_PROGRAM_CSV_READER_HPP
 #define HIVEVIGIL_PROGRAM_CSV_READER_HPP
+#include <cstdint>
 #include <cstdio>
 #include <memory>
 #include <optional>
@@ -30,10 +31,14 @@ public:
     // The first bytes of the file, at most a block of them, while nothing is read yet.
     std::string_view begun() { return peek() == EOF ? std::string_view() : std::string_view(block.data(), filled); }
     const std::string &path() const { return name; }
+    bool is_copied() const { return was_copied; }
+    // All bytes of the file.
+    std::vector<uint8_t> bytes();
 
 private:
     std::string name;
     File file;
+    bool was_copied = false;
     std::vector<char> block;
     size_t at = 0, filled = 0;
     int filled_peek();
@@ -44,7 +49,7 @@ private:
 class CsvReader {
 public:
     // Fields are divided by `separator`; where there is none, by the first of , ; tab | that the first line has.
-    CsvReader(const std::string &path, std::optional<char> separator);
+    CsvReader(InputFile file, std::optional<char> separator);
     // Goes back to the first record.
     void restart();
     // The fields of the next record; false at the end of the file. Throws a Failure that names the line.

@@ -13,7 +13,11 @@ inline constexpr char help[] = R"(Columns in runs: of CSV files, kept in files, 
   hivevigil show FILE.hv                    its type, rows, runs, nulls and bytes
   hivevigil show FILE.hv --rows N           its first rows, a line each
   hivevigil show FILE.hv --runs             its runs: first row, row after the last, value
-  hivevigil query FILE.hv QUESTION          sum, min, max, or count of rows that are not null
+  hivevigil head FILE.hv                    its first 10 rows, or as many as --rows says
+  hivevigil query FILE.hv                   how many rows there are, or meet conditions
+  hivevigil query FILE.hv --mean NAME ..    questions about columns of a table, in a line
+  hivevigil query FILE.hv --by NAME ..      the same of each group of equal rows, a line each
+  hivevigil query FILE.hv QUESTION          sum, mean, min, max, or count of rows that are not null
   hivevigil query FILE.hv filter CONDITION  the rows that meet it, a line each
 
 A CSV file has the names in its first line, and an empty field is null. Columns
@@ -40,8 +44,17 @@ Options:
   --from ROW         from this row on, counted from 0
   --runs             prints runs
   --where CONDITION  asks only the rows that meet it; several times: all of them
+  --count NAME       asks how many rows of a column of a table are not null
+  --sum NAME         asks its sum
+  --mean NAME        asks its mean
+  --min NAME         asks its least row
+  --max NAME         asks its greatest row
+  --by NAME,NAME     asks groups of rows that are equal in these columns, in
+                     their order; several times: one after the other
   --sort NAME,NAME   rows of a table in order by these columns, the first first;
                      a minus in front of a name: in descending order
+  --nulls last       puts null after all else in what --sort and --by sort; first
+                     is where it comes without this
   --differences      keeps a table's columns of integers as differences from row
                      to row, each where that is shorter, as for times
   --limit BYTES      refuses a table whose columns that are kept as differences

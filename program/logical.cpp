@@ -254,18 +254,64 @@ static Column widened(const Column &column, int width) {
     return Column::runs(Column::of({uint64_t{rows}}), widened_rows(column.slice(0, 1), width), 0, rows);
 }
 
-static std::string sum_of_floats(const Column &column, int width) {
+static double sum_of_floats(const Column &column, int width) {
     const Column wide = width == 64 ? column.clone() : widened(column, width);
     uint64_t count = 0, bits = 0;
     hv::detail::ask([&](auto *error) { return hv_float_sum(wide.raw(), &count, &bits, error); });
-    return text_of_float(float_of_bits(bits, 64));
+    return float_of_bits(bits, 64);
+}
+
+// The sum as the library answers it: that of floats by its key.
+static Value total_of(const Column &column, const RowType &type) {
+    if (type.is_float()) return key_of_bits(bits_toward_zero(sum_of_floats(column, type.logical->width()), 64), 64);
+    if (type.kind.number == HV_DECIMAL) return column.decimal_sum().total;
+    return std::visit([](auto total) { return Value(total); }, column.sum().total);
 }
 
 std::string sum_of(const Column &column, const RowType &type) {
-    if (type.is_float()) return sum_of_floats(column, type.logical->width());
-    if (type.logical && type.logical->sort != Sort::duration) throw Failure(to_string(type) + " has no sum");
-    if (type.kind.number == HV_DECIMAL) return to_string(column.decimal_sum().total);
-    const hv::Sum sum = column.sum();
-    if (type.logical) return text_of_count(std::get<int64_t>(sum.total), *type.logical);
-    return std::visit([](auto total) { return std::to_string(total); }, sum.total);
+    if (type.logical && !type.is_float() && type.logical->sort != Sort::duration)
+        throw Failure(to_string(type) + " has no sum");
+    const Value total = total_of(column, type);
+    if (type.is_float()) return csv_field(total, {hv::kinds::i64, LogicalType{Sort::floating, "64", ""}});
+    return csv_field(total, type);
+}
+
+bool has_mean(const RowType &type) {
+    if (type.logical) return type.is_float();
+    return type.kind.number == HV_DECIMAL || hv::detail::is_integer(type.kind);
+}
+
+// A quotient in decimal digits. Those past the 400th after the point are cut off, and a 1 says that there are some: no
+// double that is next to such a quotient has as many, and no middle of two, so that the text is on the same side of
+// each as the quotient.
+static std::string text_of_quotient(const hv::Decimal &number, uint64_t by) {
+    constexpr size_t most_places = 400;
+    __extension__ typedef unsigned __int128 Size;
+    const Wide digits = number.digits();
+    const Size size = digits < 0 ? -static_cast<Size>(digits) : static_cast<Size>(digits);
+    Size rest = size % by;
+    const Size whole = size / by;
+    std::string text = digits < 0 ? "-" : "";
+    text += to_string(hv::Decimal(static_cast<uint64_t>(whole), static_cast<int64_t>(whole >> 64), 0)) + ".";
+    for (size_t place = 0; rest && place < most_places; place++) {
+        rest *= 10;
+        text += static_cast<char>('0' + static_cast<int>(rest / by));
+        rest %= by;
+    }
+    return text + (rest ? "1" : "0") + "e" + std::to_string(-number.scale);
+}
+
+std::optional<double> mean_of_sum(const Value &sum, const RowType &type, size_t count) {
+    if (count == 0) return std::nullopt;
+    if (type.is_float())
+        return float_of_bits(bits_of_key(std::get<int64_t>(sum), 64), 64) / static_cast<double>(count);
+    if (auto *total = std::get_if<hv::Decimal>(&sum)) return float_of_text(text_of_quotient(*total, count));
+    if (auto *total = std::get_if<uint64_t>(&sum)) return float_of_text(text_of_quotient({*total, 0, 0}, count));
+    return float_of_text(text_of_quotient(hv::Decimal::of(std::get<int64_t>(sum), 0), count));
+}
+
+std::string mean_of(const Column &column, const RowType &type, size_t count) {
+    if (!has_mean(type)) throw Failure(to_string(type) + " has no mean");
+    const std::optional<double> mean = mean_of_sum(total_of(column, type), type, count);
+    return mean ? text_of_float(*mean) : "";
 }

@@ -56,4 +56,13 @@ hv::Value extreme_of(const hv::Column &column, const RowType &type, bool is_grea
 // Failure where such rows have no sum.
 std::string sum_of(const hv::Column &column, const RowType &type);
 
+// Has a column of this type a mean: integers, decimals and floats?
+bool has_mean(const RowType &type);
+// A sum of rows of a type that has a mean, as the library answers it, by how many rows they are: of integers and
+// decimals the exact quotient, and of floats the rounded sum, rounded once. None of no rows.
+std::optional<double> mean_of_sum(const hv::Value &sum, const RowType &type, size_t count);
+// The mean of the rows that are not null, of which there are `count`, as a field; nothing where there is none. Throws a
+// Failure where such rows have none.
+std::string mean_of(const hv::Column &column, const RowType &type, size_t count);
+
 #endif

@@ -112,6 +112,26 @@ Column rows_where(const Column &column, const RowType &type, const std::vector<C
     return rows;
 }
 
+std::optional<Question> question_of_word(const std::string &word) {
+    static const std::pair<const char *, Question> words[] = {{"count", Question::count},
+                                                              {"sum", Question::sum},
+                                                              {"mean", Question::mean},
+                                                              {"min", Question::least},
+                                                              {"max", Question::greatest}};
+    for (const auto &[known, question] : words)
+        if (word == known) return question;
+    return std::nullopt;
+}
+
+std::string answer_of(const Column &column, const RowType &type, Question question) {
+    switch (question) {
+    case Question::count: return std::to_string(count_valid(column));
+    case Question::sum: return sum_of(column, type);
+    case Question::mean: return mean_of(column, type, count_valid(column));
+    default: return csv_field(extreme_of(column, type, question == Question::greatest), type);
+    }
+}
+
 static std::string json_of_list(const Column &elements, size_t start, size_t size) {
     std::string json = "[";
     for (size_t item = start; item < start + size; item++) {

@@ -24,6 +24,13 @@ bool has_operator(const std::string &text);
 // The rows that meet all conditions; a null meets none. Throws a Failure for a value that the type cannot have.
 hv::Column rows_where(const hv::Column &column, const RowType &type, const std::vector<Condition> &conditions);
 
+// What is asked of a column, as the command line says it.
+enum class Question { count, sum, mean, least, greatest };
+// The question of a word: count, sum, mean, min, max; none of another.
+std::optional<Question> question_of_word(const std::string &word);
+// The answer as a field of a CSV file, nothing where it is null. Throws a Failure where such rows have none.
+std::string answer_of(const hv::Column &column, const RowType &type, Question question);
+
 // Rows `start` to `stop` - 1 (some of them, since all are held at once) as fields of a CSV file; lists as JSON.
 std::vector<std::string> fields_of_rows(const hv::Column &column, const RowType &type, size_t start, size_t stop);
 

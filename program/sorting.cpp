@@ -13,8 +13,8 @@ static std::optional<std::string> name_at(const std::string &text, size_t at, co
     return longest;
 }
 
-std::vector<hv::SortKey> sort_keys(const std::string &text, const std::vector<std::string> &names) {
-    std::vector<hv::SortKey> keys;
+// Adds the columns that a text names.
+static void add_keys(std::vector<hv::SortKey> &keys, const std::string &text, const std::vector<std::string> &names) {
     for (size_t at = 0; at <= text.size(); at++) { // past the comma
         std::optional<std::string> name = name_at(text, at, names);
         const bool is_descending = !name && at < text.size() && text[at] == '-';
@@ -25,5 +25,14 @@ std::vector<hv::SortKey> sort_keys(const std::string &text, const std::vector<st
         if (std::any_of(keys.begin(), keys.end(), is_it)) continue;
         keys.push_back({std::move(*name), is_descending ? hv::Order::descending : hv::Order::ascending});
     }
+}
+
+std::vector<hv::SortKey> sort_keys(const std::vector<std::string> &texts, const std::vector<std::string> &names) {
+    std::vector<hv::SortKey> keys;
+    for (const std::string &text : texts) add_keys(keys, text, names);
     return keys;
+}
+
+std::vector<hv::SortKey> sort_keys(const std::string &text, const std::vector<std::string> &names) {
+    return sort_keys(std::vector<std::string>{text}, names);
 }

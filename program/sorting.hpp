@@ -8,4 +8,7 @@
 // Failure where a part begins with none of them.
 std::vector<hv::SortKey> sort_keys(const std::string &text, const std::vector<std::string> &names);
 
+// The same of several texts, which come one after the other.
+std::vector<hv::SortKey> sort_keys(const std::vector<std::string> &texts, const std::vector<std::string> &names);
+
 #endif

@@ -72,6 +72,57 @@ static void print_line(const std::vector<std::string> &fields) {
     std::fwrite((line + "\n").data(), 1, line.size() + 1, stdout);
 }
 
+// The mean of each group, by its sum and how many rows it has that are not null.
+static hv::NamedColumn means_of(const hv::TableGroups &groups, const hv::NamedColumn &values, const Asked &asked) {
+    const RowType type = type_of(values);
+    if (!has_mean(type)) throw Failure("column '" + values.name + "': " + to_string(type) + " has no mean");
+    const Column sums = groups.fold({"", hv::Fold::sum, values.name}).column;
+    const Column counts = groups.fold({"", hv::Fold::count, values.name}).column;
+    std::vector<std::optional<double>> means;
+    for (size_t group = 0; group < groups.size(); group++)
+        means.push_back(mean_of_sum(sums.at(group), type, std::get<uint64_t>(counts.at(group))));
+    return {asked.name(), means};
+}
+
+static hv::NamedColumn answer_of_groups(const hv::TableGroups &groups, const hv::NamedColumn &values,
+                                        const Asked &asked) {
+    switch (*question_of_word(asked.word)) {
+    case Question::mean: return means_of(groups, values, asked);
+    case Question::count: return groups.fold({asked.name(), hv::Fold::count, values.name});
+    case Question::sum: return groups.fold({asked.name(), hv::Fold::sum, values.name});
+    case Question::least: return groups.fold({asked.name(), hv::Fold::least, values.name});
+    default: return groups.fold({asked.name(), hv::Fold::greatest, values.name});
+    }
+}
+
+hv::Table table_of_groups(const hv::Table &table, const std::vector<hv::SortKey> &keys, hv::Nulls nulls,
+                          const std::vector<Asked> &asked) {
+    std::vector<std::string> names;
+    for (const hv::SortKey &key : keys) names.push_back(key.name);
+    const hv::Table sorted = table.sort(keys, nulls);
+    const hv::TableGroups groups = sorted.group_by(names);
+    std::vector<hv::NamedColumn> columns;
+    for (const hv::NamedColumn &key : groups.keys()) columns.push_back(key.clone());
+    for (const Asked &each : asked) columns.push_back(answer_of_groups(groups, sorted.at(each.column), each));
+    if (asked.empty()) columns.push_back(groups.fold({"rows", hv::Fold::rows}));
+    return hv::Table(std::move(columns), groups.size());
+}
+
+void print_answers(const hv::Table &table, const std::vector<Asked> &asked) {
+    std::vector<std::string> names, answers;
+    for (const Asked &each : asked) {
+        const hv::NamedColumn &named = table.at(each.column);
+        names.push_back(csv_name(each.name()));
+        try {
+            answers.push_back(answer_of(named.column, type_of(named), *question_of_word(each.word)));
+        } catch (const std::runtime_error &error) {
+            throw Failure("column '" + each.column + "': " + error.what());
+        }
+    }
+    print_line(names);
+    print_line(answers);
+}
+
 void print_table_rows(const hv::Table &table, size_t start, size_t stop) {
     std::vector<std::string> names;
     for (const hv::NamedColumn &named : table) names.push_back(csv_name(named.name));

@@ -29,8 +29,8 @@ from pathlib import Path
 
 import logical_model
 from csv_model import (
-    IN_WORDS, OPERATORS, flat_bytes, found_mark, meets, random_csv, random_value, read_by_csv, rows_of, run_bytes, runs_of,
-    shown, type_of, value_of,
+    IN_WORDS, OPERATORS, flat_bytes, found_mark, is_number, mean, meets, random_csv, random_value, read_by_csv, rows_of,
+    run_bytes, runs_of, shown, type_of, value_of,
 )
 from logical_model import file_of, format_of, is_logical, parts_of
 
@@ -126,6 +126,8 @@ def check_shown(chance: random.Random, program: Program, rows: list, kind: str, 
     count, start = chance.choice([0, 1, 7, len(rows), 2**64 - 1]), chance.choice([0, 0, 5, len(rows), 2**64 - 1])
     found = program.answers("show", "column.hv", "--rows", str(count), "--from", str(start))
     assert found == lines_of(rows[start : start + count], kind)
+    assert program.answers("head", "column.hv") == lines_of(rows[:10], kind)
+    assert program.answers("head", "column.hv", "--rows", str(count)) == lines_of(rows[:count], kind)
     runs = "".join(f"{start},{stop},{shown(value, kind)}\n" for start, stop, value in runs_of(rows))
     assert program.answers("show", "--runs", "column.hv") == f"start,stop,value\n{runs}"
     check_questions(program, rows, kind, [])
@@ -144,6 +146,18 @@ def check_questions(program: Program, rows: list, kind: str, where: list[str], c
         due = logical_model.best(valid, kind, best) if is_logical(kind) else best(valid, default=None)
         assert found == lines_of([due], kind), (question, where, found)
     check_sum(program, valid, kind, file, where)
+    check_mean(program, valid, kind, file, where)
+
+
+def check_mean(program: Program, valid: list, kind: str, file: str, where: list[str]) -> None:
+    """A mean is refused where the sum is, whose sentence `check_sum` has seen."""
+    status, _, said = program.run("query", file, "sum", *where)
+    if not is_number(kind):
+        program.refuses(1, rf"{re.escape(file)}: {re.escape(kind)} has no mean", "query", file, "mean", *where)
+    elif status:
+        program.refuses(1, re.escape(said.removeprefix("hivevigil: ")[:-1]), "query", file, "mean", *where)
+    else:
+        assert program.answers("query", file, "mean", *where) == f"{mean(valid, kind)}\n", (valid, kind)
 
 
 def check_sum(program: Program, valid: list, kind: str, file: str, where: list[str]) -> None:
@@ -188,6 +202,7 @@ def check_condition(chance: random.Random, program: Program, rows: list, kind: s
         left = [row for row in left if meets(row, operator, right, kind)]
     more = [word for condition in conditions[1:] for word in ("--where", condition)]
     assert program.answers("query", "column.hv", "filter", conditions[0], *more) == lines_of(left, kind), conditions
+    assert program.answers("query", "column.hv", "--where", conditions[0], *more) == f"{len(left)}\n", conditions
     program.answers("query", "column.hv", "filter", conditions[0], *more, "--to", "left.hv")
     message_of((program.folder / "left.hv").read_bytes(), kind)
     assert program.answers("show", "left.hv", "--rows", str(len(rows) + 1)) == lines_of(left, kind)
@@ -300,6 +315,23 @@ def check_between_floats(program: Program, bits: int) -> None:
                 assert program.answers("query", "column.hv", "filter", operator + middle) == lines_of(left, kind), middle
 
 
+def check_means(chance: random.Random, program: Program) -> None:
+    """Means that are the middle of two floats, or next to it, where a second rounding goes wrong."""
+    for scale in 0, 0, 1, 9, 30:
+        kind = f"decimal(38, {scale})" if scale else "i64"
+        for _ in range(8):
+            count, more = chance.randint(1, 7), chance.choice([0, 0, 1, -1])
+            middle = chance.choice([2**54 + 2 * chance.randrange(2**20) + 1, chance.randrange(99)])
+            middle *= chance.choice([1, -1])
+            numbers = [middle + step for step in range(count)] + [middle - step for step in range(count)]
+            numbers[0] += more
+            texts = [f"{Decimal(number).scaleb(-scale):f}" for number in numbers]
+            (program.folder / "typed.csv").write_text("row,a\n" + "".join(f"0,{text}\n" for text in texts))
+            program.answers("convert", "typed.csv", "--column=a", "--to=column.hv", "--type", kind)
+            due = mean([Decimal(text) for text in texts], "decimal")
+            assert program.answers("query", "column.hv", "mean") == f"{due}\n", texts
+
+
 def check_random_file(chance: random.Random, program: Program) -> None:
     columns, data, options = random_csv(chance)
     (program.folder / "random.csv").write_bytes(data)
@@ -331,14 +363,22 @@ def check_usage(program: Program) -> None:
         [], ["read"], ["report"], ["report", "a", "b"], ["show"], ["show", "a", "--rows"], ["show", "a", "--rows", "x"],
         ["show", "a", "--rows", ""], ["show", "a", "--rows", "-1"], ["show", "a", "--rows", str(2**64)],
         ["show", "a", "--rows", "1", "--runs"], ["show", "a", "--from", "1"], ["show", "a", "--rows=1", "--rows=2"],
+        ["head"], ["head", "a", "b"], ["head", "a", "--rows", "x"], ["head", "a", "--runs"], ["head", "a", "--from=1"],
         ["show", "a", "--to", "b"], ["show", "a", "-x"], ["show", "a", "--where", "> 4"], ["convert", "a"],
-        ["convert", "a", "--column", "b"], ["convert", "a", "--to"], ["query", "a"], ["query", "a", "median"],
+        ["convert", "a", "--column", "b"], ["convert", "a", "--to"], ["query", "a", "median"],
+        ["query", "a", "--column", "b"], ["query", "a", "--where", "4"], ["query", "a", "mean", "--sort", "b"],
         ["query", "a", "filter"], ["query", "a", "filter", "4"], ["query", "a", "sum", "--where", "4"],
         ["query", "a", "sum", "--to", "b"], ["query", "a", "sum", "> 4"], ["report", "a", "--separator", ""],
         ["report", "a", "--separator", "ab"], ["report", "a", "--separator", '"'], ["report", "a", "--runs=1"],
         *(["convert", "a", "--column", "b", "--to", "c", "--type", kind] for kind in BAD_KINDS),
     ):
         program.refuses(2, end, *words)
+    for words, sentence in (
+        (["show", "a", "--rows"], "--rows needs a value"), (["show", "a", "--rws=1"], "--rws=1 is not an option"),
+        (["show", "a", "-xy"], "-x is not an option"), (["show", "--runs=1", "a"], "--runs=1 is not an option"),
+        (["-hx", "show", "a"], "-x is not an option"), (["show", "--help=1", "a"], "--help=1 is not an option"),
+    ):
+        program.refuses(2, re.escape(sentence) + r" \(hivevigil --help\)", *words)
 
 
 BAD_CSV = {
@@ -676,6 +716,7 @@ def main() -> None:
             check_random_file(random.Random(f"{chosen.seed} {number}"), program)
         check_guessed_types(program)
         check_shown_floats(program)
+        check_means(random.Random(f"{chosen.seed} means"), program)
         for bits in 16, 32:
             check_nearest_floats(random.Random(f"{chosen.seed} {bits}"), program, bits)
         for bits in 16, 32, 64:

@@ -173,8 +173,19 @@ def check_standard_input(program: Program) -> None:
     assert program.run("show", "-", "--rows=1", stdin=table) == (0, b"level,day\n1,2024-03-01\n", "")
     assert program.run("query", "-", "max", "--column=level", stdin=table) == (0, b"7\n", "")
     program.refuses(1, NO_CSV.format("/dev/stdin", "table"), "report", "-", stdin=table)
-    program.refuses(1, NO_CSV.format("/dev/stdin", "table"), "convert", "-", "--to", "piped.hv", stdin=table)
+    (folder / "piped.hv").write_bytes(b"")
+    assert program.run("convert", "-", "--to", "piped.hv", stdin=table) == (0, b"", "")
     assert (folder / "piped.hv").read_bytes() == table
+    assert program.run("convert", "-", "--to", "/dev/stdout", "--column=day", stdin=table) == (
+        0, (folder / "column.hv").read_bytes(), "")
+    assert program.run("convert", "-", "--to", "/dev/stdout", stdin=(folder / "column.hv").read_bytes()) == (
+        0, (folder / "column.hv").read_bytes(), "")
+    sentence = rf"/dev/stdin, of {len(table) - 1} bytes, is not the file of a table"
+    program.refuses(1, sentence, "convert", "-", "--to", "piped.hv", stdin=table[:-1])
+    program.refuses(1, "/dev/stdin is not a CSV file, which --separator is of", "convert", "-", "--to=b.hv", "--separator=;",
+                    stdin=table)
+    assert program.run("head", "-", "--rows=1", stdin=table) == (0, b"level,day\n1,2024-03-01\n", "")
+    assert program.run("query", "-", "--by=day", "--sum=level", stdin=table)[1].splitlines()[1] == b"2024-03-01,1"
     for words in ["-h"], ["show", "-h"], ["-h", "show"]:
         assert program.answers(*words) == program.answers("--help")
 

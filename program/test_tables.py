@@ -11,18 +11,20 @@ of three of them damaged, are shown or refused as the model has them.
 import argparse
 import csv
 import io
+import itertools
 import random
 import re
 import resource
 import sys
 import tempfile
 import warnings
+from decimal import localcontext
 from pathlib import Path
 
 import logical_model
 from csv_model import (
-    IN_WORDS, OPERATORS, found_mark, meets, random_csv, random_value, read_by_csv, rows_of, run_bytes, runs_of, shown,
-    type_of, value_of,
+    IN_WORDS, OPERATORS, found_mark, is_number, mean, meets, random_csv, random_value, read_by_csv, rows_of, run_bytes,
+    runs_of, shown, type_of, value_of,
 )
 from logical_model import format_of, is_logical, parts_of
 from test import TOP, Program, check_questions, field_of, flat_of, lines_of, meant, message_of
@@ -127,8 +129,9 @@ def check_rows(chance: random.Random, program: Program, rows: dict[str, list], k
     assert program.answers("show", "table.hv", "--runs", "--column", name) == f"start,stop,value\n{runs}"
 
 
-def in_order(lines: list[int], rows: dict[str, list], keys: list[str]) -> list[int]:
-    """Numbers of rows, sorted by columns, of which those with a minus in front are in descending order."""
+def in_order(lines: list[int], rows: dict[str, list], keys: list[str], nulls: str = "first") -> list[int]:
+    """Numbers of rows, sorted by columns, of which those with a minus in front are in descending order; in each null
+    comes first or last."""
     found = list(lines)
     for key in reversed(keys):
         values = rows[key.removeprefix("-")]
@@ -137,7 +140,8 @@ def in_order(lines: list[int], rows: dict[str, list], keys: list[str]) -> list[i
             key=lambda line: values[line].encode() if isinstance(values[line], str) else values[line],
             reverse=key.startswith("-"),
         )
-        found = [line for line in found if values[line] is None] + valid
+        missing = [line for line in found if values[line] is None]
+        found = missing + valid if nulls == "first" else valid + missing
     return found
 
 
@@ -145,15 +149,19 @@ def check_order(chance: random.Random, program: Program, rows: dict[str, list], 
     """Rows that are shown, kept and filtered in order by some columns."""
     names = chance.sample([*rows], chance.randint(1, len(rows)))
     keys = [chance.choice(["", "-"]) + name for name in names]
-    due = in_order(list(range(len(rows["row"]))), rows, keys)
-    everything = ["--rows", str(2**63)]
+    nulls = chance.choice([None, "first", "last"])
+    due = in_order(list(range(len(rows["row"]))), rows, keys, nulls or "first")
+    everything, sort = ["--rows", str(2**63)], ["--sort", ",".join(keys), *([f"--nulls={nulls}"] if nulls else [])]
     for file in "table.hv", "short.hv":
         if (program.folder / file).exists():
-            found = program.answers("show", file, "--sort", ",".join(keys), *everything)
+            found = program.answers("show", file, *sort, *everything)
             assert found == expected_rows(rows, kinds, due), keys
-    program.answers("query", "table.hv", "filter", "row >= 0", "--sort", ",".join(keys), "--to", "sorted.hv")
+            assert program.answers("head", file, *sort) == expected_rows(rows, kinds, due[:10])
+    program.answers("convert", "table.hv", *sort, "--to", "sorted.hv")
     assert program.answers("show", "sorted.hv", *everything) == expected_rows(rows, kinds, due)
-    found = program.answers("query", "table.hv", "filter", "row >= 3", "--sort", ",".join(keys), "--column", names[0])
+    program.answers("query", "table.hv", "filter", "row >= 0", *sort, "--to", "sorted.hv")
+    assert program.answers("show", "sorted.hv", *everything) == expected_rows(rows, kinds, due)
+    found = program.answers("query", "table.hv", "filter", "row >= 3", *sort, "--column", names[0])
     assert found == lines_of([rows[names[0]][line] for line in due if line >= 3], kinds[names[0]])
 
 
@@ -173,6 +181,9 @@ def check_conditions(chance: random.Random, program: Program, rows: dict[str, li
     more = [word for condition in conditions[1:] for word in ("--where", condition)]
     asked = ["query", "table.hv", "filter", conditions[0], *more]
     assert program.answers(*asked) == expected_rows(rows, kinds, left), conditions
+    for words in [], ["count"]:
+        found = program.answers("query", "table.hv", *words, "--where", conditions[0], *more)
+        assert found == f"{len(left)}\n", conditions
     program.answers(*asked, "--to", "left.hv")
     assert program.answers("show", "left.hv", "--rows", str(2**63)) == expected_rows(rows, kinds, left)
     name = chance.choice([*rows])
@@ -180,7 +191,82 @@ def check_conditions(chance: random.Random, program: Program, rows: dict[str, li
     assert program.answers(*asked, "--column", name) == lines_of(some, kinds[name])
     program.answers(*asked, "--column", name, "--to", "column.hv")
     assert program.answers("show", "column.hv", "--rows", str(2**63)) == lines_of(some, kinds[name])
-    check_questions(program, some, kinds[name], [f"--where={condition}" for condition in conditions], name)
+    where = [f"--where={condition}" for condition in conditions]
+    check_questions(program, some, kinds[name], where, name)
+    check_groups(chance, program, rows, kinds, left, where)
+
+
+def answer(valid: list, kind: str, question: str, is_group: bool) -> str | None:
+    """What rows that are not null are asked, as a field; None where such rows have no answer. A group has no sum where
+    it has no row; of all rows in turn no sum on the way may be past 64 bits, or 38 digits."""
+    if question == "count":
+        return str(len(valid))
+    if question in ("min", "max"):
+        best = min if question == "min" else max
+        return shown(logical_model.best(valid, kind, best) if is_logical(kind) else best(valid, default=None), kind)
+    if not is_number(kind):
+        return None
+    if not is_logical(kind):
+        scale = int(kind.partition(", ")[2].rstrip(")?") or 0)
+        with localcontext(prec=99):
+            sums = list(itertools.accumulate(valid, initial=0))
+            least, most = (-(2**63), 2**63 - 1) if kind[0] == "i" else (1 - 10**38, 10**38 - 1)
+            if any(not least <= total * 10**scale <= most for total in (sums[-1:] if is_group else sums)):
+                return None
+    if question == "mean":
+        return mean(valid, kind)
+    if is_group and not valid:
+        return ""
+    return logical_model.total(valid, kind) if is_logical(kind) else shown(sums[-1], kind)
+
+
+def lines_of_groups(rows: dict[str, list], kinds: dict[str, str], groups: list[list[int]], keys: list[str],
+                    asked: list[tuple[str, str]]) -> list[str] | None:
+    """A line for each group of lines; None where one has no answer."""
+    lines = []
+    for group in groups:
+        valid = [[rows[name][line] for line in group if rows[name][line] is not None] for _, name in asked]
+        answers = [answer(some, kinds[name], question, bool(keys)) for some, (question, name) in zip(valid, asked)]
+        if None in answers:
+            return None
+        fields = [shown(rows[key][group[0]], kinds[key]) for key in keys] + (answers or [str(len(group))])
+        lines.append(",".join(fields) + "\n")
+    return lines
+
+
+def check_groups(
+    chance: random.Random, program: Program, rows: dict[str, list], kinds: dict[str, str], left: list[int],
+    where: list[str],
+) -> None:
+    """What options ask of groups of the rows that are left, and of all of these."""
+    by = chance.sample([*rows], min(len(rows), chance.choice([0, 1, 2])))
+    by = [chance.choice(["", "", "-"]) + name for name in by]
+    questions = [(question, name) for question in ("count", "sum", "mean", "min", "max") for name in rows]
+    served = [each for each in questions if each[0] not in ("sum", "mean") or is_number(kinds[each[1]])]
+    asked = chance.sample(served if chance.random() < 0.8 else questions, chance.choice([0, 1, 3]))
+    asked += [("count", "row")] if ("count", "row") not in asked else []
+    keys = [key.removeprefix("-") for key in by]
+    nulls = chance.choice(["first", "last"])
+    ordered = in_order(left, rows, by, nulls)
+    groups = [list(group) for _, group in itertools.groupby(ordered, lambda line: [rows[key][line] for key in keys])]
+    lines = lines_of_groups(rows, kinds, groups if by else [left], keys, asked)
+    words = ["query", "table.hv", *where, *(word for question, name in asked for word in (f"--{question}", name))]
+    names = [*keys, *(f"{question}({name})" for question, name in asked)]
+    named = ",".join(field(name, ",;|\t") for name in names) + "\n"
+    # one option for each key, or one with a comma between them
+    words += [f"--by={','.join(by)}"] if by and chance.random() < 0.5 else [f"--by={key}" for key in by]
+    words += [f"--nulls={nulls}"] if by and (nulls == "last" or chance.random() < 0.3) else []
+    if lines is None:
+        program.refuses(1, r"table\.hv: column '(.|\n)*': .*(has no|have no|leaves?) .*", *words)
+        return
+    assert program.answers(*words) == named + "".join(lines), words
+    if by:
+        turned = named + "".join(line for _, line in sorted(zip(groups, lines), key=lambda each: -len(each[0])))
+        program.answers(*words, "--sort", "-count(row)", "--to", "groups.hv")
+        assert program.answers("show", "groups.hv", "--rows", str(2**63)) == turned, words
+        named = ",".join(field(name, ",;|\t") for name in [*keys, "rows"]) + "\n"
+        sizes = program.answers("query", "table.hv", *where, *(f"--by={key}" for key in by), "--nulls", nulls)
+        assert sizes == named + "".join(lines_of_groups(rows, kinds, groups, keys, [])), words
 
 
 def check_refusals(program: Program) -> None:
@@ -196,6 +282,10 @@ def check_refusals(program: Program) -> None:
     for text in ("place > 1", "levelgt 1", "level ~ > 1"):
         program.refuses(2, sentence, "query", "table.hv", "filter", text)
     program.refuses(2, r"query needs --column \(hivevigil --help\)", "query", "table.hv", "sum")
+    sentence = r"query takes one of count, sum, mean, min, max, filter with --column \(hivevigil --help\)"
+    program.refuses(2, sentence, "query", "table.hv", "--column", "level")
+    assert program.answers("query", "table.hv") == program.answers("query", "column.hv") == "2\n"
+    assert program.answers("query", "table.hv", "count") == "2\n"
     program.refuses(2, r"--runs of a table takes --column too \(hivevigil --help\)", "show", "table.hv", "--runs")
     program.refuses(2, r"--type takes --column too \(hivevigil --help\)", "convert", "a.csv", "--to=b", "--type=i8")
     for option in "--differences", "--sort=level":
@@ -225,12 +315,64 @@ def check_refusals(program: Program) -> None:
     assert program.answers("show", "table.hv", "--rows", "1") == "a,b\n"
 
 
+def check_refused_groups(program: Program) -> None:
+    """What is not asked of groups, and names that answers have."""
+    (program.folder / "g.csv").write_text("place,level,day\nOslo,1,2024-03-01\n,3,2024-03-02\nOslo,2,2024-03-01\n")
+    program.answers("convert", "g.csv", "--to", "g.hv")
+    program.answers("convert", "g.csv", "--column", "level", "--to", "column.hv")
+    usage, query = r" \(hivevigil --help\)", ["query", "g.hv"]
+    for words, option in (["sum", "--column=level"], "by"), (["filter", "level > 1"], "by"), (["count"], "mean"):
+        sentence = f"query takes {words[0]} or --{option}, not both" + usage
+        program.refuses(2, sentence, *query, *words, f"--{option}=level")
+    for option in "--sort=level", "--to=b", "--differences":
+        sentence = option.partition("=")[0] + " takes filter or --by" + usage
+        program.refuses(2, sentence, *query, option)
+        program.refuses(2, sentence, *query, "--sum=level", option)
+    program.refuses(2, "--differences takes --to, and is of a table" + usage, *query, "--by=place", "--differences")
+    program.refuses(2, "--sum is given twice for 'level'" + usage, *query, "--sum=level", "--max=level", "--sum=level")
+    program.refuses(2, "--by needs a value" + usage, *query, "--by")
+    none = "g\\.hv: no column has the name '{}': the names are {}"
+    names = "'place', 'level', 'day'"
+    for words in ["--by=x"], ["--by=level", "--by=x"], ["--by=level,x"], ["--mean=x"], ["--by=level", "--sum=x"]:
+        program.refuses(1, none.format("x", names), *query, *words)
+    program.refuses(1, none.format("x", r"'place', 'max\(level\)'"), *query, "--by=place", "--max=level", "--sort=x")
+    for option in "by", "mean":
+        sentence = rf"column\.hv is not the file of a table, which --{option} is of"
+        program.refuses(1, sentence, "query", "column.hv", f"--{option}=level")
+    for words, said in (
+        (["--sum=place"], "utf8? has no sum"), (["--mean=place"], "utf8? has no mean"),
+        (["--by=level", "--mean=place"], "utf8? has no mean"),
+        (["--by=level", "--sum=place"], "rows of utf8? have no sum"),
+        (["--sum=day"], "date? has no sum"), (["--by=level", "--mean=day"], "date? has no mean"),
+        (["--by=level", "--sum=day"], "rows of the logical type tdD have no sum"),
+    ):
+        name = words[-1].partition("=")[2]
+        program.refuses(1, re.escape(f"g.hv: column '{name}': {said}"), *query, *words)
+    assert program.answers(*query, "--by=place") == "place,rows\n,1\nOslo,2\n"
+    assert program.answers(*query, "--by=-place", "--max=day", "--mean=level", "--where", "level > 1") == (
+        "place,max(day),mean(level)\n,2024-03-02,3.0\nOslo,2024-03-01,2.0\n"
+    )
+    none = ["--where", "level > 9"]
+    assert program.answers(*query, "--by=place", *none) == "place,rows\n"
+    assert program.answers(*query, "--max=level", "--sum=level", *none) == "max(level),sum(level)\n,0\n"
+    (program.folder / "g.csv").write_text("level,sum(level)\n1,2\n")
+    program.answers("convert", "g.csv", "--to", "g.hv")
+    sentence = r"g\.hv: two columns have the name 'sum\(level\)'"
+    program.refuses(1, sentence, *query, "--by=sum(level)", "--sum=level")
+
+
 def check_refused_orders(program: Program) -> None:
     """Orders that are refused, and names that begin one another."""
     usage = r" \(hivevigil --help\)"
     program.refuses(2, "--sort takes --rows too" + usage, "show", "table.hv", "--sort=level")
     sentence = "--sort is of the rows of a table, and this is one column" + usage
     program.refuses(2, sentence, "show", "column.hv", "--rows=1", "--sort=level")
+    program.refuses(2, "--nulls takes --sort too" + usage, "show", "table.hv", "--rows=1", "--nulls=last")
+    program.refuses(2, "--nulls takes --sort too" + usage, "query", "table.hv", "--nulls=first")
+    program.refuses(2, "--nulls takes --sort too" + usage, "convert", "table.hv", "--to=b", "--nulls=last")
+    sentence = "--nulls takes first or last, not 'none'" + usage
+    program.refuses(2, sentence, "head", "table.hv", "--sort=level", "--nulls=none")
+    program.refuses(2, "--nulls is not an option of report" + usage, "report", "table.hv", "--nulls=last")
     program.refuses(2, "--sort is not an option of query" + usage, "query", "table.hv", "sum", "--sort=level")
     for text, name in ("place", "place"), ("level,place", "place"), ("level,-place,level", "place"), ("--level", "-level"):
         sentence = f"table\\.hv: no column has the name '{name}': the names are 'level', 'level > 1', ''"
@@ -311,6 +453,11 @@ def check_stored_tables(program: Program) -> None:
         title, *columns, summary = program.answers("show", "message.hv").splitlines()
         assert [column.split()[0] for column in columns] == (names.split(",") if names else [])
         assert summary.startswith(f"{rows} rows, {len(columns)} columns; {len(digits) // 2:,} bytes in the file")
+        assert program.answers("query", "message.hv") == f"{rows}\n"
+        for name in (column.split()[0] for column in columns if column.split()[1].startswith("list")):
+            for words, why in (["--by", name], "lists have no order"), (["--mean", name], r"list\?? has no mean"):
+                sentence = rf"message\.hv: column '{re.escape(name)}': {why}"
+                program.refuses(1, sentence, "query", "message.hv", *words)
     for line in (TOP / "examples/corpus/differences.txt").read_text(encoding="utf-8").splitlines():
         rows, columns, digits = line.split("\t")
         (program.folder / "message.hv").write_bytes(bytes.fromhex(digits))
@@ -360,6 +507,7 @@ def main() -> None:
     with tempfile.TemporaryDirectory() as folder:
         program = Program(chosen.program, Path(folder))
         check_refusals(program)
+        check_refused_groups(program)
         check_stored_tables(program)
         check_pipes(program)
         check_types_are_kept(program)

@@ -21,7 +21,7 @@ class MakePages(unittest.TestCase):
     def test_each_option_of_the_help_is_on_the_page(self) -> None:
         help = text("program/help.hpp")
         page = text("man/hivevigil.1").replace(r"\-", "-")
-        read = re.findall(r'\{"([a-z]+)", \w+_argument', text("program/main.cpp"))
+        read = re.findall(r'\{"([a-z]+)", \w+_argument', text("program/arguments.cpp"))
         options = set(re.findall(r"^  (?:-h, )?(--[a-z]+)", help, re.M))
         self.assertEqual(options, set(re.findall(r"^\\fB(?:-h\\fP, \\fB)?(--[a-z]+)", page, re.M)))
         self.assertEqual(options, {f"--{name}" for name in read})
