@@ -27,16 +27,18 @@ SAMPLED = 6
 STATUS = re.compile(r"^fn (\w+)::([\w:+]+): (.*)$", re.M)
 UNPROVED = re.compile(r"`search` did not prove (.*)$")
 # A goal that neither a written answer nor the search proves, of a function that has written answers.
-UNANSWERED = re.compile(r"^note: (?:\./)?(src/\S+?):(\d+):\d+: it is not proved that .*?\(`([\w/+.-]+)`\)", re.M)
-FALSE = re.compile(r"^note: `([\w/+.-]+)` of proofs/(\S+)/\w+\.antt may be false", re.M)
-ABSENT = r"is not in scope|has no field|was not admitted"
-WRITTEN = re.compile(rf"^(?:\./)?proofs/(\S+)/\w+\.antt:\d+:\d+: error: `([\w/+.-]+)`: (?!.*(?:{ABSENT}))", re.M)
+UNANSWERED = re.compile(r"^note: (?:\./)?(src/\S+?):(\d+):\d+: it is not proved that .*?\(`([\w/+.:-]+)`\)", re.M)
+FALSE = re.compile(r"^note: `([\w/+.:-]+)` of proofs/(\S+)/\w+\.antt may be false", re.M)
+ABSENT = r"is not in scope|has no field|was not admitted|that can be named from here"
+WRITTEN = re.compile(rf"^(?:\./)?proofs/(\S+)/\w+\.antt:\d+:\d+: error: `([\w/+.:-]+)`: (?!.*(?:{ABSENT}))", re.M)
 GOAL = re.compile(r"`([\w/+.-]+)`")
+# A message goes on in lines that are indented.
+GOES_ON = re.compile(r"\n {2,}(?=\S)")
 PROVED = ("proved", "no holes")
 # What is said of a text that the front end, or the reader of clauses, cannot read: then no goal was tried.
 UNREAD = re.compile(rf"^(?:\./)?(?:src|specs)/\S+?:\d+:\d+: error(?:\[[\w-]+\]: |: .*(?:{ABSENT})).*$", re.M)
 # A proof file that names what the edit took away: this says nothing of a goal.
-NAMES = re.compile(rf"^(?:\./)?proofs/(\S+)/\w+\.antt:\d+:\d+: error: .*(?:{ABSENT}).*$", re.M)
+NAMES = re.compile(rf"^(?:\./)?proofs/(\S+)/\w+\.antt:\d+:\d+: error: (?:`([\w/+.:-]+)`: )?.*(?:{ABSENT}).*$", re.M)
 BY_NAMES = "refused only by names in a proof"
 NO_NAME = re.compile(r"^rattle: error: (?:several functions are named|`\w+` has no) .*$", re.M)
 
@@ -162,7 +164,7 @@ def function_of_line(batch: Batch, file: str, line: int) -> str | None:
 def unanswered(text: str, batch: Batch) -> list[Refusal]:
     """The goals without an answer that a check names by their places in the edited sources."""
     found = [(function_of_line(batch, file, int(line)), label) for file, line, label in UNANSWERED.findall(text)]
-    return [Refusal(function, label, "goal") for function, label in found if function]
+    return [Refusal(each, label.removeprefix(f"{each}-"), "goal") for each, label in found if each]
 
 
 def unread(text: str, batch: Batch) -> list[WrongBody]:
@@ -172,10 +174,22 @@ def unread(text: str, batch: Batch) -> list[WrongBody]:
     return [wrong for wrong in batch.wrongs if any(each and is_of(each, asked(wrong)) for each in functions)]
 
 
+def goal_of(folder: str, label: str) -> tuple[str, str]:
+    """The function of a goal, and its label there, by the folder of its proofs.
+
+    The folder of functions that call each other in a cycle has a `+`; labels there begin with the function, where the
+    cycle has several.
+    """
+    module, is_cycle, name = folder.replace("/", "::").rpartition("+")
+    if is_cycle and "::" in label:
+        name, _, label = label.partition("-")
+    return module + name, label
+
+
 def refusal(text: str, crate: str, names: list[str], others: Iterable[Refusal] = ()) -> Refusal | None:
     """The goal at which a check refused one of these functions; one with a counterexample first."""
-    false = {(path.replace("/", "::"), label) for label, path in FALSE.findall(text)}
-    written = [(path.replace("/", "::"), label) for path, label in WRITTEN.findall(text)]
+    false = {goal_of(folder, label) for label, folder in FALSE.findall(text)}
+    written = [goal_of(folder, label) for folder, label in WRITTEN.findall(GOES_ON.sub(" ", text))]
     found = [each for each in others if is_of(each.function, names)]
     for library, function, status in STATUS.findall(text):
         if library != crate or not is_of(function, names) or status.startswith(PROVED):
@@ -196,6 +210,8 @@ def is_proved(text: str, crate: str, names: list[str]) -> bool:
 def outcome(wrong: WrongBody, ran: Run, others: Iterable[Refusal] = ()) -> Refusal | str:
     """What a check of this wrong body, or of a batch that could be read, says of it: its refusal, or else why not."""
     crate, names = wrong.crate().name, asked(wrong)
+    if not names:
+        return "NOT tried: it changes no function, and its page names none by a line `by:`"
     if wanted := wrong.value("prints"):
         named = re.search(r"\[([\w-]+)\]", wanted)
         return Refusal(names[0], named[1] if named else "error", "text") if wanted in ran.text else "NOT refused so"
@@ -207,7 +223,7 @@ def outcome(wrong: WrongBody, ran: Run, others: Iterable[Refusal] = ()) -> Refus
         return f"NOT tried: {unread[0]}"
     if is_proved(ran.text, crate, names):
         return f"NOT refused: {' '.join(names)} proved in spite of it"
-    if any(is_of(found[1].replace("/", "::"), names) for found in NAMES.finditer(ran.text)):
+    if any(is_of(goal_of(*found)[0], names) for found in NAMES.findall(GOES_ON.sub(" ", ran.text))):
         return f"no verdict: {BY_NAMES}"
     lines = [line for line in ran.text.splitlines() if re.search(r"error|could not tell|no verdict|not proved", line)]
     return f"no verdict: {lines[0] if lines else ran.text[-200:].strip() or 'the check was ended'}"

@@ -327,6 +327,19 @@ class OutputTests(unittest.TestCase):
         )
         self.assertEqual(refusal(text, "low", ["a::f"]), Refusal("a::f", "returns", "written"))
         self.assertIsNone(refusal(text.replace("expected type", "`x` is not in scope: expected type"), "low", ["a::f"]))
+        self.assertIsNone(refusal(text.replace("expected type", "record `A`\n  has no field `x`"), "low", ["a::f"]))
+        lost = text.replace("expected type", "`goal.returns`\n  module `G` has no `returns` that can be named from here")
+        self.assertIsNone(refusal(lost, "low", ["a::f"]))
+
+    def test_a_goal_of_a_cycle_of_calls_names_its_function(self) -> None:
+        text = (
+            "./proofs/+f/Answers.antt:5:31: error: `a::A::g-returns`: expected type `1 ≡ 2`, but this has type `1 ≡ 1`\n"
+            "fn low::a::A::g: not proved\nfn low::b::f: not proved\n"
+        )
+        self.assertEqual(refusal(text, "low", ["a::A::g"]), Refusal("a::A::g", "returns", "written"))
+        self.assertIsNone(refusal(text, "low", ["b::f"]))
+        own = text.replace("+f", "b/+f").replace("a::A::g-returns", "returns")
+        self.assertEqual(refusal(own, "low", ["b::f"]), Refusal("b::f", "returns", "written"))
 
     def test_a_function_that_only_rests_on_another_is_not_refused(self) -> None:
         text = "fn low::a::f: depends on a hole in `Rattle.low.proofs.a.g.Answers.returns`\nfn low::a::g: no holes\n"
@@ -429,6 +442,8 @@ class TryTests(Tree):
         line = SOURCE[: SOURCE.find("self.bits[0]")].count("\n") + 1
         text = f"note: src/lib.rt:{line}:9: it is not proved that the index is below the length (`bounds-self-bits`)"
         self.assertEqual(ledger_tries.unanswered(text, batch), [Refusal("Bits::first", "bounds-self-bits", "goal")])
+        text = text.replace("`bounds", "`Bits::first-bounds")
+        self.assertEqual(ledger_tries.unanswered(text, batch), [Refusal("Bits::first", "bounds-self-bits", "goal")])
 
     def test_a_page_may_name_the_caller_that_refuses(self) -> None:
         page = self.root / "crates/low/must-fail/by-hand.md"
@@ -437,6 +452,12 @@ class TryTests(Tree):
         self.assertEqual([len(batch.wrongs) for batch in batches(ledger.every(), 8)], [1, 1])
         _, lines = self.tried()
         self.assertIn("low/the-second-is-first: NOT refused: Bits::first next proved in spite of it; 0 s", lines)
+
+    def test_what_is_of_no_function_needs_a_page_that_names_one(self) -> None:
+        page = self.root / "crates/low/must-fail/by-hand.md"
+        page.write_text(page.read_text(encoding="utf-8").replace("self.bits[0]", "for Bits<T> {"), encoding="utf-8")
+        _, lines = self.tried()
+        self.assertTrue(any(line.startswith("low/the-second-is-first: NOT tried: it changes no") for line in lines))
 
     def test_two_edits_of_one_function_are_two_checks(self) -> None:
         first = ledger.every()[0]
