@@ -62,7 +62,7 @@ extern "C" {
  * major * 1000000 + minor * 1000 + patch, and hv_abi its interface: a program runs with a library of its own HV_ABI,
  * and finds there every call of a header that is not newer than the library. */
 #define HV_VERSION_MAJOR 1
-#define HV_VERSION_MINOR 9
+#define HV_VERSION_MINOR 10
 #define HV_VERSION_PATCH 0
 #define HV_VERSION (HV_VERSION_MAJOR * 1000000 + HV_VERSION_MINOR * 1000 + HV_VERSION_PATCH)
 #define HV_ABI 1
@@ -617,6 +617,21 @@ HV_ANSWER hv_read_typed(const uint8_t *bytes, size_t bytes_len, hv_column *out, 
 /* Are the bytes the message of a column, with or without a logical type? 1, or 0. Takes no memory, and refuses
  * nothing. */
 HV_ANSWER hv_is_typed_message(const uint8_t *bytes, size_t bytes_len, uint8_t *truth, hv_error *error);
+
+/* ---- What the rows mean ----
+ * A column may have a format: the format string of Arrow's C data interface that says what its rows mean, such as "g"
+ * or "tsu:UTC", in UTF-8, with no 0 at the end. Any text is kept, also one that names no type. hv_clone, hv_compact,
+ * hv_encode, hv_decode, hv_encode_rows, hv_slice, hv_take, hv_filter, hv_fill, hv_reverse, hv_sort and hv_values keep
+ * the format of the column, hv_runs and hv_deserialize that of the values, and hv_take_from that of the dictionary;
+ * hv_if_else keeps one that both columns have, hv_fold_by that of the keys and, for the least, greatest, first and last
+ * row, that of the values, and hv_value_counts that of the values. Every other call makes columns without a format. No
+ * call asks what a format says: rows are compared, added and written as they are stored. */
+/* The column under this format; an empty one says that it has none. HV_TYPE_MISMATCH for one that is not UTF-8. */
+HV_ANSWER hv_with_type(const hv_column *column, const uint8_t *format, size_t format_len, hv_column *out,
+                       hv_error *error);
+/* Writes the format to the front of `format`, which takes no memory, and its number of bytes to *size: 0 where the
+ * column has none. HV_COLUMN_LENGTH (needed, format_len) where it does not fit. */
+HV_ANSWER hv_type(const hv_column *column, uint8_t *format, size_t format_len, size_t *size, hv_error *error);
 
 /* Frees the column, if there is one; the handle is empty afterwards. */
 HV_CALL void hv_free(hv_column *column);

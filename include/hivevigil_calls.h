@@ -611,6 +611,19 @@ HV_ANSWER hv_is_typed_message(const uint8_t *bytes, size_t bytes_len, uint8_t *t
     HV_ITEMS(const uint8_t, bytes, bytes_len);
     return (hv_is_typed_message)(bytes, bytes_len, truth, HV_FIELDS);
 }
+
+/* What the rows mean */
+HV_ANSWER hv_with_type(const hv_column *column, const uint8_t *format, size_t format_len, hv_column *out,
+                       hv_error *error) {
+    hv_error ignored;
+    HV_ITEMS(const uint8_t, format, format_len);
+    return (hv_with_type)(hv_lent(column), format, format_len, out, HV_FIELDS);
+}
+HV_ANSWER hv_type(const hv_column *column, uint8_t *format, size_t format_len, size_t *size, hv_error *error) {
+    hv_error ignored;
+    HV_ITEMS(uint8_t, format, format_len);
+    return (hv_type)(hv_lent(column), format, format_len, size, HV_FIELDS);
+}
 /* end of what tools/declarations.py makes */
 
 #undef HV_ITEMS

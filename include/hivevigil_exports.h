@@ -205,6 +205,11 @@ HV_EXPORT int32_t hv_write_typed(hv_column *column, const uint8_t *format, size_
 HV_EXPORT int32_t hv_read_typed(const uint8_t *bytes, size_t bytes_len, hv_column *out, size_t *format_at,
                                 size_t *format_len, hv_error *error);
 HV_EXPORT int32_t hv_is_typed_message(const uint8_t *bytes, size_t bytes_len, uint8_t *truth, hv_error *error);
+
+/* What the rows mean */
+HV_EXPORT int32_t hv_with_type(hv_column *column, const uint8_t *format, size_t format_len, hv_column *out,
+                               hv_error *error);
+HV_EXPORT int32_t hv_type(hv_column *column, uint8_t *format, size_t format_len, size_t *size, hv_error *error);
 HV_EXPORT void hv_free(hv_column *column);
 
 #ifndef HV_EXPORTS_ALONE
@@ -320,6 +325,8 @@ HV_EXPORT void hv_free(hv_column *column);
 #define hv_write_typed(...) hv_call_write_typed(__VA_ARGS__)
 #define hv_read_typed(...) hv_call_read_typed(__VA_ARGS__)
 #define hv_is_typed_message(...) hv_call_is_typed_message(__VA_ARGS__)
+#define hv_with_type(...) hv_call_with_type(__VA_ARGS__)
+#define hv_type(...) hv_call_type(__VA_ARGS__)
 #define hv_free(...) hv_call_free(__VA_ARGS__)
 #endif
 /* end of what tools/declarations.py makes */

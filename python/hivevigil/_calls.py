@@ -185,6 +185,8 @@ CALLS: dict[str, tuple[list[Any], Any]] = {
         c_char_p, c_size_t, POINTER(Handle), POINTER(c_size_t), POINTER(c_size_t), POINTER(Fields),
     ], c_int32),
     "hv_is_typed_message": ([c_char_p, c_size_t, POINTER(c_uint8), POINTER(Fields)], c_int32),
+    "hv_with_type": ([POINTER(Handle), c_char_p, c_size_t, POINTER(Handle), POINTER(Fields)], c_int32),
+    "hv_type": ([POINTER(Handle), POINTER(c_uint8), c_size_t, POINTER(c_size_t), POINTER(Fields)], c_int32),
     "hv_free": ([POINTER(Handle)], None),
 }
 # end of what tools/declarations.py makes

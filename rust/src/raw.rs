@@ -700,6 +700,20 @@ extern "C" {
         truth: *mut u8,
         error: *mut Fields,
     ) -> i32;
+    pub fn hv_with_type(
+        column: *mut Handle,
+        format: *const u8,
+        format_len: usize,
+        out: *mut Handle,
+        error: *mut Fields,
+    ) -> i32;
+    pub fn hv_type(
+        column: *mut Handle,
+        format: *mut u8,
+        format_len: usize,
+        size: *mut usize,
+        error: *mut Fields,
+    ) -> i32;
     pub fn hv_free(column: *mut Handle);
 }
 // end of what tools/declarations.py makes

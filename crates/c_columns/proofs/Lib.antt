@@ -6,8 +6,10 @@ mod Cuts
 pub mod Endings
 pub mod Extremes
 pub mod FlatParts
+mod TextFormats
 pub mod Forms
 pub mod Fronts
+pub mod Held
 pub mod Left
 mod LevelCounts
 mod ListsPassed

@@ -1,5 +1,5 @@
 -- Why there are no lists of what C passes.
-use Rattle.std.proofs.Common.{◌≡◌, ◌⊎◌, ℕ, List, length, ap, inl, inr, subst, sym, ⊎_elim}
+use Rattle.std.proofs.Common.{◌≡◌, ◌⊎◌, ℕ, List, length, inl, inr, subst, ⊎_elim}
 use Rattle.std.specs.Prelude.{Some, None}
 use Rattle.std.specs.Global.{Global}
 use Rattle.column_base.specs.declared.error.VortexError.{VortexError}

@@ -30,7 +30,7 @@ use Rattle.c_columns.specs.contracts.raw_box.RawBox as parked
 use Rattle.std.specs.contracts.alloc.Global as heap
 use Rattle.std.proofs.alloc.Global.TheLaws as heap_laws
 use Rattle.std.specs.contracts.impls.GlobalAllocator.TheImpl.{ghosts}
-use Rattle.runend_array.specs.declared.array_ref.ArrayRef.{ArrayRef}
+use Rattle.typed_columns.specs.declared.typed_column.TypedColumn.{TypedColumn}
 use Rattle.std.specs.Global.{Global}
 use Rattle.std.specs.Prelude.{Option, None, Some}
 use Rattle.std.proofs.GlobalToken.{dealloc_token-Testable}
@@ -106,7 +106,7 @@ module _ {M : Type 1} {𝓤 : Ura M} {𝓛 : Logic 𝓤} {K : Type 0} {Γ : List
       next h (subst (λ (ws : List Val). vs ≡ vstruct (of_list (ptr_val d.at ∷ (ws ++ []))) ∷ []) alloc with_pointer) fits))))
 
   -- and closed
-  pub close_handle : K → (p : Ptr) (h : Val) (a : Global) (c : Option (ArrayRef Global))
+  pub close_handle : K → (p : Ptr) (h : Val) (a : Global) (c : Option (TypedColumn Global))
       → Step K 𝓛 (‵ (HandleRow.own_val (record { at = p; alloc = a; column = c }) (pair_value (ptr_val p) h ∷ [])) ∷ Γ) G (‵ (holds a p c) ∷ ‵ (HeapRow.own_val a (h ∷ [])) ∷ Γ) G
   close_handle t p h a c = step (λ rest. let v : Val = pair_value (ptr_val p) h in
       nothing t $ move t (2 ∷ 0 ∷ []) $ fjoin t $ feq_i t (List Val) (ptr_val p ∷ []) (ptr_val p ∷ []) refl $ fjoin t $ feq_i t (List Val) (v ∷ []) (v ∷ []) refl $ fjoin t $
@@ -114,7 +114,7 @@ module _ {M : Type 1} {𝓤 : Ura M} {𝓛 : Logic 𝓤} {K : Type 0} {Γ : List
 
 module _ {M : Type 1} {𝓤 : Ura M} (𝓛 : Logic 𝓤) where
   -- the pointer of a column may be tested for null
-  testable : (a : Global) (p : Ptr) (x : ArrayRef Global) → ent 𝓤 (sem 𝓛 (holds a p (Some x))) (guard 𝓤 (Testable p) (sem 𝓛 (holds a p (Some x))))
+  testable : (a : Global) (p : Ptr) (x : TypedColumn Global) → ent 𝓤 (sem 𝓛 (holds a p (Some x))) (guard 𝓤 (Testable p) (sem 𝓛 (holds a p (Some x))))
   testable a p x =
       let held : SProp 𝓤 = sem 𝓛 (holds a p (Some x)) in
       let token = dealloc_token-Testable 𝓛 a (bare (lone column_row.mir)) p in
@@ -122,8 +122,8 @@ module _ {M : Type 1} {𝓤 : Ura M} (𝓛 : Logic 𝓤) where
 
   module _ {K : Type 0} {Γ : List (Item 𝓤)} {G : Goal 𝓤 𝓛.H} where
     -- a handle holds nothing, and its pointer is null; or it holds a column in a block
-    pub empty_or_held : K → (a : Global) (p : Ptr) (c : Option (ArrayRef Global)) → (c ≡ None → p ≡ null_ptr → Seq K 𝓛 Γ G)
-        → ((b o : ℕ) (x : ArrayRef Global) → c ≡ Some x → p ≡ block_ptr b o → Testable (block_ptr b o) → Seq K 𝓛 (‵ (holds a (block_ptr b o) (Some x)) ∷ Γ) G) → Seq K 𝓛 (‵ (holds a p c) ∷ Γ) G
+    pub empty_or_held : K → (a : Global) (p : Ptr) (c : Option (TypedColumn Global)) → (c ≡ None → p ≡ null_ptr → Seq K 𝓛 Γ G)
+        → ((b o : ℕ) (x : TypedColumn Global) → c ≡ Some x → p ≡ block_ptr b o → Testable (block_ptr b o) → Seq K 𝓛 (‵ (holds a (block_ptr b o) (Some x)) ∷ Γ) G) → Seq K 𝓛 (‵ (holds a p c) ∷ Γ) G
     empty_or_held t a p None empty held = feq_l t (λ null. empty refl null)
     empty_or_held t a p (Some x) empty held =
         in_a_block t p (λ at. holds a at (Some x)) (fst∗ 𝓤 (never 𝓤) (sem 𝓛 (ghosts.dealloc_token a (bare (lone column_row.mir)) null_ptr))) (λ b o is.

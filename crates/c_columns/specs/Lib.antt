@@ -3,6 +3,7 @@ pub mod Calls
 pub mod Builders
 pub mod Ending
 pub mod Flags
+pub mod Formats
 pub mod Forms
 pub mod Front
 pub mod Handle

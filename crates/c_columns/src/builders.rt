@@ -6,12 +6,13 @@ ghost use Rattle.runend_array.specs.Array.{column_of, rows};
 ghost use Rattle.runend_builder.specs.Builder.{built_with};
 ghost use Rattle.runend_builder.specs.Encoded.{IsEncodedRows};
 ghost use Rattle.std_alloc.specs.Arc.{arc_value};
+ghost use Rattle.typed_columns.specs.Typed.{format_of};
 ghost use Rattle.c_columns.specs.Builders.{AreBuilt, AreEncoded, PassedAppendFault, column_append_fault, encoding_fault, passed_row, with_rows};
 ghost use Rattle.c_columns.specs.Ending.{IsShortOr};
 
 use crate::flat::{Boxed, boxed};
 use crate::row_value::{RowValue, scalar_of_type};
-use crate::runs::{boxed_runs, no_ends, no_runs};
+use crate::runs::{boxed_runs, boxed_runs_like, no_ends, no_runs};
 use crate::sessions::plain_context;
 use column_core::{DType, VortexError, VortexResult};
 use runend_array::{ArrayRef, RunEndArray};
@@ -19,17 +20,20 @@ use runend_builder::{RunBuilder, encode_rows};
 use std::alloc::Global;
 use std::mem::replace;
 use std::sync::Arc;
+use typed_columns::TypedColumn;
 
 /// A builder on the heap.
 pub type BoxedBuilder = Box<RunBuilder<Global>>;
 
-/// Returns the run column of the encoding of the rows. Refused as `Unsupported` exactly for lists.
-pub fn encoded_rows(alloc: Global, array: &ArrayRef<Global>) -> VortexResult<Boxed>
-    ensures made { IfOk result (λ made. AreEncoded array.now made.value) }
-    ensures refused { IsRefusedBy (encoding_fault (column_of array.now)) result }
+/// Returns the run column of the encoding of the rows, with the same format. Refused as `Unsupported` exactly for
+/// lists.
+pub fn encoded_rows(alloc: Global, column: &TypedColumn<Global>) -> VortexResult<Boxed>
+    ensures made { IfOk result (λ made. AreEncoded column.now.array made.value.array) }
+    ensures typed { IfOk result (λ made. format_of made.value ≡ format_of column.now) }
+    ensures refused { IsRefusedBy (encoding_fault (column_of column.now.array)) result }
 {
-    let runs = encode_rows(array, &mut plain_context(alloc))?;
-    boxed_runs(alloc, runs)
+    let runs = encode_rows(&column.array, &mut plain_context(alloc))?;
+    boxed_runs_like(alloc, runs, column)
 }
 
 /// Returns a builder of rows of this type, without rows. Refused as `Unsupported` exactly for lists.
@@ -82,7 +86,8 @@ pub fn append_passed(
 
 /// Returns the run column of the encoding of all rows so far, which the builder keeps. Refused only for memory.
 pub fn encoding_of(alloc: Global, builder: &RunBuilder<Global>) -> VortexResult<Boxed>
-    ensures made { IfOk result (λ made. AreBuilt builder.now made.value) }
+    ensures made { IfOk result (λ made. AreBuilt builder.now made.value.array) }
+    ensures untyped { IfOk result (λ made. format_of made.value ≡ []) }
     ensures only { IsOkUnless result VortexError.OutOfMemory }
 {
     let runs = builder.encoding(&mut plain_context(alloc))?;
@@ -93,7 +98,8 @@ pub fn encoding_of(alloc: Global, builder: &RunBuilder<Global>) -> VortexResult<
 /// type stays. Refused only for memory, and then the builder stays as it is: the blocks of the answer are
 /// taken before the rows leave.
 pub fn finished(alloc: Global, builder: &mut RunBuilder<Global>) -> VortexResult<Boxed>
-    ensures made { IfOk result (λ made. AreBuilt builder.old made.value) }
+    ensures made { IfOk result (λ made. AreBuilt builder.old made.value.array) }
+    ensures untyped { IfOk result (λ made. format_of made.value ≡ []) }
     ensures only { IsOkUnless result VortexError.OutOfMemory }
     ensures empty { OnOk result (builder.new ≡ built_with builder.old.dtype []) }
     ensures kept { OnErr result (builder.new ≡ builder.old) }
@@ -111,7 +117,7 @@ pub fn finished(alloc: Global, builder: &mut RunBuilder<Global>) -> VortexResult
         drop(runs);
         return Err(error);
     }
-    drop(replace(&mut *place, ArrayRef::RunEnd(runs)));
+    drop(replace(&mut place.array, ArrayRef::RunEnd(runs)));
     Ok(place)
 }
 

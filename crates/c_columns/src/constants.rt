@@ -1,5 +1,6 @@
 //! Columns that show one value in each row.
-ghost use Rattle.std.specs.Prelude.{IfErr, IfOk, OnOk};
+ghost use Rattle.std.specs.Prelude.{◌≡◌, [], IfErr, IfOk, OnOk};
+ghost use Rattle.typed_columns.specs.Typed.{format_of};
 ghost use Rattle.c_columns.specs.Ending.{IsShortOr};
 ghost use Rattle.c_columns.specs.Makers.{ConstantFault, IsConstantOf};
 
@@ -17,7 +18,8 @@ pub fn constant(
     text: &[u8],
     count: usize,
 ) -> VortexResult<Boxed>
-    ensures column { IfOk result (λ made. IsConstantOf dtype value.now text.now count made.value) }
+    ensures column { IfOk result (λ made. IsConstantOf dtype value.now text.now count made.value.array) }
+    ensures untyped { IfOk result (λ made. format_of made.value ≡ []) }
     ensures refused { IfErr result (λ error. IsShortOr (ConstantFault dtype value.now text.now) error) }
     ensures served { OnOk result ((error : VortexError) → ¬ (ConstantFault dtype value.now text.now error)) }
 {

@@ -1,8 +1,9 @@
 //! Flat columns of the numbers, booleans and decimals that C passes.
-ghost use Rattle.std.specs.Prelude.{◌≡◌, length, map, IfOk, IsOkUnless};
+ghost use Rattle.std.specs.Prelude.{◌≡◌, [], length, map, IfOk, IsOkUnless};
 ghost use Rattle.std.specs.Option.{option_or};
 ghost use Rattle.column_base.specs.Validity.{form_of};
 ghost use Rattle.column_core.specs.Refusal.{IsRefusedBy};
+ghost use Rattle.typed_columns.specs.Typed.{format_of};
 ghost use Rattle.c_columns.specs.Bits.{bits_fault, bits_in, validity_by, validity_fault};
 ghost use Rattle.c_columns.specs.Makers.{AreDecimalsOf, AreTruthsOf, IsFlatOf};
 
@@ -13,16 +14,32 @@ use column_core::{
 };
 use runend_array::ArrayRef;
 use std::alloc::Global;
+use typed_columns::TypedColumn;
 
-/// A column on the heap.
-pub type Boxed = Box<ArrayRef<Global>>;
+/// A column and its format on the heap.
+pub type Boxed = Box<TypedColumn<Global>>;
 
-/// Puts a column on the heap. Refused only for memory.
+/// Puts a column on the heap, without a format. Refused only for memory.
 pub fn boxed(alloc: Global, array: ArrayRef<Global>) -> VortexResult<Boxed>
     ensures only { IsOkUnless result VortexError.OutOfMemory }
-    ensures column { IfOk result (λ made. made.value ≡ array) }
+    ensures column { IfOk result (λ made. made.value.array ≡ array) }
+    ensures untyped { IfOk result (λ made. format_of made.value ≡ []) }
 {
-    Ok(Box::new(alloc, array)?)
+    Ok(Box::new(alloc, TypedColumn::untyped(alloc, array))?)
+}
+
+/// Puts a column on the heap, with a copy of this one's format. Refused only for memory.
+pub fn boxed_like(
+    alloc: Global,
+    array: ArrayRef<Global>,
+    like: &TypedColumn<Global>,
+) -> VortexResult<Boxed>
+    ensures only { IsOkUnless result VortexError.OutOfMemory }
+    ensures column { IfOk result (λ made. made.value.array ≡ array) }
+    ensures typed { IfOk result (λ made. format_of made.value ≡ format_of like.now) }
+{
+    let column = TypedColumn::with_format(alloc, array, like.format.as_str())?;
+    Ok(Box::new(alloc, column)?)
 }
 
 /// Returns the flat column of these numbers. Refused as the bits of its validity are.
@@ -35,7 +52,8 @@ pub fn numbers<T: NativePType>(
 ) -> VortexResult<Boxed>
     ensures column { IfOk result
         (λ made. IsFlatOf T.PTYPE (map T.number items.now)
-        (validity_by nulls bits.now first (length items.now)) made.value) }
+        (validity_by nulls bits.now first (length items.now)) made.value.array) }
+    ensures untyped { IfOk result (λ made. format_of made.value ≡ []) }
     ensures refused { IsRefusedBy (validity_fault nulls bits.now first (length items.now)) result }
 {
     let validity = validity_of(alloc, nulls, bits, first, items.len())?;
@@ -56,7 +74,9 @@ pub fn booleans(
     first: usize,
 ) -> VortexResult<Boxed>
     ensures column { IfOk result
-        (λ made. AreTruthsOf (bits_in truths.now start count) (validity_by nulls bits.now first count) made.value) }
+        (λ made. AreTruthsOf (bits_in truths.now start count) (validity_by nulls bits.now first count)
+        made.value.array) }
+    ensures untyped { IfOk result (λ made. format_of made.value ≡ []) }
     ensures refused { IsRefusedBy
         (option_or (validity_fault nulls bits.now first count) (bits_fault truths.now start count)) result }
 {
@@ -77,7 +97,8 @@ pub fn decimals(
 ) -> VortexResult<Boxed>
     ensures column { IfOk result
         (λ made. AreDecimalsOf decimal_dtype pairs.now
-        (validity_by nulls bits.now first (length pairs.now)) made.value) }
+        (validity_by nulls bits.now first (length pairs.now)) made.value.array) }
+    ensures untyped { IfOk result (λ made. format_of made.value ≡ []) }
     ensures refused { IsRefusedBy (validity_fault nulls bits.now first (length pairs.now)) result }
 {
     let validity = validity_of(alloc, nulls, bits, first, pairs.len())?;

@@ -1,21 +1,23 @@
 //! A column that the caller holds by a pointer.
-ghost use Rattle.std.specs.Prelude.{◌≡◌, Option, None, Some, MatchOption};
+ghost use Rattle.std.specs.Prelude.{◌≡◌, Option, None, Some, IfSome, MatchOption};
 ghost use Rattle.std.specs.Global.{Global};
-ghost use Rattle.runend_array.specs.declared.array_ref.ArrayRef.{ArrayRef};
-ghost use Rattle.c_columns.specs.Handle.{column_code};
+ghost use Rattle.typed_columns.specs.Typed.{format_of};
+ghost use Rattle.typed_columns.specs.declared.typed_column.TypedColumn.{TypedColumn};
+ghost use Rattle.c_columns.specs.Handle.{array_in, column_code, format_in};
 
 use crate::raw_box::RawBox;
-use runend_array::ArrayRef;
 use std::alloc::Global;
 use std::marker::Model;
 use std::{mem, ptr};
+use typed_columns::TypedColumn;
 
-/// No column, or one on the heap. C sees a pointer, null for no column, which it passes on and never follows.
+/// No column, or one with its format on the heap. C sees a pointer, null for no column, which it passes on and never
+/// follows.
 #[repr(C)]
 pub struct Handle {
     at: *mut u8,
     alloc: Global,
-    pub ghost column: { Option (ArrayRef Global) } by { column_code },
+    pub ghost column: { Option (TypedColumn Global) } by { column_code },
 }
 
 impl Model for Handle {
@@ -34,16 +36,20 @@ impl Drop for Handle {
 
 impl Handle {
     /// Takes the column out, and leaves the handle empty.
-    pub fn take(&mut self, alloc: Global) -> Option<Box<ArrayRef<Global>>>
+    #[tactic(auto, using(crate::proofs::Held::array_none, crate::proofs::Held::array_some, crate::proofs::Held::format_some))]
+    pub fn take(&mut self, alloc: Global) -> Option<Box<TypedColumn<Global>>>
         ensures gone { self.new.column ≡ None }
         ensures found { MatchOption result (self.old.column ≡ None) (λ boxed. self.old.column ≡ Some boxed.value) }
+        ensures array { MatchOption result (array_in self.old.column ≡ None)
+            (λ boxed. array_in self.old.column ≡ Some boxed.value.array) }
+        ensures format { IfSome result (λ boxed. format_in self.old.column ≡ format_of boxed.value) }
     {
         let parked = mem::replace(self, Handle::empty(alloc)).into_parked()?;
         Some(parked.from_raw())
     }
 
     /// Puts a column in. The column that was there is freed.
-    pub fn put(&mut self, boxed: Box<ArrayRef<Global>>)
+    pub fn put(&mut self, boxed: Box<TypedColumn<Global>>)
         ensures { self.new.column ≡ Some boxed.value }
     {
         *self = Handle::of(RawBox::into_raw(boxed));
@@ -60,7 +66,7 @@ impl Handle {
     }
 
     // The handle of a column.
-    fn of(parked: RawBox<ArrayRef<Global>, Global>) -> Handle
+    fn of(parked: RawBox<TypedColumn<Global>, Global>) -> Handle
         ensures { result.column ≡ Some parked.value }
     {
         let RawBox { at, alloc } = parked;
@@ -71,7 +77,7 @@ impl Handle {
     }
 
     // What the handle holds.
-    fn into_parked(self) -> Option<RawBox<ArrayRef<Global>, Global>>
+    fn into_parked(self) -> Option<RawBox<TypedColumn<Global>, Global>>
         ensures { MatchOption result (self.column ≡ None) (λ parked. self.column ≡ Some parked.value) }
     {
         let Handle { at, alloc } = self;

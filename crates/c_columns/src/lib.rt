@@ -10,6 +10,7 @@ pub mod commands;
 pub mod constants;
 pub mod error_fields;
 pub mod flat;
+pub mod formats;
 mod front;
 pub mod handle;
 pub mod kinds;

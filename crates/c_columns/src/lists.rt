@@ -1,8 +1,9 @@
 //! Columns of lists of what C passes, and what columns of lists consist of.
-ghost use Rattle.std.specs.Prelude.{length, IfErr, IfOk, OnOk};
+ghost use Rattle.std.specs.Prelude.{◌≡◌, [], length, IfErr, IfOk, OnOk};
 ghost use Rattle.column_core.specs.Refusal.{IsRefusedBy};
 ghost use Rattle.runend_array.specs.Array.{column_of};
 ghost use Rattle.runend_column.specs.ListParts.{AreElementsOf, AreFlagsOf, AreOffsetsOf, AreSizesOf, no_lists_fault};
+ghost use Rattle.typed_columns.specs.Typed.{format_of};
 ghost use Rattle.c_columns.specs.Bits.{validity_by};
 ghost use Rattle.c_columns.specs.Ending.{IsShortOr};
 ghost use Rattle.c_columns.specs.Lists.{ArePassedLists, PassedListsFault};
@@ -28,7 +29,8 @@ pub fn lists(
     first: usize,
 ) -> VortexResult<Boxed>
     ensures made { IfOk result (λ made. ArePassedLists offsets.now sizes.now
-        (validity_by nulls bits.now first (length offsets.now)) elements.now made.value) }
+        (validity_by nulls bits.now first (length offsets.now)) elements.now made.value.array) }
+    ensures untyped { IfOk result (λ made. format_of made.value ≡ []) }
     ensures refused { IfErr result
         (λ error. IsShortOr (PassedListsFault offsets.now sizes.now nulls bits.now first elements.now) error) }
     ensures served { OnOk result ((error : VortexError)
@@ -42,7 +44,8 @@ pub fn lists(
 
 /// Returns the elements of all lists. Refused as `Unsupported` unless the column lies as lists.
 pub fn elements_of(alloc: Global, array: &ArrayRef<Global>) -> VortexResult<Boxed>
-    ensures made { IfOk result (λ made. AreElementsOf (column_of array.now) (column_of made.value)) }
+    ensures made { IfOk result (λ made. AreElementsOf (column_of array.now) (column_of made.value.array)) }
+    ensures untyped { IfOk result (λ made. format_of made.value ≡ []) }
     ensures refused { IsRefusedBy (no_lists_fault (column_of array.now)) result }
 {
     let elements = list_elements(array, &mut plain_context(alloc))?;
@@ -51,7 +54,8 @@ pub fn elements_of(alloc: Global, array: &ArrayRef<Global>) -> VortexResult<Boxe
 
 /// Where the elements of each list start. Refused as `elements_of`.
 pub fn offsets_of(alloc: Global, array: &ArrayRef<Global>) -> VortexResult<Boxed>
-    ensures made { IfOk result (λ made. AreOffsetsOf (column_of array.now) (column_of made.value)) }
+    ensures made { IfOk result (λ made. AreOffsetsOf (column_of array.now) (column_of made.value.array)) }
+    ensures untyped { IfOk result (λ made. format_of made.value ≡ []) }
     ensures refused { IsRefusedBy (no_lists_fault (column_of array.now)) result }
 {
     let offsets = list_offsets(array, &mut plain_context(alloc))?;
@@ -60,7 +64,8 @@ pub fn offsets_of(alloc: Global, array: &ArrayRef<Global>) -> VortexResult<Boxed
 
 /// Returns how many elements each list has. Refused as `elements_of`.
 pub fn sizes_of(alloc: Global, array: &ArrayRef<Global>) -> VortexResult<Boxed>
-    ensures made { IfOk result (λ made. AreSizesOf (column_of array.now) (column_of made.value)) }
+    ensures made { IfOk result (λ made. AreSizesOf (column_of array.now) (column_of made.value.array)) }
+    ensures untyped { IfOk result (λ made. format_of made.value ≡ []) }
     ensures refused { IsRefusedBy (no_lists_fault (column_of array.now)) result }
 {
     let sizes = list_sizes(array, &mut plain_context(alloc))?;
@@ -69,7 +74,8 @@ pub fn sizes_of(alloc: Global, array: &ArrayRef<Global>) -> VortexResult<Boxed>
 
 /// Returns whether each list is valid, as booleans. Refused as `elements_of`.
 pub fn flags_of(alloc: Global, array: &ArrayRef<Global>) -> VortexResult<Boxed>
-    ensures made { IfOk result (λ made. AreFlagsOf (column_of array.now) (column_of made.value)) }
+    ensures made { IfOk result (λ made. AreFlagsOf (column_of array.now) (column_of made.value.array)) }
+    ensures untyped { IfOk result (λ made. format_of made.value ≡ []) }
     ensures refused { IsRefusedBy (no_lists_fault (column_of array.now)) result }
 {
     let flags = list_validity(array, &mut plain_context(alloc))?;

@@ -1,6 +1,7 @@
 //! Columns as messages, and columns of messages.
-ghost use Rattle.std.specs.Prelude.{◌≡◌, length, IfOk, IfErr, OnErr, OnOk};
+ghost use Rattle.std.specs.Prelude.{◌≡◌, [], length, IfOk, IfErr, OnErr, OnOk};
 ghost use Rattle.runend_array.specs.Array.{column_of};
+ghost use Rattle.typed_columns.specs.Typed.{format_of};
 ghost use Rattle.c_columns.specs.Flags.{Tells};
 ghost use Rattle.c_columns.specs.Messages.{AreMessage, HasMessage, IsColumnOfMessage, IsMessageAtFront, IsUnreadable, MessageFault, ReadFault, SizeFault};
 
@@ -49,11 +50,12 @@ pub fn put_message(array: &ArrayRef<Global>, room: &mut [u8]) -> VortexResult<us
     Ok(size)
 }
 
-/// Returns the column of which the bytes are the message, on the heap. Refused as `BadMetadata` exactly where they are
-/// the message of no column, else as `OutOfMemory` only.
+/// Returns the column of which the bytes are the message, on the heap, without a format. Refused as `BadMetadata`
+/// exactly where they are the message of no column, else as `OutOfMemory` only.
 #[tactic(auto, using(crate::proofs::MessageEndings::read_served))]
 pub fn column_of_message(alloc: Global, bytes: &[u8]) -> VortexResult<Boxed>
-    ensures made { IfOk result (λ made. IsColumnOfMessage bytes.now made.value) }
+    ensures made { IfOk result (λ made. IsColumnOfMessage bytes.now made.value.array) }
+    ensures untyped { IfOk result (λ made. format_of made.value ≡ []) }
     ensures refused { IfErr result (λ error. ReadFault bytes.now error) }
     ensures served { OnOk result ((error : VortexError) → ¬ (IsUnreadable bytes.now error)) }
 {

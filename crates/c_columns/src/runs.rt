@@ -7,12 +7,13 @@ ghost use Rattle.column_core.specs.PrimitiveForm.{primitive_with};
 ghost use Rattle.runend_array.specs.Array.{column_of};
 ghost use Rattle.runend_array.specs.Column.{OfLeaf, column_of_runs};
 ghost use Rattle.column_core.specs.Refusal.{IsRefusedBy};
+ghost use Rattle.typed_columns.specs.Typed.{format_of};
 ghost use Rattle.c_columns.specs.Makers.{AreRecordedRuns, AreRunsOf, IsCopyOf};
 ghost use Rattle.c_columns.specs.Ending.{IsShortOr};
 ghost use Rattle.c_columns.specs.Reads.{AreRunValuesOf, form_number, offset_in};
 ghost use Rattle.c_columns.specs.RunParts.{AreEndsOf, IsRecordAtFront, RecordedFault, RunsFault, SerializeFault, no_runs_fault};
 
-use crate::flat::{Boxed, boxed};
+use crate::flat::{Boxed, boxed, boxed_like};
 use crate::levels::check_levels;
 use crate::row_value::put_bytes;
 use crate::sessions::plain_context;
@@ -20,6 +21,7 @@ use column_core::{DType, NativePType, PrimitiveArray, Validity, VortexError, Vor
 use runend_array::{ArrayRef, RunEnd, RunEndArray, RunEndArrayExt, RunEndArraySlotsExt};
 use runend_column::{deserialize, serialize};
 use std::alloc::Global;
+use typed_columns::TypedColumn;
 
 /// Returns a copy in the same form. Refused only for memory.
 pub fn copy(alloc: Global, array: &ArrayRef<Global>) -> VortexResult<ArrayRef<Global>>
@@ -29,20 +31,23 @@ pub fn copy(alloc: Global, array: &ArrayRef<Global>) -> VortexResult<ArrayRef<Gl
     array.try_clone(&mut plain_context(alloc))
 }
 
-/// Returns a copy in the same form, on the heap. Refused only for memory.
-pub fn boxed_copy(alloc: Global, array: &ArrayRef<Global>) -> VortexResult<Boxed>
-    ensures same { IfOk result (λ made. IsCopyOf array.now made.value) }
+/// Returns a copy in the same form, with the same format, on the heap. Refused only for memory.
+pub fn boxed_copy(alloc: Global, column: &TypedColumn<Global>) -> VortexResult<Boxed>
+    ensures same { IfOk result (λ made. IsCopyOf column.now.array made.value.array) }
+    ensures typed { IfOk result (λ made. format_of made.value ≡ format_of column.now) }
     ensures only { IsOkUnless result VortexError.OutOfMemory }
 {
-    boxed(alloc, copy(alloc, array)?)
+    boxed_like(alloc, copy(alloc, &column.array)?, column)
 }
 
-/// Returns a copy in the same form, in buffers that no other column shares, on the heap. Refused only for memory.
-pub fn boxed_compact(alloc: Global, array: &ArrayRef<Global>) -> VortexResult<Boxed>
-    ensures same { IfOk result (λ made. IsCopyOf array.now made.value) }
+/// Returns a copy in the same form, with the same format, in buffers that no other column shares, on the heap. Refused
+/// only for memory.
+pub fn boxed_compact(alloc: Global, column: &TypedColumn<Global>) -> VortexResult<Boxed>
+    ensures same { IfOk result (λ made. IsCopyOf column.now.array made.value.array) }
+    ensures typed { IfOk result (λ made. format_of made.value ≡ format_of column.now) }
     ensures only { IsOkUnless result VortexError.OutOfMemory }
 {
-    boxed(alloc, compact(alloc, array)?)
+    boxed_like(alloc, compact(alloc, &column.array)?, column)
 }
 
 fn compact(alloc: Global, array: &ArrayRef<Global>) -> VortexResult<ArrayRef<Global>>
@@ -52,34 +57,35 @@ fn compact(alloc: Global, array: &ArrayRef<Global>) -> VortexResult<ArrayRef<Glo
     array.compact(&mut plain_context(alloc))
 }
 
-/// Returns the run column of copies of these parts. Refused as `Unsupported` where it would have more than 64 levels of
-/// runs, then as `RunEnd::try_new_offset_length` refuses, or for memory.
+/// Returns the run column of copies of these parts, with the format of the values. Refused as `Unsupported` where it
+/// would have more than 64 levels of runs, then as `RunEnd::try_new_offset_length` refuses, or for memory.
 #[tactic(auto, using(crate::proofs::RunsServed::runs_too_deep, crate::proofs::RunsServed::runs_refused, crate::proofs::RunsServed::runs_served))]
 pub fn run_column(
     alloc: Global,
     ends: &ArrayRef<Global>,
-    values: &ArrayRef<Global>,
+    values: &TypedColumn<Global>,
     offset: usize,
     count: usize,
 ) -> VortexResult<Boxed>
-    ensures made { IfOk result (λ made. AreRunsOf offset count ends.now values.now made.value) }
-    ensures refused { IfErr result (λ error. IsShortOr (RunsFault offset count ends.now values.now) error) }
-    ensures served { OnOk result ((error : VortexError) → ¬ (RunsFault offset count ends.now values.now error)) }
+    ensures made { IfOk result (λ made. AreRunsOf offset count ends.now values.now.array made.value.array) }
+    ensures typed { IfOk result (λ made. format_of made.value ≡ format_of values.now) }
+    ensures refused { IfErr result (λ error. IsShortOr (RunsFault offset count ends.now values.now.array) error) }
+    ensures served { OnOk result ((error : VortexError) → ¬ (RunsFault offset count ends.now values.now.array error)) }
 {
-    check_levels(values)?;
-    let (ends, values) = copies(alloc, ends, values)?;
+    check_levels(&values.array)?;
+    let (run_ends, run_values) = copies(alloc, ends, &values.array)?;
     let runs = RunEnd::try_new_offset_length(
-        ends,
-        values,
+        run_ends,
+        run_values,
         offset,
         count,
         &mut plain_context(alloc),
     )?;
-    boxed_runs(alloc, runs)
+    boxed_runs_like(alloc, runs, values)
 }
 
-/// Returns the run column of copies of these parts, by its record. Refused as `Unsupported` where it would have more
-/// than 64 levels of runs, then as `deserialize` refuses, or for memory.
+/// Returns the run column of copies of these parts, by its record, with the format of the values. Refused as
+/// `Unsupported` where it would have more than 64 levels of runs, then as `deserialize` refuses, or for memory.
 #[tactic(auto, using(crate::proofs::RunsServed::record_too_deep, crate::proofs::RunsServed::record_refused))]
 pub fn recorded_column(
     alloc: Global,
@@ -87,38 +93,45 @@ pub fn recorded_column(
     count: usize,
     bytes: &[u8],
     ends: &ArrayRef<Global>,
-    values: &ArrayRef<Global>,
+    values: &TypedColumn<Global>,
 ) -> VortexResult<Boxed>
-    ensures made { IfOk result (λ made. AreRecordedRuns bytes.now dtype count ends.now values.now made.value) }
+    ensures made { IfOk result
+        (λ made. AreRecordedRuns bytes.now dtype count ends.now values.now.array made.value.array) }
+    ensures typed { IfOk result (λ made. format_of made.value ≡ format_of values.now) }
     ensures refused { IfErr result
-        (λ error. IsShortOr (RecordedFault bytes.now dtype count ends.now values.now) error) }
+        (λ error. IsShortOr (RecordedFault bytes.now dtype count ends.now values.now.array) error) }
     ensures served { OnOk result
-        ((error : VortexError) → ¬ (RecordedFault bytes.now dtype count ends.now values.now error)) }
+        ((error : VortexError) → ¬ (RecordedFault bytes.now dtype count ends.now values.now.array error)) }
 {
-    check_levels(values)?;
-    let (ends, values) = copies(alloc, ends, values)?;
-    let runs = deserialize(dtype, count, bytes, ends, values, &mut plain_context(alloc))?;
-    boxed_runs(alloc, runs)
+    check_levels(&values.array)?;
+    let (run_ends, run_values) = copies(alloc, ends, &values.array)?;
+    let mut ctx = plain_context(alloc);
+    let runs = deserialize(dtype, count, bytes, run_ends, run_values, &mut ctx)?;
+    boxed_runs_like(alloc, runs, values)
 }
 
-/// Returns a copy of the ends of a run column. Refused as `Unsupported` where it is none, else for memory.
+/// Returns a copy of the ends of a run column, without a format. Refused as `Unsupported` where it is none, else for
+/// memory.
 pub fn ends_of(alloc: Global, array: &ArrayRef<Global>) -> VortexResult<Boxed>
-    ensures made { IfOk result (λ made. AreEndsOf (column_of array.now) (column_of made.value)) }
+    ensures made { IfOk result (λ made. AreEndsOf (column_of array.now) (column_of made.value.array)) }
+    ensures untyped { IfOk result (λ made. format_of made.value ≡ []) }
     ensures refused { IsRefusedBy (no_runs_fault (column_of array.now)) result }
 {
     match array {
-        ArrayRef::RunEnd(runs) => boxed_copy(alloc, runs.ends()),
+        ArrayRef::RunEnd(runs) => boxed(alloc, copy(alloc, runs.ends())?),
         _ => Err(VortexError::Unsupported),
     }
 }
 
-/// Returns a copy of the values of a run column. Refused as `Unsupported` where it is none, else for memory.
-pub fn values_of(alloc: Global, array: &ArrayRef<Global>) -> VortexResult<Boxed>
-    ensures made { IfOk result (λ made. AreRunValuesOf (column_of array.now) (column_of made.value)) }
-    ensures refused { IsRefusedBy (no_runs_fault (column_of array.now)) result }
+/// Returns a copy of the values of a run column, with its format. Refused as `Unsupported` where it is none, else for
+/// memory.
+pub fn values_of(alloc: Global, column: &TypedColumn<Global>) -> VortexResult<Boxed>
+    ensures made { IfOk result (λ made. AreRunValuesOf (column_of column.now.array) (column_of made.value.array)) }
+    ensures typed { IfOk result (λ made. format_of made.value ≡ format_of column.now) }
+    ensures refused { IsRefusedBy (no_runs_fault (column_of column.now.array)) result }
 {
-    match array {
-        ArrayRef::RunEnd(runs) => boxed_copy(alloc, runs.values()),
+    match &column.array {
+        ArrayRef::RunEnd(runs) => boxed_like(alloc, copy(alloc, runs.values())?, column),
         _ => Err(VortexError::Unsupported),
     }
 }
@@ -182,12 +195,26 @@ pub(crate) fn copies(
     }
 }
 
-/// Returns a run column on the heap. Refused only for memory.
+/// Returns a run column on the heap, without a format. Refused only for memory.
 pub(crate) fn boxed_runs(alloc: Global, runs: RunEndArray<Global>) -> VortexResult<Boxed>
-    ensures column { IfOk result (λ made. column_of made.value ≡ column_of_runs runs) }
+    ensures column { IfOk result (λ made. column_of made.value.array ≡ column_of_runs runs) }
+    ensures untyped { IfOk result (λ made. format_of made.value ≡ []) }
     ensures only { IsOkUnless result VortexError.OutOfMemory }
 {
     boxed(alloc, ArrayRef::of_runs(alloc, runs)?)
+}
+
+/// Returns a run column on the heap, with a copy of this one's format. Refused only for memory.
+pub(crate) fn boxed_runs_like(
+    alloc: Global,
+    runs: RunEndArray<Global>,
+    like: &TypedColumn<Global>,
+) -> VortexResult<Boxed>
+    ensures column { IfOk result (λ made. column_of made.value.array ≡ column_of_runs runs) }
+    ensures typed { IfOk result (λ made. format_of made.value ≡ format_of like.now) }
+    ensures only { IsOkUnless result VortexError.OutOfMemory }
+{
+    boxed_like(alloc, ArrayRef::of_runs(alloc, runs)?, like)
 }
 
 /// Returns a run column without rows, which holds no memory: it stands where another is put later.

@@ -1,5 +1,6 @@
 //! Flat columns of the texts and bytes that C passes, one behind the other, with offsets.
 ghost use Rattle.std.specs.Prelude.{◌≡◌, ◌+◌, ◌-◌, ◌<◌, ℕ, [], ◌∷◌, map, length, pos, IfErr, IfOk, IfSome, IsOkUnless, MatchOption, OnOk};
+ghost use Rattle.typed_columns.specs.Typed.{format_of};
 ghost use Rattle.c_columns.specs.Bits.{validity_by};
 ghost use Rattle.c_columns.specs.Ending.{IsShortOr};
 ghost use Rattle.c_columns.specs.Makers.{AreCuts, AreTextsOf, CutsFault, IsCut, IsRowCut, TextsFault};
@@ -25,7 +26,8 @@ pub fn texts<T: NativePType>(
     first: usize,
 ) -> VortexResult<Boxed>
     ensures made { IfOk result (λ made. AreTextsOf kind (map T.number offsets.now) bytes.now
-        (validity_by nulls bits.now first (length offsets.now - 1)) made.value) }
+        (validity_by nulls bits.now first (length offsets.now - 1)) made.value.array) }
+    ensures untyped { IfOk result (λ made. format_of made.value ≡ []) }
     ensures refused { IfErr result
         (λ error. IsShortOr (TextsFault kind (map T.number offsets.now) bytes.now nulls bits.now first) error) }
     ensures served { OnOk result ((error : VortexError)

@@ -1,7 +1,8 @@
 //! Columns with a logical type as messages, and columns of such messages.
-ghost use Rattle.std.specs.Prelude.{◌≡◌, length, IfErr, IfOk, OnErr, OnOk};
+ghost use Rattle.std.specs.Prelude.{◌≡◌, [], length, IfErr, IfOk, OnErr, OnOk};
 ghost use Rattle.std.specs.Str.{IsUtf8};
 ghost use Rattle.runend_array.specs.Array.{column_of};
+ghost use Rattle.typed_columns.specs.Typed.{format_of};
 ghost use Rattle.c_columns.specs.Flags.{Tells};
 ghost use Rattle.c_columns.specs.TypedMessages.{AreTypedMessage, HasTypedMessage, IsColumnOfTyped, IsNoName, IsTypedMessageAtFront, IsTypedUnreadable, TypedMessageFault, TypedReadFault, TypedSizeFault};
 
@@ -16,7 +17,7 @@ use std::str;
 
 /// Holds a column that was read, and says where in its message the name of its logical type is.
 #[derive(Drop)]
-pub struct TypedColumn {
+pub struct ReadColumn {
     pub column: Boxed,
     /// Counts the bytes before the name.
     pub start: usize,
@@ -64,17 +65,18 @@ pub fn put_typed(array: &ArrayRef<Global>, format: &[u8], room: &mut [u8]) -> Vo
     Ok(size)
 }
 
-/// Returns the column of which the bytes are the message, on the heap, and where the name of its logical type is in
-/// them. Refused as `BadMetadata` exactly where they are the message of no column, with or without a logical type, else
-/// as `OutOfMemory` only.
-pub fn column_of_typed(alloc: Global, bytes: &[u8]) -> VortexResult<TypedColumn>
-    ensures made { IfOk result (λ made. IsColumnOfTyped bytes.now made.start made.count made.column.value) }
+/// Returns the column of which the bytes are the message, on the heap, without a format, and where the name of its
+/// logical type is in them. Refused as `BadMetadata` exactly where they are the message of no column, with or without a
+/// logical type, else as `OutOfMemory` only.
+pub fn column_of_typed(alloc: Global, bytes: &[u8]) -> VortexResult<ReadColumn>
+    ensures made { IfOk result (λ made. IsColumnOfTyped bytes.now made.start made.count made.column.value.array) }
+    ensures untyped { IfOk result (λ made. format_of made.column.value ≡ []) }
     ensures refused { IfErr result (λ error. TypedReadFault bytes.now error) }
     ensures served { OnOk result ((error : VortexError) → ¬ (IsTypedUnreadable bytes.now error)) }
 {
     let (format, array) = read_typed(alloc, bytes)?;
     let column = boxed(alloc, array)?;
-    Ok(TypedColumn {
+    Ok(ReadColumn {
         column,
         start: type_start(format),
         count: format.len(),
@@ -89,8 +91,8 @@ pub fn is_typed_message(bytes: &[u8]) -> u8
     byte_of(column_bytes::is_typed_message(bytes))
 }
 
-// The text that these bytes are.
-fn name_of(format: &[u8]) -> VortexResult<&str>
+/// Returns the text that these bytes are. Refused as `TypeMismatch` exactly where they are not UTF-8.
+pub(crate) fn name_of(format: &[u8]) -> VortexResult<&str>
     ensures same { IfOk result (λ name. name.now ≡ format.now) }
     ensures text { OnOk result (IsUtf8 format.now) }
     ensures other { IfErr result (λ error. IsNoName format.now error) }

@@ -23,7 +23,7 @@ abbrev Held : Type 0
 Held = Option (ArrayRef Global)
 
 -- a call that answers by a column
-ends_made : {B : Type 0} (outcome : Result B VortexError) (value : B → ArrayRef Global) (fault : Option VortexError) (out old : Held) (code : ℤ) (fields : ErrorFields) → IsRefusedBy fault outcome
+ends_made : {B X : Type 0} (outcome : Result B VortexError) (value : B → X) (fault : Option VortexError) (out old : Option X) (code : ℤ) (fields : ErrorFields) → IsRefusedBy fault outcome
     → IfOk outcome (λ made. (code ≡ pos 0) × (out ≡ Some (value made))) → IfErr outcome (λ why. (code ≡ pos (number_of why)) × (code ≢ pos 0) × (out ≡ old) × HasFields why fields) → EndsBy fault code fields
 ends_made (Ok made) value fault out old code fields none ok err = ends_done fault code fields none ok.0
 ends_made (Err error) value fault out old code fields why ok err = ends_refused fault error code fields why err.0 err.3
@@ -41,14 +41,14 @@ is_written (Ok found) code written fields P is ok err zero = subst P (sym ok.1) 
 is_written (Err error) code written fields P is ok err zero = absurd (err.1 zero)
 
 -- the rows of one column tested
-pub test_ends : {B : Type 0} (test : RowTest) (c : Held) (a : ArrayRef Global) (outcome : Result B VortexError) (value : B → ArrayRef Global) (out old : Held) (code : ℤ) (fields : ErrorFields) → c ≡ Some a
+pub test_ends : {B X : Type 0} (test : RowTest) (c : Held) (a : ArrayRef Global) (outcome : Result B VortexError) (value : B → X) (out old : Option X) (code : ℤ) (fields : ErrorFields) → c ≡ Some a
     → IsRefusedBy (test_fault test a) outcome → IfOk outcome (λ made. (code ≡ pos 0) × (out ≡ Some (value made)))
     → IfErr outcome (λ why. (code ≡ pos (number_of why)) × (code ≢ pos 0) × (out ≡ old) × HasFields why fields) → EndsOnTested test c code fields
 test_ends test c a outcome value out old code fields some refused ok err =
     subst (λ (h : Held). EndsOnTested test h code fields) (sym some) (ends_made outcome value (test_fault test a) out old code fields refused ok err)
 
 -- rows of two columns by a mask
-pub choice_ends : {B : Type 0} (c d e : Held) (mask left right : ArrayRef Global) (outcome : Result B VortexError) (value : B → ArrayRef Global) (out old : Held) (code : ℤ) (fields : ErrorFields) → c ≡ Some mask → d ≡ Some left
+pub choice_ends : {B X : Type 0} (c d e : Held) (mask left right : ArrayRef Global) (outcome : Result B VortexError) (value : B → X) (out old : Option X) (code : ℤ) (fields : ErrorFields) → c ≡ Some mask → d ≡ Some left
     → e ≡ Some right → IsRefusedBy (choice_fault_of mask left right) outcome → IfOk outcome (λ made. (code ≡ pos 0) × (out ≡ Some (value made)))
     → IfErr outcome (λ why. (code ≡ pos (number_of why)) × (code ≢ pos 0) × (out ≡ old) × HasFields why fields) → EndsOnThree c d e code fields
 choice_ends c d e mask left right outcome value out old code fields some other third refused ok err =

@@ -119,7 +119,7 @@ pub cast_empty : (fault : Fault) (Fails : ArrayRef Global → VortexError → Ty
 cast_empty fault Fails c code fields none is = subst (λ (h : Held). EndsOnCast fault Fails h code fields) (sym none) is
 
 -- what came of a cast ends so
-module _ {B : Type 0} (value : B → ArrayRef Global) (out old : Held) (code : ℤ) (fields : ErrorFields) where
+module _ {B X : Type 0} (value : B → X) (out old : Option X) (code : ℤ) (fields : ErrorFields) where
   abbrev IsDone : B → Type 0
   IsDone made = (code ≡ pos 0) × (out ≡ Some (value made))
 
@@ -134,7 +134,7 @@ module _ {B : Type 0} (value : B → ArrayRef Global) (out old : Held) (code : �
   outcome_ends (Some error) Fails (Err why) refused first ok err =
       let other = first error refl in let same : why ≡ error = cc in as_error why error code fields same err.0 err.3
 
-ends_held : {B : Type 0} (value : B → ArrayRef Global) (fault : Fault) (Fails : ArrayRef Global → VortexError → Type 0) (outcome : Result B VortexError) (c out old : Held) (a : ArrayRef Global) (code : ℤ) (fields : ErrorFields) → c ≡ Some a
+ends_held : {B X : Type 0} (value : B → X) (fault : Fault) (Fails : ArrayRef Global → VortexError → Type 0) (outcome : Result B VortexError) (c : Held) (out old : Option X) (a : ArrayRef Global) (code : ℤ) (fields : ErrorFields) → c ≡ Some a
     → (fault (dtype_of a) ≡ None → IfErr outcome (Fails a)) → ((error : VortexError) → fault (dtype_of a) ≡ Some error → IsErrOf outcome error)
     → IfOk outcome (λ made. (code ≡ pos 0) × (out ≡ Some (value made)))
     → IfErr outcome (λ why. (code ≡ pos (number_of why)) × (code ≢ pos 0) × (out ≡ old) × HasFields why fields) → EndsOnCast fault Fails c code fields
@@ -142,21 +142,21 @@ ends_held value fault Fails outcome c out old a code fields some refused first o
     subst (λ (h : Held). EndsOnCast fault Fails h code fields) (sym some) (outcome_ends value out old code fields (fault (dtype_of a)) (Fails a) outcome refused first ok err)
 
 -- of each cast
-pub floats_end : {B : Type 0} (is_rounded : Bool) (format : FloatFormat) (outcome : Result B VortexError) (value : B → ArrayRef Global) (c out old : Held) (a : ArrayRef Global) (code : ℤ) (fields : ErrorFields) → c ≡ Some a
+pub floats_end : {B X : Type 0} (is_rounded : Bool) (format : FloatFormat) (outcome : Result B VortexError) (value : B → X) (c : Held) (out old : Option X) (a : ArrayRef Global) (code : ℤ) (fields : ErrorFields) → c ≡ Some a
     → (floats_fault (dtype_of a) ≡ None → IfErr outcome (FailsAsFloats is_rounded format a)) → ((error : VortexError) → floats_fault (dtype_of a) ≡ Some error → IsErrOf outcome error)
     → IfOk outcome (λ made. (code ≡ pos 0) × (out ≡ Some (value made)))
     → IfErr outcome (λ why. (code ≡ pos (number_of why)) × (code ≢ pos 0) × (out ≡ old) × HasFields why fields) → EndsOnCast floats_fault (FailsAsFloats is_rounded format) c code fields
 floats_end is_rounded format outcome value c out old a code fields some refused first ok err =
     ends_held value floats_fault (FailsAsFloats is_rounded format) outcome c out old a code fields some refused first ok err
 
-pub integers_end : {B : Type 0} (is_rounded : Bool) (format : FloatFormat) (outcome : Result B VortexError) (value : B → ArrayRef Global) (c out old : Held) (a : ArrayRef Global) (code : ℤ) (fields : ErrorFields) → c ≡ Some a
+pub integers_end : {B X : Type 0} (is_rounded : Bool) (format : FloatFormat) (outcome : Result B VortexError) (value : B → X) (c : Held) (out old : Option X) (a : ArrayRef Global) (code : ℤ) (fields : ErrorFields) → c ≡ Some a
     → (integers_fault (dtype_of a) ≡ None → IfErr outcome (FailsAsIntegers is_rounded format a)) → ((error : VortexError) → integers_fault (dtype_of a) ≡ Some error → IsErrOf outcome error)
     → IfOk outcome (λ made. (code ≡ pos 0) × (out ≡ Some (value made)))
     → IfErr outcome (λ why. (code ≡ pos (number_of why)) × (code ≢ pos 0) × (out ≡ old) × HasFields why fields) → EndsOnCast integers_fault (FailsAsIntegers is_rounded format) c code fields
 integers_end is_rounded format outcome value c out old a code fields some refused first ok err =
     ends_held value integers_fault (FailsAsIntegers is_rounded format) outcome c out old a code fields some refused first ok err
 
-pub keys_end : {B : Type 0} (ptype : PType) (outcome : Result B VortexError) (value : B → ArrayRef Global) (c out old : Held) (a : ArrayRef Global) (code : ℤ) (fields : ErrorFields) → c ≡ Some a
+pub keys_end : {B X : Type 0} (ptype : PType) (outcome : Result B VortexError) (value : B → X) (c : Held) (out old : Option X) (a : ArrayRef Global) (code : ℤ) (fields : ErrorFields) → c ≡ Some a
     → (floats_fault (dtype_of a) ≡ None → IfErr outcome (FailsAsKeys ptype a)) → ((error : VortexError) → floats_fault (dtype_of a) ≡ Some error → IsErrOf outcome error)
     → IfOk outcome (λ made. (code ≡ pos 0) × (out ≡ Some (value made)))
     → IfErr outcome (λ why. (code ≡ pos (number_of why)) × (code ≢ pos 0) × (out ≡ old) × HasFields why fields) → EndsOnCast floats_fault (FailsAsKeys ptype) c code fields

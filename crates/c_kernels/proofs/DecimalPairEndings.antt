@@ -17,9 +17,9 @@ use Rattle.c_kernels.proofs.PairEndings.{no_fault}
 abbrev Held : Type 0
 Held = Option (ArrayRef Global)
 
-module _ {B : Type 0} (operator : NumericOperator) (a b : ArrayRef Global) (value : B → ArrayRef Global) where
+module _ {B X : Type 0} (operator : NumericOperator) (a b : ArrayRef Global) (value : B → X) where
   -- what came of two columns ends so
-  ends_so : (outcome : Result B ZipError) (code : ℤ) (fields : ErrorFields) (out old : Held)
+  ends_so : (outcome : Result B ZipError) (code : ℤ) (fields : ErrorFields) (out old : Option X)
       → IfErr outcome (IsPairRefusal (decimal_pair_fault operator a b) (IsFirstPast operator a b)) → ((error : VortexError) → decimal_pair_fault operator a b ≡ Some error → outcome ≡ Err (Refused error))
       → IfOk outcome (λ made. (code ≡ pos 0) × (out ≡ Some (value made))) → IfErr outcome (λ why. (code ≢ pos 0) × (out ≡ old) × IsToldAs why code fields)
       → EndsOnDecimalPairs operator (Some a) (Some b) code fields
@@ -28,7 +28,7 @@ module _ {B : Type 0} (operator : NumericOperator) (a b : ArrayRef Global) (valu
   ends_so (Err (Overflow row)) code fields out old refused first done told = inr (record { row = row; none = refused.0; past = refused.1; told = told.2 })
 
   -- the same of columns that handles hold
-  pub outcome_ends : (c d : Held) (outcome : Result B ZipError) (code : ℤ) (fields : ErrorFields) (out old : Held) → c ≡ Some a → d ≡ Some b
+  pub outcome_ends : (c d : Held) (outcome : Result B ZipError) (code : ℤ) (fields : ErrorFields) (out old : Option X) → c ≡ Some a → d ≡ Some b
       → IfErr outcome (IsPairRefusal (decimal_pair_fault operator a b) (IsFirstPast operator a b)) → ((error : VortexError) → decimal_pair_fault operator a b ≡ Some error → outcome ≡ Err (Refused error))
       → IfOk outcome (λ made. (code ≡ pos 0) × (out ≡ Some (value made))) → IfErr outcome (λ why. (code ≢ pos 0) × (out ≡ old) × IsToldAs why code fields)
       → EndsOnDecimalPairs operator c d code fields

@@ -70,27 +70,27 @@ ends_held fault c a outcome code fields some refused first ok err =
     subst (λ (h : Held). EndsOnFloats fault h code fields) (sym some) (first_ends (fault (dtype_of a)) outcome code fields refused first ok err)
 
 -- of a call that answers a column
-ok_code : {B : Type 0} (outcome : Result B VortexError) (value : B → ArrayRef Global) (out : Held) (code : ℤ) → IfOk outcome (λ made. (code ≡ pos 0) × (out ≡ Some (value made))) → IfOk outcome (λ _. code ≡ pos 0)
+ok_code : {B X : Type 0} (outcome : Result B VortexError) (value : B → X) (out : Option X) (code : ℤ) → IfOk outcome (λ made. (code ≡ pos 0) × (out ≡ Some (value made))) → IfOk outcome (λ _. code ≡ pos 0)
 ok_code (Ok made) value out code ok = ok.0
 ok_code (Err why) value out code ok = ok
 
-err_code : {B : Type 0} (outcome : Result B VortexError) (out old : Held) (code : ℤ) (fields : ErrorFields)
+err_code : {B X : Type 0} (outcome : Result B VortexError) (out old : Option X) (code : ℤ) (fields : ErrorFields)
     → IfErr outcome (λ why. (code ≡ pos (number_of why)) × (code ≢ pos 0) × (out ≡ old) × HasFields why fields) → IfErr outcome (λ why. IsRefusedAs why code fields)
 err_code (Ok made) out old code fields err = err
 err_code (Err why) out old code fields err = (err.0, err.3)
 
-pub column_ends : {B : Type 0} (outcome : Result B VortexError) (value : B → ArrayRef Global) (fault : Fault) (c out old : Held) (a : ArrayRef Global) (code : ℤ) (fields : ErrorFields) → c ≡ Some a
+pub column_ends : {B X : Type 0} (outcome : Result B VortexError) (value : B → X) (fault : Fault) (c : Held) (out old : Option X) (a : ArrayRef Global) (code : ℤ) (fields : ErrorFields) → c ≡ Some a
     → IsRefusedBy (fault (dtype_of a)) outcome → ((error : VortexError) → fault (dtype_of a) ≡ Some error → IsErrOf outcome error) → IfOk outcome (λ made. (code ≡ pos 0) × (out ≡ Some (value made)))
     → IfErr outcome (λ why. (code ≡ pos (number_of why)) × (code ≢ pos 0) × (out ≡ old) × HasFields why fields) → EndsOnFloats fault c code fields
 column_ends outcome value fault c out old a code fields some refused first ok err =
     ends_held fault c a outcome code fields some refused first (ok_code outcome value out code ok) (err_code outcome out old code fields err)
 
-pub column_made : {B : Type 0} (outcome : Result B VortexError) (value : B → ArrayRef Global) (Made : ArrayRef Global → ArrayRef Global → Type 0) (c out old : Held) (a : ArrayRef Global) (code : ℤ) (fields : ErrorFields)
-    → c ≡ Some a → IfOk outcome (λ made. Made a (value made)) → IfOk outcome (λ made. (code ≡ pos 0) × (out ≡ Some (value made)))
-    → IfErr outcome (λ why. (code ≡ pos (number_of why)) × (code ≢ pos 0) × (out ≡ old) × HasFields why fields) → code ≡ pos 0 → WhereBoth Made c out
-column_made (Ok made) value Made c out old a code fields some is ok err zero =
-    subst (λ (h : Held). WhereBoth Made h out) (sym some) (subst (λ (h : Held). WhereBoth Made (Some a) h) (sym ok.1) is)
-column_made (Err why) value Made c out old a code fields some is ok err zero = absurd (err.1 zero)
+pub column_made : {B X : Type 0} (outcome : Result B VortexError) (value : B → ArrayRef Global) (Made : ArrayRef Global → ArrayRef Global → Type 0) (c out : Held) (held old : X) (a : ArrayRef Global) (code : ℤ) (fields : ErrorFields)
+    → c ≡ Some a → IfOk outcome (λ made. Made a (value made)) → IfOk outcome (λ made. out ≡ Some (value made))
+    → IfErr outcome (λ why. (code ≡ pos (number_of why)) × (code ≢ pos 0) × (held ≡ old) × HasFields why fields) → code ≡ pos 0 → WhereBoth Made c out
+column_made (Ok made) value Made c out held old a code fields some is ok err zero =
+    subst (λ (h : Held). WhereBoth Made h out) (sym some) (subst (λ (h : Held). WhereBoth Made (Some a) h) (sym ok) is)
+column_made (Err why) value Made c out held old a code fields some is ok err zero = absurd (err.1 zero)
 
 -- of a comparison with a constant
 abbrev fault_with : ℕ → Fault
@@ -99,7 +99,7 @@ fault_with bits dtype = constant_fault dtype bits
 pub constant_empty : (bits : ℕ) (c : Held) (code : ℤ) (fields : ErrorFields) → c ≡ None → code ≡ pos 22 → EndsOnFloats (λ dtype. constant_fault dtype bits) c code fields
 constant_empty bits c code fields none is = floats_empty (fault_with bits) c code fields none is
 
-pub compared_ends : {B : Type 0} (outcome : Result B VortexError) (value : B → ArrayRef Global) (bits : ℕ) (c out old : Held) (a : ArrayRef Global) (code : ℤ) (fields : ErrorFields) → c ≡ Some a
+pub compared_ends : {B X : Type 0} (outcome : Result B VortexError) (value : B → X) (bits : ℕ) (c : Held) (out old : Option X) (a : ArrayRef Global) (code : ℤ) (fields : ErrorFields) → c ≡ Some a
     → IsRefusedBy (constant_fault (dtype_of a) bits) outcome → ((error : VortexError) → constant_fault (dtype_of a) bits ≡ Some error → IsErrOf outcome error) → IfOk outcome (λ made. (code ≡ pos 0) × (out ≡ Some (value made)))
     → IfErr outcome (λ why. (code ≡ pos (number_of why)) × (code ≢ pos 0) × (out ≡ old) × HasFields why fields) → EndsOnFloats (λ dtype. constant_fault dtype bits) c code fields
 compared_ends outcome value bits c out old a code fields some refused first ok err = column_ends outcome value (fault_with bits) c out old a code fields some refused first ok err

@@ -1,5 +1,5 @@
 -- How the call on two columns of floats ends.
-use Rattle.std.proofs.Common.{◌≡◌, ◌≢◌, ℤ, pos, refl, sym, subst, Some}
+use Rattle.std.proofs.Common.{◌≡◌, ◌≢◌, ℤ, pos, refl, sym, subst, Option, Some}
 use Rattle.std.specs.Prelude.{IfErr, IfOk, IsErrOf, Result}
 use Rattle.std.specs.Global.{Global}
 use Rattle.column_base.specs.declared.error.VortexError.{VortexError}
@@ -12,7 +12,7 @@ use Rattle.c_kernels.specs.FloatPairs.{float_pair_fault, EndsOnFloatPairs}
 use Rattle.c_kernels.proofs.FloatEndings.{Held, column_ends}
 
 -- what came of the columns of two handles ends so
-pub pairs_end : {B : Type 0} (c d out old : Held) (a b : ArrayRef Global) (outcome : Result B VortexError) (value : B → ArrayRef Global) (code : ℤ) (fields : ErrorFields) → c ≡ Some a → d ≡ Some b
+pub pairs_end : {B X : Type 0} (c d : Held) (out old : Option X) (a b : ArrayRef Global) (outcome : Result B VortexError) (value : B → X) (code : ℤ) (fields : ErrorFields) → c ≡ Some a → d ≡ Some b
     → IsRefusedBy (float_pair_fault a b) outcome → ((error : VortexError) → float_pair_fault a b ≡ Some error → IsErrOf outcome error) → IfOk outcome (λ made. (code ≡ pos 0) × (out ≡ Some (value made)))
     → IfErr outcome (λ why. (code ≡ pos (number_of why)) × (code ≢ pos 0) × (out ≡ old) × HasFields why fields) → EndsOnFloatPairs c d code fields
 pairs_end c d out old a b outcome value code fields some other refused first ok err =

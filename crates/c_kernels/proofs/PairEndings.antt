@@ -21,9 +21,9 @@ pub no_fault : {B : Type 0} (made : B) (fault : Option VortexError) (code : ℤ)
 no_fault made None code fields first is = inl is
 no_fault made (Some error) code fields first is = let other = first error refl in absurd (cc other)
 
-module _ {B : Type 0} (operator : PairOperator) (a b : ArrayRef Global) (value : B → ArrayRef Global) where
+module _ {B X : Type 0} (operator : PairOperator) (a b : ArrayRef Global) (value : B → X) where
   -- what came of two columns ends so
-  ends_so : (outcome : Result B ZipError) (code : ℤ) (fields : ErrorFields) (out old : Held)
+  ends_so : (outcome : Result B ZipError) (code : ℤ) (fields : ErrorFields) (out old : Option X)
       → IfErr outcome (IsPairRefusal (pair_fault operator a b) (row_without operator a b)) → ((error : VortexError) → pair_fault operator a b ≡ Some error → outcome ≡ Err (Refused error))
       → IfOk outcome (λ made. (code ≡ pos 0) × (out ≡ Some (value made))) → IfErr outcome (λ why. (code ≢ pos 0) × (out ≡ old) × IsToldAs why code fields)
       → EndsOnPairs operator (Some a) (Some b) code fields
@@ -32,7 +32,7 @@ module _ {B : Type 0} (operator : PairOperator) (a b : ArrayRef Global) (value :
   ends_so (Err (Overflow row)) code fields out old refused first done told = inr (record { row = row; none = refused.0; without = refused.1; told = told.2 })
 
   -- the same of columns that handles hold
-  pub outcome_ends : (c d : Held) (outcome : Result B ZipError) (code : ℤ) (fields : ErrorFields) (out old : Held) → c ≡ Some a → d ≡ Some b
+  pub outcome_ends : (c d : Held) (outcome : Result B ZipError) (code : ℤ) (fields : ErrorFields) (out old : Option X) → c ≡ Some a → d ≡ Some b
       → IfErr outcome (IsPairRefusal (pair_fault operator a b) (row_without operator a b)) → ((error : VortexError) → pair_fault operator a b ≡ Some error → outcome ≡ Err (Refused error))
       → IfOk outcome (λ made. (code ≡ pos 0) × (out ≡ Some (value made))) → IfErr outcome (λ why. (code ≢ pos 0) × (out ≡ old) × IsToldAs why code fields)
       → EndsOnPairs operator c d code fields

@@ -53,7 +53,7 @@ pub rescale_empty : (fault : Fault) (Fails : ArrayRef Global → RescaleError �
 rescale_empty fault Fails c code fields none is = subst (λ (h : Held). EndsOnRescale fault Fails h code fields) (sym none) is
 
 -- what came of a cast ends so
-module _ {B : Type 0} (value : B → ArrayRef Global) (out old : Held) (code : ℤ) (fields : ErrorFields) where
+module _ {B X : Type 0} (value : B → X) (out old : Option X) (code : ℤ) (fields : ErrorFields) where
   abbrev IsDone : B → Type 0
   IsDone made = (code ≡ pos 0) × (out ≡ Some (value made))
 
@@ -68,7 +68,7 @@ module _ {B : Type 0} (value : B → ArrayRef Global) (out old : Held) (code : �
   outcome_ends (Some error) Fails (Err why) refused first ok err =
       let other = first error refl in let same : why ≡ Refused error = cc in subst (λ (e : RescaleError). IsRescaleErrorAs e code fields) same err.2
 
-ends_held : {B : Type 0} (value : B → ArrayRef Global) (fault : Fault) (Fails : ArrayRef Global → RescaleError → Type 0) (outcome : Result B RescaleError) (c out old : Held) (a : ArrayRef Global) (code : ℤ) (fields : ErrorFields) → c ≡ Some a
+ends_held : {B X : Type 0} (value : B → X) (fault : Fault) (Fails : ArrayRef Global → RescaleError → Type 0) (outcome : Result B RescaleError) (c : Held) (out old : Option X) (a : ArrayRef Global) (code : ℤ) (fields : ErrorFields) → c ≡ Some a
     → (fault (dtype_of a) ≡ None → IfErr outcome (Fails a)) → ((error : VortexError) → fault (dtype_of a) ≡ Some error → IsErrOf outcome (Refused error))
     → IfOk outcome (λ made. (code ≡ pos 0) × (out ≡ Some (value made)))
     → IfErr outcome (λ why. (code ≢ pos 0) × (out ≡ old) × IsRescaleErrorAs why code fields) → EndsOnRescale fault Fails c code fields
@@ -76,14 +76,14 @@ ends_held value fault Fails outcome c out old a code fields some refused first o
     subst (λ (h : Held). EndsOnRescale fault Fails h code fields) (sym some) (outcome_ends value out old code fields (fault (dtype_of a)) (Fails a) outcome refused first ok err)
 
 -- of each cast
-pub decimals_end : {B : Type 0} (to : DecimalDType) (outcome : Result B RescaleError) (value : B → ArrayRef Global) (c out old : Held) (a : ArrayRef Global) (code : ℤ) (fields : ErrorFields) → c ≡ Some a
+pub decimals_end : {B X : Type 0} (to : DecimalDType) (outcome : Result B RescaleError) (value : B → X) (c : Held) (out old : Option X) (a : ArrayRef Global) (code : ℤ) (fields : ErrorFields) → c ≡ Some a
     → (exact_fault (dtype_of a) ≡ None → IfErr outcome (FailsAsDecimals to a)) → ((error : VortexError) → exact_fault (dtype_of a) ≡ Some error → IsErrOf outcome (Refused error))
     → IfOk outcome (λ made. (code ≡ pos 0) × (out ≡ Some (value made)))
     → IfErr outcome (λ why. (code ≢ pos 0) × (out ≡ old) × IsRescaleErrorAs why code fields) → EndsOnRescale exact_fault (FailsAsDecimals to) c code fields
 decimals_end to outcome value c out old a code fields some refused first ok err =
     ends_held value exact_fault (FailsAsDecimals to) outcome c out old a code fields some refused first ok err
 
-pub wholes_end : {B : Type 0} (ptype : PType) (outcome : Result B RescaleError) (value : B → ArrayRef Global) (c out old : Held) (a : ArrayRef Global) (code : ℤ) (fields : ErrorFields) → c ≡ Some a
+pub wholes_end : {B X : Type 0} (ptype : PType) (outcome : Result B RescaleError) (value : B → X) (c : Held) (out old : Option X) (a : ArrayRef Global) (code : ℤ) (fields : ErrorFields) → c ≡ Some a
     → (decimals_fault (dtype_of a) ≡ None → IfErr outcome (FailsAsWholes ptype a)) → ((error : VortexError) → decimals_fault (dtype_of a) ≡ Some error → IsErrOf outcome (Refused error))
     → IfOk outcome (λ made. (code ≡ pos 0) × (out ≡ Some (value made)))
     → IfErr outcome (λ why. (code ≢ pos 0) × (out ≡ old) × IsRescaleErrorAs why code fields) → EndsOnRescale decimals_fault (FailsAsWholes ptype) c code fields
@@ -92,9 +92,9 @@ wholes_end ptype outcome value c out old a code fields some refused first ok err
 
 -- ---- The column that a call makes ----
 
-pub rescale_made : {B : Type 0} (outcome : Result B RescaleError) (value : B → ArrayRef Global) (Made : ArrayRef Global → ArrayRef Global → Type 0) (c out old : Held) (a : ArrayRef Global) (code : ℤ) (fields : ErrorFields)
-    → c ≡ Some a → IfOk outcome (λ made. Made a (value made)) → IfOk outcome (λ made. (code ≡ pos 0) × (out ≡ Some (value made)))
-    → IfErr outcome (λ why. (code ≢ pos 0) × (out ≡ old) × IsRescaleErrorAs why code fields) → code ≡ pos 0 → WhereBoth Made c out
-rescale_made (Ok made) value Made c out old a code fields some is ok err zero =
-    subst (λ (h : Held). WhereBoth Made h out) (sym some) (subst (λ (h : Held). WhereBoth Made (Some a) h) (sym ok.1) is)
-rescale_made (Err why) value Made c out old a code fields some is ok err zero = absurd (err.0 zero)
+pub rescale_made : {B X : Type 0} (outcome : Result B RescaleError) (value : B → ArrayRef Global) (Made : ArrayRef Global → ArrayRef Global → Type 0) (c out : Held) (held old : X) (a : ArrayRef Global) (code : ℤ) (fields : ErrorFields)
+    → c ≡ Some a → IfOk outcome (λ made. Made a (value made)) → IfOk outcome (λ made. out ≡ Some (value made))
+    → IfErr outcome (λ why. (code ≢ pos 0) × (held ≡ old) × IsRescaleErrorAs why code fields) → code ≡ pos 0 → WhereBoth Made c out
+rescale_made (Ok made) value Made c out held old a code fields some is ok err zero =
+    subst (λ (h : Held). WhereBoth Made h out) (sym some) (subst (λ (h : Held). WhereBoth Made (Some a) h) (sym ok) is)
+rescale_made (Err why) value Made c out held old a code fields some is ok err zero = absurd (err.0 zero)

@@ -36,7 +36,7 @@ refused_ends : {B : Type 0} (outcome : Result B TotalError) (fault : Option Vort
 refused_ends outcome None why code fields is first refused reported = inr (as_error why OutOfMemory code fields (short_only why refused) reported.0 reported.1)
 refused_ends outcome (Some error) why code fields is first refused reported = as_error why error code fields (same_error outcome why error is (first error refl)) reported.0 reported.1
 
-module _ {B : Type 0} (a : ArrayRef Global) (ends totals : B → ArrayRef Global) (out_ends out_totals old_ends old_totals : Held) (code : ℤ) (fields : ErrorFields) where
+module _ {B X : Type 0} (a : ArrayRef Global) (ends totals : B → X) (out_ends out_totals old_ends old_totals : Option X) (code : ℤ) (fields : ErrorFields) where
   outcome_ends : (outcome : Result B TotalError) → IfErr outcome (IsTotalRefusal (dtype_of a) (rows a))
       → ((error : VortexError) → numbers_fault (dtype_of a) ≡ Some error → outcome ≡ Err (Refused error))
       → IfOk outcome (λ made. (code ≡ pos 0) × (out_ends ≡ Some (ends made)) × (out_totals ≡ Some (totals made)))
@@ -46,17 +46,17 @@ module _ {B : Type 0} (a : ArrayRef Global) (ends totals : B → ArrayRef Global
   outcome_ends (Err (Overflow run)) refused first ok err = inr (record { run = run; none = refused.0; large = refused.1; reported = err.1 })
 
 -- of a column that a handle holds
-pub totals_ends : {B : Type 0} (c : Held) (a : ArrayRef Global) (outcome : Result B TotalError) (ends totals : B → ArrayRef Global) (out_ends out_totals old_ends old_totals : Held) (code : ℤ) (fields : ErrorFields)
+pub totals_ends : {B X : Type 0} (c : Held) (a : ArrayRef Global) (outcome : Result B TotalError) (ends totals : B → X) (out_ends out_totals old_ends old_totals : Option X) (code : ℤ) (fields : ErrorFields)
     → c ≡ Some a → IfErr outcome (IsTotalRefusal (dtype_of a) (rows a)) → ((error : VortexError) → numbers_fault (dtype_of a) ≡ Some error → outcome ≡ Err (Refused error))
     → IfOk outcome (λ made. (code ≡ pos 0) × (out_ends ≡ Some (ends made)) × (out_totals ≡ Some (totals made)))
     → IfErr outcome (λ why. (code ≢ pos 0) × IsTotalError why code fields × (out_ends ≡ old_ends) × (out_totals ≡ old_totals)) → EndsOnTotals c code fields
 totals_ends c a outcome ends totals out_ends out_totals old_ends old_totals code fields some refused first ok err =
     subst (λ (h : Held). EndsOnTotals h code fields) (sym some) (outcome_ends a ends totals out_ends out_totals old_ends old_totals code fields outcome refused first ok err)
 
-pub totals_made : {B : Type 0} (c : Held) (a : ArrayRef Global) (outcome : Result B TotalError) (ends totals : B → ArrayRef Global) (out_ends out_totals old_ends old_totals : Held) (code : ℤ) (fields : ErrorFields)
-    → c ≡ Some a → IfOk outcome (λ made. AreTotals a (ends made) (totals made)) → IfOk outcome (λ made. (code ≡ pos 0) × (out_ends ≡ Some (ends made)) × (out_totals ≡ Some (totals made)))
-    → IfErr outcome (λ why. (code ≢ pos 0) × IsTotalError why code fields × (out_ends ≡ old_ends) × (out_totals ≡ old_totals)) → code ≡ pos 0 → WhereAll AreTotals c out_ends out_totals
-totals_made c a (Ok made) ends totals out_ends out_totals old_ends old_totals code fields some is ok err zero =
+pub totals_made : {B X : Type 0} (c : Held) (a : ArrayRef Global) (outcome : Result B TotalError) (ends totals : B → ArrayRef Global) (out_ends out_totals : Held) (held_ends held_totals old_ends old_totals : X) (code : ℤ) (fields : ErrorFields)
+    → c ≡ Some a → IfOk outcome (λ made. AreTotals a (ends made) (totals made)) → IfOk outcome (λ made. (out_ends ≡ Some (ends made)) × (out_totals ≡ Some (totals made)))
+    → IfErr outcome (λ why. (code ≢ pos 0) × IsTotalError why code fields × (held_ends ≡ old_ends) × (held_totals ≡ old_totals)) → code ≡ pos 0 → WhereAll AreTotals c out_ends out_totals
+totals_made c a (Ok made) ends totals out_ends out_totals held_ends held_totals old_ends old_totals code fields some is ok err zero =
     subst (λ (h : Held). WhereAll AreTotals h out_ends out_totals) (sym some)
-    (subst (λ (h : Held). WhereAll AreTotals (Some a) h out_totals) (sym ok.1) (subst (λ (h : Held). WhereAll AreTotals (Some a) (Some (ends made)) h) (sym ok.2) is))
-totals_made c a (Err why) ends totals out_ends out_totals old_ends old_totals code fields some is ok err zero = absurd (err.0 zero)
+    (subst (λ (h : Held). WhereAll AreTotals (Some a) h out_totals) (sym ok.0) (subst (λ (h : Held). WhereAll AreTotals (Some a) (Some (ends made)) h) (sym ok.1) is))
+totals_made c a (Err why) ends totals out_ends out_totals held_ends held_totals old_ends old_totals code fields some is ok err zero = absurd (err.0 zero)

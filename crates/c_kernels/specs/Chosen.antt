@@ -1,5 +1,5 @@
 -- Rows of two columns that a mask chooses: what is made of them, and how the call ends.
-use Rattle.std.specs.Prelude.{◌≡◌, ◌&&◌, ℤ, pos, length, Option, Some}
+use Rattle.std.specs.Prelude.{◌≡◌, ◌≢◌, ◌&&◌, ℕ, ℤ, pos, List, [], length, Option, Some}
 use Rattle.std.specs.Global.{Global}
 use Rattle.column_base.specs.declared.dtype.Nullability.TheVariants.{Nullable}
 use Rattle.column_base.specs.declared.error.VortexError.{VortexError}
@@ -24,6 +24,11 @@ IsChosen mask left right made =
 abbrev pub AreChosenOf : Held → Held → Held → Held → Type 0
 AreChosenOf (Some mask) (Some left) (Some right) (Some made) = IsChosen mask left right made
 AreChosenOf mask left right made = ⊥
+
+-- the format of rows that come from two columns: that of both, or none where they have two
+pub record IsCommonFormat (left right made : List ℕ) : Type 0 where
+  pub same : left ≡ right → made ≡ left
+  pub other : left ≢ right → made ≡ []
 
 -- why rows are not chosen
 abbrev pub choice_fault_of : ArrayRef Global → ArrayRef Global → ArrayRef Global → Option VortexError

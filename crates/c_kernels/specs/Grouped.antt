@@ -1,5 +1,5 @@
 -- Groups of two columns in handles: what is made of them, and how the call ends.
-use Rattle.std.specs.Prelude.{◌≡◌, ◌⊎◌, ℕ, zero, suc, ℤ, pos, List, length, map, Option, Some, None}
+use Rattle.std.specs.Prelude.{◌≡◌, ◌⊎◌, ℕ, zero, suc, ℤ, pos, List, [], length, map, Option, Some, None}
 use Rattle.std.specs.Global.{Global}
 use Rattle.column_base.specs.declared.dtype.DType.TheVariants as column
 use Rattle.column_base.specs.declared.dtype.Nullability.TheVariants.{Nullable}
@@ -32,6 +32,16 @@ fold_numbered (suc (suc (suc (suc zero)))) = Some Greatest
 fold_numbered (suc (suc (suc (suc (suc zero))))) = Some First
 fold_numbered (suc (suc (suc (suc (suc (suc zero)))))) = Some Last
 fold_numbered (suc (suc (suc (suc (suc (suc (suc k))))))) = None
+
+-- the format of the answers over values of this format: a row keeps it, and a sum or a count has none
+abbrev pub answer_format : GroupFold → List ℕ → List ℕ
+answer_format Sum format = []
+answer_format Rows format = []
+answer_format Count format = []
+answer_format Least format = format
+answer_format Greatest format = format
+answer_format First format = format
+answer_format Last format = format
 
 -- two flat columns: the keys of the groups of rows with equal neighbouring keys, and what is answered of each
 pub record AreGroups (fold : GroupFold) (keys values made_keys made_answers : ArrayRef Global) : Type 0 where

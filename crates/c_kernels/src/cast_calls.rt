@@ -1,9 +1,10 @@
 //! The casts of floats, and from and to integers, on the columns of handles.
-ghost use Rattle.std.specs.Prelude.{◌≡◌, ◌≢◌, IsSomeAnd, MatchOption, pos};
+ghost use Rattle.std.specs.Prelude.{◌≡◌, ◌≢◌, [], IsSomeAnd, MatchOption, pos};
 ghost use Rattle.column_floats.specs.Formats.{floats_fault};
 ghost use Rattle.runend_floats.specs.CastRuns.{integers_fault};
 ghost use Rattle.c_columns.specs.Ending.{WhereBoth};
 ghost use Rattle.c_columns.specs.Flags.{flag_of};
+ghost use Rattle.c_columns.specs.Handle.{array_in, format_in};
 ghost use Rattle.c_columns.specs.Kinds.{ptype_by as ptype_by_number};
 ghost use Rattle.c_kernels.specs.FloatCasts.{AreFloatsCast, AreIntegersCast, AreKeysCast, EndsOnCast, FailsAsFloats, FailsAsIntegers, FailsAsKeys, format_by};
 
@@ -29,10 +30,12 @@ pub fn cast_floats_handle(
 ) -> i32
     ensures same { floats.new.column ≡ floats.old.column }
     ensures made { result ≡ pos 0 → IsSomeAnd (format_by to)
-        (λ format. WhereBoth (AreFloatsCast (flag_of is_rounded) format) floats.old.column out.new.column) }
+        (λ format. WhereBoth (AreFloatsCast (flag_of is_rounded) format) (array_in floats.old.column)
+        (array_in out.new.column)) }
+    ensures untyped { result ≡ pos 0 → format_in out.new.column ≡ [] }
     ensures kept { result ≢ pos 0 → out.new.column ≡ out.old.column }
     ensures ended { MatchOption (format_by to) (result ≡ pos 23) (λ format. EndsOnCast floats_fault
-        (FailsAsFloats (flag_of is_rounded) format) floats.old.column result error.new) }
+        (FailsAsFloats (flag_of is_rounded) format) (array_in floats.old.column) result error.new) }
 {
     match format_numbered(to) {
         Some(format) => cast_floats_held(alloc, floats, format, is_rounded, out, error),
@@ -53,10 +56,12 @@ pub fn cast_integers_handle(
 ) -> i32
     ensures same { integers.new.column ≡ integers.old.column }
     ensures made { result ≡ pos 0 → IsSomeAnd (format_by to)
-        (λ format. WhereBoth (AreIntegersCast (flag_of is_rounded) format) integers.old.column out.new.column) }
+        (λ format. WhereBoth (AreIntegersCast (flag_of is_rounded) format) (array_in integers.old.column)
+        (array_in out.new.column)) }
+    ensures untyped { result ≡ pos 0 → format_in out.new.column ≡ [] }
     ensures kept { result ≢ pos 0 → out.new.column ≡ out.old.column }
     ensures ended { MatchOption (format_by to) (result ≡ pos 23) (λ format. EndsOnCast integers_fault
-        (FailsAsIntegers (flag_of is_rounded) format) integers.old.column result error.new) }
+        (FailsAsIntegers (flag_of is_rounded) format) (array_in integers.old.column) result error.new) }
 {
     match format_numbered(to) {
         Some(format) => cast_integers_held(alloc, integers, format, is_rounded, out, error),
@@ -76,10 +81,11 @@ pub fn cast_keys_handle(
 ) -> i32
     ensures same { floats.new.column ≡ floats.old.column }
     ensures made { result ≡ pos 0 → IsSomeAnd (ptype_by_number to)
-        (λ ptype. WhereBoth (AreKeysCast ptype) floats.old.column out.new.column) }
+        (λ ptype. WhereBoth (AreKeysCast ptype) (array_in floats.old.column) (array_in out.new.column)) }
+    ensures untyped { result ≡ pos 0 → format_in out.new.column ≡ [] }
     ensures kept { result ≢ pos 0 → out.new.column ≡ out.old.column }
     ensures ended { MatchOption (ptype_by_number to) (result ≡ pos 23) (λ ptype. EndsOnCast floats_fault
-        (FailsAsKeys ptype) floats.old.column result error.new) }
+        (FailsAsKeys ptype) (array_in floats.old.column) result error.new) }
 {
     match ptype_by(to) {
         Some(ptype) => cast_keys_held(alloc, floats, ptype, out, error),
@@ -99,16 +105,17 @@ fn cast_floats_held(
 ) -> i32
     ensures same { floats.new.column ≡ floats.old.column }
     ensures made { result ≡ pos 0 →
-        WhereBoth (AreFloatsCast (flag_of is_rounded) format) floats.old.column out.new.column }
+        WhereBoth (AreFloatsCast (flag_of is_rounded) format) (array_in floats.old.column) (array_in out.new.column) }
+    ensures untyped { result ≡ pos 0 → format_in out.new.column ≡ [] }
     ensures kept { result ≢ pos 0 → out.new.column ≡ out.old.column }
-    ensures ended { EndsOnCast floats_fault (FailsAsFloats (flag_of is_rounded) format) floats.old.column
+    ensures ended { EndsOnCast floats_fault (FailsAsFloats (flag_of is_rounded) format) (array_in floats.old.column)
         result error.new }
 {
-    let Some(array) = floats.take(alloc) else {
+    let Some(held) = floats.take(alloc) else {
         return NO_COLUMN;
     };
-    let outcome = floats_cast(alloc, &array, format, is_set(is_rounded));
-    floats.put(array);
+    let outcome = floats_cast(alloc, &held.array, format, is_set(is_rounded));
+    floats.put(held);
     answer(outcome, out, error)
 }
 
@@ -124,16 +131,19 @@ fn cast_integers_held(
 ) -> i32
     ensures same { integers.new.column ≡ integers.old.column }
     ensures made { result ≡ pos 0 →
-        WhereBoth (AreIntegersCast (flag_of is_rounded) format) integers.old.column out.new.column }
+        WhereBoth (AreIntegersCast (flag_of is_rounded) format) (array_in integers.old.column)
+        (array_in out.new.column) }
+    ensures untyped { result ≡ pos 0 → format_in out.new.column ≡ [] }
     ensures kept { result ≢ pos 0 → out.new.column ≡ out.old.column }
-    ensures ended { EndsOnCast integers_fault (FailsAsIntegers (flag_of is_rounded) format) integers.old.column
+    ensures ended { EndsOnCast integers_fault (FailsAsIntegers (flag_of is_rounded) format)
+        (array_in integers.old.column)
         result error.new }
 {
-    let Some(array) = integers.take(alloc) else {
+    let Some(held) = integers.take(alloc) else {
         return NO_COLUMN;
     };
-    let outcome = integers_cast(alloc, &array, format, is_set(is_rounded));
-    integers.put(array);
+    let outcome = integers_cast(alloc, &held.array, format, is_set(is_rounded));
+    integers.put(held);
     answer(outcome, out, error)
 }
 
@@ -147,14 +157,16 @@ fn cast_keys_held(
     error: &mut ErrorFields,
 ) -> i32
     ensures same { floats.new.column ≡ floats.old.column }
-    ensures made { result ≡ pos 0 → WhereBoth (AreKeysCast ptype) floats.old.column out.new.column }
+    ensures made { result ≡ pos 0 →
+        WhereBoth (AreKeysCast ptype) (array_in floats.old.column) (array_in out.new.column) }
+    ensures untyped { result ≡ pos 0 → format_in out.new.column ≡ [] }
     ensures kept { result ≢ pos 0 → out.new.column ≡ out.old.column }
-    ensures ended { EndsOnCast floats_fault (FailsAsKeys ptype) floats.old.column result error.new }
+    ensures ended { EndsOnCast floats_fault (FailsAsKeys ptype) (array_in floats.old.column) result error.new }
 {
-    let Some(array) = floats.take(alloc) else {
+    let Some(held) = floats.take(alloc) else {
         return NO_COLUMN;
     };
-    let outcome = keys_cast(alloc, &array, ptype);
-    floats.put(array);
+    let outcome = keys_cast(alloc, &held.array, ptype);
+    floats.put(held);
     answer(outcome, out, error)
 }

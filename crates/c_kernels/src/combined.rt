@@ -1,5 +1,6 @@
 //! The answers for the rows of two columns, on the heap.
-ghost use Rattle.std.specs.Prelude.{◌≡◌, Err, Some, IfErr, IfOk};
+ghost use Rattle.std.specs.Prelude.{◌≡◌, [], Err, Some, IfErr, IfOk};
+ghost use Rattle.typed_columns.specs.Typed.{format_of};
 ghost use Rattle.c_kernels.specs.Combined.{pair_fault, row_without, AreCombined, IsPairRefusal};
 
 use crate::operators::PairOperator;
@@ -18,7 +19,8 @@ pub fn combine(
     operator: PairOperator,
     right: &ArrayRef<Global>,
 ) -> Result<Boxed, ZipError>
-    ensures made { IfOk result (λ made. AreCombined operator left.now right.now made.value) }
+    ensures made { IfOk result (λ made. AreCombined operator left.now right.now made.value.array) }
+    ensures untyped { IfOk result (λ made. format_of made.value ≡ []) }
     ensures refused { IfErr result
         (IsPairRefusal (pair_fault operator left.now right.now) (row_without operator left.now right.now)) }
     ensures first { (error : VortexError) → pair_fault operator left.now right.now ≡ Some error →

@@ -1,6 +1,7 @@
 //! The sum of the decimals in the column of a handle.
 ghost use Rattle.std.specs.Prelude.{◌≡◌, ◌≢◌, IfErr, IfOk, IsSomeAnd, pos};
 ghost use Rattle.c_columns.specs.Flags.{byte_of};
+ghost use Rattle.c_columns.specs.Handle.{array_in};
 ghost use Rattle.c_columns.specs.Pairs.{number_in};
 ghost use Rattle.c_kernels.specs.Decimals.{EndsOnDecimals, IsDecimalSum, IsDecimalsError};
 
@@ -24,16 +25,16 @@ pub fn decimal_sum_in_handle(
     error: &mut ErrorFields,
 ) -> i32
     ensures same { column.new.column ≡ column.old.column }
-    ensures shown { result ≡ pos 0 → IsSomeAnd column.old.column (λ c. IsDecimalSum c sum.new is_empty.new) }
+    ensures shown { result ≡ pos 0 → IsSomeAnd (array_in column.old.column) (λ c. IsDecimalSum c sum.new is_empty.new) }
     ensures kept_sum { result ≢ pos 0 → sum.new ≡ sum.old }
     ensures kept_empty { result ≢ pos 0 → is_empty.new ≡ is_empty.old }
-    ensures ended { EndsOnDecimals column.old.column result error.new }
+    ensures ended { EndsOnDecimals (array_in column.old.column) result error.new }
 {
-    let Some(array) = column.take(alloc) else {
+    let Some(held) = column.take(alloc) else {
         return NO_COLUMN;
     };
-    let outcome = sum_decimals(&array, &mut plain_context(alloc));
-    column.put(array);
+    let outcome = sum_decimals(&held.array, &mut plain_context(alloc));
+    column.put(held);
     write_decimal_sum(outcome, sum, is_empty, error)
 }
 

@@ -1,7 +1,9 @@
 //! The casts to decimals, and of decimals to integers, on the columns of handles.
-ghost use Rattle.std.specs.Prelude.{◌≡◌, ◌≢◌, IfErr, IfOk, IsSomeAnd, MatchOption, Some, pos};
+ghost use Rattle.std.specs.Prelude.{◌≡◌, ◌≢◌, [], IfErr, IfOk, IsSomeAnd, MatchOption, Some, pos};
 ghost use Rattle.runend_decimals.specs.Rows.{decimals_fault};
+ghost use Rattle.typed_columns.specs.Typed.{format_of};
 ghost use Rattle.c_columns.specs.Ending.{AreFields, WhereBoth};
+ghost use Rattle.c_columns.specs.Handle.{array_in, format_in};
 ghost use Rattle.c_columns.specs.Kinds.{ptype_by as ptype_by_number};
 ghost use Rattle.c_kernels.specs.DecimalCasts.{exact_fault, AreDecimals, AreWholes, EndsOnRescale, FailsAsDecimals, FailsAsWholes, IsPrecision, IsRescaleErrorAs};
 
@@ -28,11 +30,12 @@ pub fn cast_decimals_handle(
     error: &mut ErrorFields,
 ) -> i32
     ensures same { column.new.column ≡ column.old.column }
-    ensures made { result ≡ pos 0 → WhereBoth (AreDecimals to) column.old.column out.new.column }
+    ensures made { result ≡ pos 0 → WhereBoth (AreDecimals to) (array_in column.old.column) (array_in out.new.column) }
+    ensures untyped { result ≡ pos 0 → format_in out.new.column ≡ [] }
     ensures kept { result ≢ pos 0 → out.new.column ≡ out.old.column }
     ensures digits { ¬ IsPrecision to.precision → result ≡ pos 23 }
     ensures ended { IsPrecision to.precision →
-        EndsOnRescale exact_fault (FailsAsDecimals to) column.old.column result error.new }
+        EndsOnRescale exact_fault (FailsAsDecimals to) (array_in column.old.column) result error.new }
 {
     if to.precision == 0 || to.precision > MOST_DIGITS {
         return BAD_NUMBER;
@@ -50,15 +53,16 @@ fn cast_decimals_held(
     error: &mut ErrorFields,
 ) -> i32
     ensures same { column.new.column ≡ column.old.column }
-    ensures made { result ≡ pos 0 → WhereBoth (AreDecimals to) column.old.column out.new.column }
+    ensures made { result ≡ pos 0 → WhereBoth (AreDecimals to) (array_in column.old.column) (array_in out.new.column) }
+    ensures untyped { result ≡ pos 0 → format_in out.new.column ≡ [] }
     ensures kept { result ≢ pos 0 → out.new.column ≡ out.old.column }
-    ensures ended { EndsOnRescale exact_fault (FailsAsDecimals to) column.old.column result error.new }
+    ensures ended { EndsOnRescale exact_fault (FailsAsDecimals to) (array_in column.old.column) result error.new }
 {
-    let Some(array) = column.take(alloc) else {
+    let Some(held) = column.take(alloc) else {
         return NO_COLUMN;
     };
-    let outcome = decimals_cast(alloc, &array, to);
-    column.put(array);
+    let outcome = decimals_cast(alloc, &held.array, to);
+    column.put(held);
     answer_rescale(outcome, out, error)
 }
 
@@ -74,10 +78,11 @@ pub fn cast_wholes_handle(
 ) -> i32
     ensures same { column.new.column ≡ column.old.column }
     ensures made { result ≡ pos 0 → IsSomeAnd (ptype_by_number to)
-        (λ ptype. WhereBoth (AreWholes ptype) column.old.column out.new.column) }
+        (λ ptype. WhereBoth (AreWholes ptype) (array_in column.old.column) (array_in out.new.column)) }
+    ensures untyped { result ≡ pos 0 → format_in out.new.column ≡ [] }
     ensures kept { result ≢ pos 0 → out.new.column ≡ out.old.column }
     ensures ended { MatchOption (ptype_by_number to) (result ≡ pos 23) (λ ptype. EndsOnRescale decimals_fault
-        (FailsAsWholes ptype) column.old.column result error.new) }
+        (FailsAsWholes ptype) (array_in column.old.column) result error.new) }
 {
     match ptype_by(to) {
         Some(ptype) => cast_wholes_held(alloc, column, ptype, out, error),
@@ -95,25 +100,29 @@ fn cast_wholes_held(
     error: &mut ErrorFields,
 ) -> i32
     ensures same { column.new.column ≡ column.old.column }
-    ensures made { result ≡ pos 0 → WhereBoth (AreWholes ptype) column.old.column out.new.column }
+    ensures made { result ≡ pos 0 → WhereBoth (AreWholes ptype) (array_in column.old.column) (array_in out.new.column) }
+    ensures untyped { result ≡ pos 0 → format_in out.new.column ≡ [] }
     ensures kept { result ≢ pos 0 → out.new.column ≡ out.old.column }
-    ensures ended { EndsOnRescale decimals_fault (FailsAsWholes ptype) column.old.column result error.new }
+    ensures ended { EndsOnRescale decimals_fault (FailsAsWholes ptype) (array_in column.old.column) result error.new }
 {
-    let Some(array) = column.take(alloc) else {
+    let Some(held) = column.take(alloc) else {
         return NO_COLUMN;
     };
-    let outcome = wholes_cast(alloc, &array, ptype);
-    column.put(array);
+    let outcome = wholes_cast(alloc, &held.array, ptype);
+    column.put(held);
     answer_rescale(outcome, out, error)
 }
 
 // Puts a column into `out` and returns 0, or returns the number of a refusal and writes its fields.
+#[tactic(auto, using(c_columns::proofs::Held::array_some, c_columns::proofs::Held::format_some))]
 fn answer_rescale(
     outcome: Result<Boxed, RescaleError>,
     out: &mut Handle,
     error: &mut ErrorFields,
 ) -> i32
     ensures ok { IfOk outcome (λ made. (result ≡ pos 0) × (out.new.column ≡ Some made.value)) }
+    ensures array { IfOk outcome (λ made. array_in out.new.column ≡ Some made.value.array) }
+    ensures format { IfOk outcome (λ made. format_in out.new.column ≡ format_of made.value) }
     ensures err { IfErr outcome (λ why. (result ≢ pos 0) × (out.new.column ≡ out.old.column)
         × IsRescaleErrorAs why result error.new) }
 {

@@ -1,11 +1,12 @@
 //! Columns cast to decimals, and decimals to integers, by their runs, on the heap.
-ghost use Rattle.std.specs.Prelude.{◌≡◌, IfErr, IfOk, IsErrOf, None, Some, map};
+ghost use Rattle.std.specs.Prelude.{◌≡◌, [], IfErr, IfOk, IsErrOf, None, Some, map};
 ghost use Rattle.column_base.specs.Types.{nullability_of};
 ghost use Rattle.column_base.specs.declared.dtype.DType.TheVariants as types;
 ghost use Rattle.runend_array.specs.Array.{dtype_of, rows};
 ghost use Rattle.runend_builder.specs.Encoded.{IsEncodedRows};
 ghost use Rattle.runend_decimals.specs.Rows.{decimals_fault};
 ghost use Rattle.runend_decimals.specs.declared.fault.RescaleError.TheVariants.{Refused};
+ghost use Rattle.typed_columns.specs.Typed.{format_of};
 ghost use Rattle.c_kernels.specs.DecimalCasts.{decimal_at, exact_fault, exacts_in, AllAreDecimals, AreDecimals, AreWholes, FailsAsDecimals, FailsAsWholes};
 
 use crate::float_columns::boxed_runs;
@@ -24,7 +25,8 @@ pub fn decimals_cast(
     column: &ArrayRef<Global>,
     to: DecimalDType,
 ) -> Result<Boxed, RescaleError>
-    ensures made { IfOk result (λ made. AreDecimals to column.now made.value) }
+    ensures made { IfOk result (λ made. AreDecimals to column.now made.value.array) }
+    ensures untyped { IfOk result (λ made. format_of made.value ≡ []) }
     ensures refused { exact_fault (dtype_of column.now) ≡ None → IfErr result (FailsAsDecimals to column.now) }
     ensures first { (error : VortexError) → exact_fault (dtype_of column.now) ≡ Some error →
         IsErrOf result (Refused error) }
@@ -41,7 +43,8 @@ pub fn wholes_cast(
     column: &ArrayRef<Global>,
     to: PType,
 ) -> Result<Boxed, RescaleError>
-    ensures made { IfOk result (λ made. AreWholes to column.now made.value) }
+    ensures made { IfOk result (λ made. AreWholes to column.now made.value.array) }
+    ensures untyped { IfOk result (λ made. format_of made.value ≡ []) }
     ensures refused { decimals_fault (dtype_of column.now) ≡ None → IfErr result (FailsAsWholes to column.now) }
     ensures first { (error : VortexError) → decimals_fault (dtype_of column.now) ≡ Some error →
         IsErrOf result (Refused error) }

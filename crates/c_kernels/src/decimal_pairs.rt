@@ -1,6 +1,8 @@
 //! Two columns of decimals that C holds, added, subtracted and multiplied.
-ghost use Rattle.std.specs.Prelude.{◌≡◌, ◌≢◌, Err, Some, IfErr, IfOk, IsSomeAnd, MatchOption, pos};
+ghost use Rattle.std.specs.Prelude.{◌≡◌, ◌≢◌, [], Err, Some, IfErr, IfOk, IsSomeAnd, MatchOption, pos};
+ghost use Rattle.typed_columns.specs.Typed.{format_of};
 ghost use Rattle.c_columns.specs.Ending.{WhereAll};
+ghost use Rattle.c_columns.specs.Handle.{array_in, format_in};
 ghost use Rattle.c_kernels.specs.Combined.{IsPairRefusal};
 ghost use Rattle.c_kernels.specs.DecimalPairs.{decimal_pair_fault, numeric_numbered, AreDecimalsCombined, EndsOnDecimalPairs, IsFirstPast};
 
@@ -30,10 +32,13 @@ pub fn combine_decimals(
     ensures same { left.new.column ≡ left.old.column }
     ensures same_right { right.new.column ≡ right.old.column }
     ensures made { result ≡ pos 0 → IsSomeAnd (numeric_numbered operator)
-        (λ operator. WhereAll (AreDecimalsCombined operator) left.old.column right.old.column out.new.column) }
+        (λ operator. WhereAll (AreDecimalsCombined operator) (array_in left.old.column) (array_in right.old.column)
+        (array_in out.new.column)) }
+    ensures untyped { result ≡ pos 0 → format_in out.new.column ≡ [] }
     ensures kept { result ≢ pos 0 → out.new.column ≡ out.old.column }
     ensures ended { MatchOption (numeric_numbered operator) (result ≡ pos 23)
-        (λ operator. EndsOnDecimalPairs operator left.old.column right.old.column result error.new) }
+        (λ operator. EndsOnDecimalPairs operator (array_in left.old.column)
+        (array_in right.old.column) result error.new) }
 {
     match numeric_by(operator) {
         Some(operator) => combine_held(alloc, left, operator, right, out, error),
@@ -63,20 +68,23 @@ fn combine_held(
     ensures same { left.new.column ≡ left.old.column }
     ensures same_right { right.new.column ≡ right.old.column }
     ensures made { result ≡ pos 0 →
-        WhereAll (AreDecimalsCombined operator) left.old.column right.old.column out.new.column }
+        WhereAll (AreDecimalsCombined operator) (array_in left.old.column) (array_in right.old.column)
+        (array_in out.new.column) }
+    ensures untyped { result ≡ pos 0 → format_in out.new.column ≡ [] }
     ensures kept { result ≢ pos 0 → out.new.column ≡ out.old.column }
-    ensures ended { EndsOnDecimalPairs operator left.old.column right.old.column result error.new }
+    ensures ended { EndsOnDecimalPairs operator (array_in left.old.column)
+        (array_in right.old.column) result error.new }
 {
     let Some(lent) = left.take(alloc) else {
         return NO_COLUMN;
     };
-    let Some(array) = right.take(alloc) else {
+    let Some(held) = right.take(alloc) else {
         left.put(lent);
         return NO_COLUMN;
     };
-    let outcome = combined(alloc, &lent, operator, &array);
+    let outcome = combined(alloc, &lent.array, operator, &held.array);
     left.put(lent);
-    right.put(array);
+    right.put(held);
     answer(outcome, out, error)
 }
 
@@ -87,7 +95,8 @@ fn combined(
     operator: NumericOperator,
     right: &ArrayRef<Global>,
 ) -> Result<Boxed, ZipError>
-    ensures made { IfOk result (λ made. AreDecimalsCombined operator left.now right.now made.value) }
+    ensures made { IfOk result (λ made. AreDecimalsCombined operator left.now right.now made.value.array) }
+    ensures untyped { IfOk result (λ made. format_of made.value ≡ []) }
     ensures refused { IfErr result
         (IsPairRefusal (decimal_pair_fault operator left.now right.now) (IsFirstPast operator left.now right.now)) }
     ensures first { (error : VortexError) → decimal_pair_fault operator left.now right.now ≡ Some error →

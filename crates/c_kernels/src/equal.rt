@@ -3,6 +3,7 @@ ghost use Rattle.std.specs.Prelude.{◌≡◌, ◌≢◌, IfOk, pos};
 ghost use Rattle.column_core.specs.Refusal.{IsRefusedBy};
 ghost use Rattle.c_columns.specs.Ending.{WhereBoth};
 ghost use Rattle.c_columns.specs.Flags.{Tells};
+ghost use Rattle.c_columns.specs.Handle.{array_in};
 ghost use Rattle.c_columns.specs.TwoColumns.{EndsOnTwo};
 ghost use Rattle.c_kernels.specs.Equal.{equal_fault, AreEqual};
 
@@ -26,20 +27,20 @@ pub fn equal_handles(
     ensures same { left.new.column ≡ left.old.column }
     ensures same_right { right.new.column ≡ right.old.column }
     ensures told { result ≡ pos 0 →
-        WhereBoth (λ c d. Tells truth.new (AreEqual c d)) left.old.column right.old.column }
+        WhereBoth (λ c d. Tells truth.new (AreEqual c d)) (array_in left.old.column) (array_in right.old.column) }
     ensures kept { result ≢ pos 0 → truth.new ≡ truth.old }
-    ensures ended { EndsOnTwo equal_fault left.old.column right.old.column result error.new }
+    ensures ended { EndsOnTwo equal_fault (array_in left.old.column) (array_in right.old.column) result error.new }
 {
     let Some(lent) = left.take(alloc) else {
         return NO_COLUMN;
     };
-    let Some(array) = right.take(alloc) else {
+    let Some(held) = right.take(alloc) else {
         left.put(lent);
         return NO_COLUMN;
     };
-    let outcome = are_equal(alloc, &lent, &array);
+    let outcome = are_equal(alloc, &lent.array, &held.array);
     left.put(lent);
-    right.put(array);
+    right.put(held);
     write_answer(outcome, truth, error)
 }
 

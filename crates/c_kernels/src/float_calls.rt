@@ -1,8 +1,9 @@
 //! The calls on the columns of handles.
-ghost use Rattle.std.specs.Prelude.{◌≡◌, ◌≢◌, IsSomeAnd, MatchOption, pos};
+ghost use Rattle.std.specs.Prelude.{◌≡◌, ◌≢◌, [], IsSomeAnd, MatchOption, pos};
 ghost use Rattle.column_floats.specs.Formats.{bits_fault, constant_fault, doubles_fault, floats_fault};
 ghost use Rattle.c_columns.specs.Ending.{WhereBoth};
 ghost use Rattle.c_columns.specs.Flags.{flag_of};
+ghost use Rattle.c_columns.specs.Handle.{array_in, format_in};
 ghost use Rattle.c_columns.specs.Kinds.{operator_by};
 ghost use Rattle.c_kernels.specs.Floats.{AreBitsOf, AreComparedBy, AreExtremesShown, AreFloatsOf, EndsOnFloats, EndsOnLookUp, IsFloatAt, IsSumShown};
 
@@ -28,15 +29,17 @@ pub fn encode_handle(
     error: &mut ErrorFields,
 ) -> i32
     ensures same { bits.new.column ≡ bits.old.column }
-    ensures made { result ≡ pos 0 → WhereBoth (AreFloatsOf (flag_of is_canonical)) bits.old.column out.new.column }
+    ensures made { result ≡ pos 0 →
+        WhereBoth (AreFloatsOf (flag_of is_canonical)) (array_in bits.old.column) (array_in out.new.column) }
+    ensures untyped { result ≡ pos 0 → format_in out.new.column ≡ [] }
     ensures kept { result ≢ pos 0 → out.new.column ≡ out.old.column }
-    ensures ended { EndsOnFloats bits_fault bits.old.column result error.new }
+    ensures ended { EndsOnFloats bits_fault (array_in bits.old.column) result error.new }
 {
-    let Some(array) = bits.take(alloc) else {
+    let Some(held) = bits.take(alloc) else {
         return NO_COLUMN;
     };
-    let outcome = encoded(alloc, &array, is_set(is_canonical));
-    bits.put(array);
+    let outcome = encoded(alloc, &held.array, is_set(is_canonical));
+    bits.put(held);
     answer(outcome, out, error)
 }
 
@@ -50,15 +53,16 @@ pub fn decode_handle(
     error: &mut ErrorFields,
 ) -> i32
     ensures same { floats.new.column ≡ floats.old.column }
-    ensures made { result ≡ pos 0 → WhereBoth AreBitsOf floats.old.column out.new.column }
+    ensures made { result ≡ pos 0 → WhereBoth AreBitsOf (array_in floats.old.column) (array_in out.new.column) }
+    ensures untyped { result ≡ pos 0 → format_in out.new.column ≡ [] }
     ensures kept { result ≢ pos 0 → out.new.column ≡ out.old.column }
-    ensures ended { EndsOnFloats floats_fault floats.old.column result error.new }
+    ensures ended { EndsOnFloats floats_fault (array_in floats.old.column) result error.new }
 {
-    let Some(array) = floats.take(alloc) else {
+    let Some(held) = floats.take(alloc) else {
         return NO_COLUMN;
     };
-    let outcome = decoded(alloc, &array);
-    floats.put(array);
+    let outcome = decoded(alloc, &held.array);
+    floats.put(held);
     answer(outcome, out, error)
 }
 
@@ -76,10 +80,12 @@ pub fn compare_handle(
 ) -> i32
     ensures same { floats.new.column ≡ floats.old.column }
     ensures made { result ≡ pos 0 → IsSomeAnd (operator_by operator)
-        (λ op. WhereBoth (AreComparedBy (flag_of is_ieee) op bits) floats.old.column out.new.column) }
+        (λ op. WhereBoth (AreComparedBy (flag_of is_ieee) op bits) (array_in floats.old.column)
+        (array_in out.new.column)) }
+    ensures untyped { result ≡ pos 0 → format_in out.new.column ≡ [] }
     ensures kept { result ≢ pos 0 → out.new.column ≡ out.old.column }
     ensures ended { MatchOption (operator_by operator) (result ≡ pos 23)
-        (λ op. EndsOnFloats (λ dtype. constant_fault dtype bits) floats.old.column result error.new) }
+        (λ op. EndsOnFloats (λ dtype. constant_fault dtype bits) (array_in floats.old.column) result error.new) }
 {
     match operator_by(operator) {
         Some(operator) => compare_held(alloc, floats, operator, bits, is_ieee, out, error),
@@ -99,16 +105,17 @@ pub fn float_in_handle(
     error: &mut ErrorFields,
 ) -> i32
     ensures same { floats.new.column ≡ floats.old.column }
-    ensures shown { result ≡ pos 0 → IsSomeAnd floats.old.column (λ c. IsFloatAt row c is_valid.new bits.new) }
+    ensures shown { result ≡ pos 0 →
+        IsSomeAnd (array_in floats.old.column) (λ c. IsFloatAt row c is_valid.new bits.new) }
     ensures kept_valid { result ≢ pos 0 → is_valid.new ≡ is_valid.old }
     ensures kept_bits { result ≢ pos 0 → bits.new ≡ bits.old }
-    ensures ended { EndsOnLookUp row floats.old.column result error.new }
+    ensures ended { EndsOnLookUp row (array_in floats.old.column) result error.new }
 {
-    let Some(array) = floats.take(alloc) else {
+    let Some(held) = floats.take(alloc) else {
         return NO_COLUMN;
     };
-    let outcome = float_of_row(&array, row);
-    floats.put(array);
+    let outcome = float_of_row(&held.array, row);
+    floats.put(held);
     write_float(outcome, is_valid, bits, error)
 }
 
@@ -126,18 +133,18 @@ pub fn min_max_in_handle(
     error: &mut ErrorFields,
 ) -> i32
     ensures same { floats.new.column ≡ floats.old.column }
-    ensures shown { result ≡ pos 0 → IsSomeAnd floats.old.column
+    ensures shown { result ≡ pos 0 → IsSomeAnd (array_in floats.old.column)
         (λ c. AreExtremesShown (flag_of is_ieee) c is_found.new least.new greatest.new) }
     ensures kept_found { result ≢ pos 0 → is_found.new ≡ is_found.old }
     ensures kept_least { result ≢ pos 0 → least.new ≡ least.old }
     ensures kept_greatest { result ≢ pos 0 → greatest.new ≡ greatest.old }
-    ensures ended { EndsOnFloats floats_fault floats.old.column result error.new }
+    ensures ended { EndsOnFloats floats_fault (array_in floats.old.column) result error.new }
 {
-    let Some(array) = floats.take(alloc) else {
+    let Some(held) = floats.take(alloc) else {
         return NO_COLUMN;
     };
-    let outcome = extremes(alloc, &array, is_set(is_ieee));
-    floats.put(array);
+    let outcome = extremes(alloc, &held.array, is_set(is_ieee));
+    floats.put(held);
     write_extremes(outcome, is_found, least, greatest, error)
 }
 
@@ -153,16 +160,16 @@ pub fn sum_in_handle(
     error: &mut ErrorFields,
 ) -> i32
     ensures same { floats.new.column ≡ floats.old.column }
-    ensures shown { result ≡ pos 0 → IsSomeAnd floats.old.column (λ c. IsSumShown c count.new bits.new) }
+    ensures shown { result ≡ pos 0 → IsSomeAnd (array_in floats.old.column) (λ c. IsSumShown c count.new bits.new) }
     ensures kept_count { result ≢ pos 0 → count.new ≡ count.old }
     ensures kept_bits { result ≢ pos 0 → bits.new ≡ bits.old }
-    ensures ended { EndsOnFloats doubles_fault floats.old.column result error.new }
+    ensures ended { EndsOnFloats doubles_fault (array_in floats.old.column) result error.new }
 {
-    let Some(array) = floats.take(alloc) else {
+    let Some(held) = floats.take(alloc) else {
         return NO_COLUMN;
     };
-    let outcome = sum_of(alloc, &array);
-    floats.put(array);
+    let outcome = sum_of(alloc, &held.array);
+    floats.put(held);
     write_sum(outcome, count, bits, error)
 }
 
@@ -179,14 +186,16 @@ fn compare_held(
 ) -> i32
     ensures same { floats.new.column ≡ floats.old.column }
     ensures made { result ≡ pos 0 →
-        WhereBoth (AreComparedBy (flag_of is_ieee) operator bits) floats.old.column out.new.column }
+        WhereBoth (AreComparedBy (flag_of is_ieee) operator bits) (array_in floats.old.column)
+        (array_in out.new.column) }
+    ensures untyped { result ≡ pos 0 → format_in out.new.column ≡ [] }
     ensures kept { result ≢ pos 0 → out.new.column ≡ out.old.column }
-    ensures ended { EndsOnFloats (λ dtype. constant_fault dtype bits) floats.old.column result error.new }
+    ensures ended { EndsOnFloats (λ dtype. constant_fault dtype bits) (array_in floats.old.column) result error.new }
 {
-    let Some(array) = floats.take(alloc) else {
+    let Some(held) = floats.take(alloc) else {
         return NO_COLUMN;
     };
-    let outcome = compared(alloc, &array, operator, bits, is_set(is_ieee));
-    floats.put(array);
+    let outcome = compared(alloc, &held.array, operator, bits, is_set(is_ieee));
+    floats.put(held);
     answer(outcome, out, error)
 }

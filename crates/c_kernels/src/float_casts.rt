@@ -1,8 +1,9 @@
 //! Columns cast by their runs, on the heap: floats to another format, integers to floats, floats to integers.
-ghost use Rattle.std.specs.Prelude.{◌≡◌, IfErr, IfOk, IsErrOf, None, Some};
+ghost use Rattle.std.specs.Prelude.{◌≡◌, [], IfErr, IfOk, IsErrOf, None, Some};
 ghost use Rattle.column_floats.specs.Formats.{floats_fault};
 ghost use Rattle.runend_array.specs.Array.{dtype_of};
 ghost use Rattle.runend_floats.specs.CastRuns.{integers_fault};
+ghost use Rattle.typed_columns.specs.Typed.{format_of};
 ghost use Rattle.c_kernels.specs.FloatCasts.{AreFloatsCast, AreIntegersCast, AreKeysCast, FailsAsFloats, FailsAsIntegers, FailsAsKeys, format_by};
 
 use crate::float_columns::boxed_runs;
@@ -26,7 +27,8 @@ pub fn floats_cast(
     to: FloatFormat,
     is_rounded: bool,
 ) -> VortexResult<Boxed>
-    ensures made { IfOk result (λ made. AreFloatsCast is_rounded to floats.now made.value) }
+    ensures made { IfOk result (λ made. AreFloatsCast is_rounded to floats.now made.value.array) }
+    ensures untyped { IfOk result (λ made. format_of made.value ≡ []) }
     ensures refused { floats_fault (dtype_of floats.now) ≡ None →
         IfErr result (FailsAsFloats is_rounded to floats.now) }
     ensures first { (error : VortexError) → floats_fault (dtype_of floats.now) ≡ Some error → IsErrOf result error }
@@ -49,7 +51,8 @@ pub fn integers_cast(
     to: FloatFormat,
     is_rounded: bool,
 ) -> VortexResult<Boxed>
-    ensures made { IfOk result (λ made. AreIntegersCast is_rounded to integers.now made.value) }
+    ensures made { IfOk result (λ made. AreIntegersCast is_rounded to integers.now made.value.array) }
+    ensures untyped { IfOk result (λ made. format_of made.value ≡ []) }
     ensures refused { integers_fault (dtype_of integers.now) ≡ None →
         IfErr result (FailsAsIntegers is_rounded to integers.now) }
     ensures first { (error : VortexError) → integers_fault (dtype_of integers.now) ≡ Some error →
@@ -68,7 +71,8 @@ pub fn integers_cast(
 /// integer of the type wanted, else only as `OutOfMemory`.
 #[tactic(auto, using(crate::proofs::FloatEndings::no_floats, crate::proofs::CastEndings::keys_boxed, crate::proofs::CastEndings::keys_fail, crate::proofs::CastEndings::keys_box_fails))]
 pub fn keys_cast(alloc: Global, floats: &ArrayRef<Global>, to: PType) -> VortexResult<Boxed>
-    ensures made { IfOk result (λ made. AreKeysCast to floats.now made.value) }
+    ensures made { IfOk result (λ made. AreKeysCast to floats.now made.value.array) }
+    ensures untyped { IfOk result (λ made. format_of made.value ≡ []) }
     ensures refused { floats_fault (dtype_of floats.now) ≡ None → IfErr result (FailsAsKeys to floats.now) }
     ensures first { (error : VortexError) → floats_fault (dtype_of floats.now) ≡ Some error → IsErrOf result error }
 {

@@ -1,9 +1,10 @@
 //! Columns that are made of columns of floats or of their bits, on the heap.
-ghost use Rattle.std.specs.Prelude.{◌≡◌, IfOk, IsErrOf, IsOkUnless, Some};
+ghost use Rattle.std.specs.Prelude.{◌≡◌, [], IfOk, IsErrOf, IsOkUnless, Some};
 ghost use Rattle.column_core.specs.Refusal.{IsRefusedBy};
 ghost use Rattle.column_floats.specs.Formats.{bits_fault, constant_fault, floats_fault};
 ghost use Rattle.runend_array.specs.Array.{column_of, dtype_of};
 ghost use Rattle.runend_array.specs.Column.{column_of_runs};
+ghost use Rattle.typed_columns.specs.Typed.{format_of};
 ghost use Rattle.c_kernels.specs.Floats.{AreBitsOf, AreComparedBy, AreFloatsOf, patterns_by};
 
 use c_columns::flat::{Boxed, boxed};
@@ -19,7 +20,8 @@ use std::alloc::Global;
 /// any memory is taken, else only as `OutOfMemory`.
 #[tactic(auto, using(crate::proofs::FloatEndings::no_bits))]
 pub fn encoded(alloc: Global, bits: &ArrayRef<Global>, is_canonical: bool) -> VortexResult<Boxed>
-    ensures made { IfOk result (λ made. AreFloatsOf is_canonical bits.now made.value) }
+    ensures made { IfOk result (λ made. AreFloatsOf is_canonical bits.now made.value.array) }
+    ensures untyped { IfOk result (λ made. format_of made.value ≡ []) }
     ensures refused { IsRefusedBy (bits_fault (dtype_of bits.now)) result }
     ensures first { (error : VortexError) → bits_fault (dtype_of bits.now) ≡ Some error → IsErrOf result error }
 {
@@ -32,7 +34,8 @@ pub fn encoded(alloc: Global, bits: &ArrayRef<Global>, is_canonical: bool) -> Vo
 /// `i16`, `i32` or `i64`, before any memory is taken, else only as `OutOfMemory`.
 #[tactic(auto, using(crate::proofs::FloatEndings::no_floats))]
 pub fn decoded(alloc: Global, floats: &ArrayRef<Global>) -> VortexResult<Boxed>
-    ensures made { IfOk result (λ made. AreBitsOf floats.now made.value) }
+    ensures made { IfOk result (λ made. AreBitsOf floats.now made.value.array) }
+    ensures untyped { IfOk result (λ made. format_of made.value ≡ []) }
     ensures refused { IsRefusedBy (floats_fault (dtype_of floats.now)) result }
     ensures first { (error : VortexError) → floats_fault (dtype_of floats.now) ≡ Some error → IsErrOf result error }
 {
@@ -50,7 +53,8 @@ pub fn compared(
     bits: u64,
     is_ieee: bool,
 ) -> VortexResult<Boxed>
-    ensures made { IfOk result (λ made. AreComparedBy is_ieee operator bits floats.now made.value) }
+    ensures made { IfOk result (λ made. AreComparedBy is_ieee operator bits floats.now made.value.array) }
+    ensures untyped { IfOk result (λ made. format_of made.value ≡ []) }
     ensures refused { IsRefusedBy (constant_fault (dtype_of floats.now) bits) result }
     ensures first { (error : VortexError) → constant_fault (dtype_of floats.now) bits ≡ Some error →
         IsErrOf result error }
@@ -66,7 +70,8 @@ pub fn compared(
 /// Puts a run column on the heap. Refused only as `OutOfMemory`.
 pub(crate) fn boxed_runs(alloc: Global, runs: RunEndArray<Global>) -> VortexResult<Boxed>
     ensures only { IsOkUnless result VortexError.OutOfMemory }
-    ensures form { IfOk result (λ made. column_of made.value ≡ column_of_runs runs) }
+    ensures form { IfOk result (λ made. column_of made.value.array ≡ column_of_runs runs) }
+    ensures untyped { IfOk result (λ made. format_of made.value ≡ []) }
 {
     boxed(alloc, ArrayRef::of_runs(alloc, runs)?)
 }

@@ -1,7 +1,9 @@
 //! Two columns of floats worked row by row, and the call on their handles.
-ghost use Rattle.std.specs.Prelude.{◌≡◌, ◌≢◌, IfOk, IsErrOf, IsSomeAnd, MatchOption, Some, pos};
+ghost use Rattle.std.specs.Prelude.{◌≡◌, ◌≢◌, [], IfOk, IsErrOf, IsSomeAnd, MatchOption, Some, pos};
 ghost use Rattle.column_core.specs.Refusal.{IsRefusedBy};
+ghost use Rattle.typed_columns.specs.Typed.{format_of};
 ghost use Rattle.c_columns.specs.Ending.{WhereAll};
+ghost use Rattle.c_columns.specs.Handle.{array_in, format_in};
 ghost use Rattle.c_kernels.specs.FloatPairs.{float_operator_numbered, float_pair_fault, AreFloatsCombined, EndsOnFloatPairs};
 
 use c_columns::commands::answer;
@@ -28,10 +30,12 @@ pub fn combine_float_handles(
     ensures same { left.new.column ≡ left.old.column }
     ensures same_right { right.new.column ≡ right.old.column }
     ensures made { result ≡ pos 0 → IsSomeAnd (float_operator_numbered operator)
-        (λ operator. WhereAll (AreFloatsCombined operator) left.old.column right.old.column out.new.column) }
+        (λ operator. WhereAll (AreFloatsCombined operator) (array_in left.old.column) (array_in right.old.column)
+        (array_in out.new.column)) }
+    ensures untyped { result ≡ pos 0 → format_in out.new.column ≡ [] }
     ensures kept { result ≢ pos 0 → out.new.column ≡ out.old.column }
     ensures ended { MatchOption (float_operator_numbered operator) (result ≡ pos 23)
-        (λ operator. EndsOnFloatPairs left.old.column right.old.column result error.new) }
+        (λ operator. EndsOnFloatPairs (array_in left.old.column) (array_in right.old.column) result error.new) }
 {
     match float_operator_by(operator) {
         Some(operator) => combine_floats_held(alloc, left, operator, right, out, error),
@@ -61,7 +65,8 @@ pub fn floats_combined(
     operator: FloatOperator,
     right: &ArrayRef<Global>,
 ) -> VortexResult<Boxed>
-    ensures made { IfOk result (λ made. AreFloatsCombined operator left.now right.now made.value) }
+    ensures made { IfOk result (λ made. AreFloatsCombined operator left.now right.now made.value.array) }
+    ensures untyped { IfOk result (λ made. format_of made.value ≡ []) }
     ensures refused { IsRefusedBy (float_pair_fault left.now right.now) result }
     ensures first { (error : VortexError) → float_pair_fault left.now right.now ≡ Some error → IsErrOf result error }
 {
@@ -81,19 +86,21 @@ fn combine_floats_held(
     ensures same { left.new.column ≡ left.old.column }
     ensures same_right { right.new.column ≡ right.old.column }
     ensures made { result ≡ pos 0 →
-        WhereAll (AreFloatsCombined operator) left.old.column right.old.column out.new.column }
+        WhereAll (AreFloatsCombined operator) (array_in left.old.column) (array_in right.old.column)
+        (array_in out.new.column) }
+    ensures untyped { result ≡ pos 0 → format_in out.new.column ≡ [] }
     ensures kept { result ≢ pos 0 → out.new.column ≡ out.old.column }
-    ensures ended { EndsOnFloatPairs left.old.column right.old.column result error.new }
+    ensures ended { EndsOnFloatPairs (array_in left.old.column) (array_in right.old.column) result error.new }
 {
     let Some(lent) = left.take(alloc) else {
         return NO_COLUMN;
     };
-    let Some(array) = right.take(alloc) else {
+    let Some(held) = right.take(alloc) else {
         left.put(lent);
         return NO_COLUMN;
     };
-    let outcome = floats_combined(alloc, &lent, operator, &array);
+    let outcome = floats_combined(alloc, &lent.array, operator, &held.array);
     left.put(lent);
-    right.put(array);
+    right.put(held);
     answer(outcome, out, error)
 }

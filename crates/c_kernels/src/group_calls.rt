@@ -1,6 +1,8 @@
 //! The call on the columns of two handles.
 ghost use Rattle.std.specs.Prelude.{◌≡◌, ◌≢◌, IfErr, IfOk, IsSomeAnd, MatchOption, Some, pos};
-ghost use Rattle.c_kernels.specs.Grouped.{fold_numbered, AreMade, EndsOnGroups, IsToldAs};
+ghost use Rattle.typed_columns.specs.Typed.{format_of};
+ghost use Rattle.c_columns.specs.Handle.{array_in, format_in};
+ghost use Rattle.c_kernels.specs.Grouped.{answer_format, fold_numbered, AreMade, EndsOnGroups, IsToldAs};
 
 use crate::grouped::{BoxedGroups, groups_of};
 use crate::named::fold_named;
@@ -25,11 +27,15 @@ pub fn fold_handles(
     ensures same { keys.new.column ≡ keys.old.column }
     ensures same_values { values.new.column ≡ values.old.column }
     ensures made { result ≡ pos 0 → IsSomeAnd (fold_numbered fold)
-        (λ fold. AreMade fold keys.old.column values.old.column out_keys.new.column out_answers.new.column) }
+        (λ fold. AreMade fold (array_in keys.old.column) (array_in values.old.column) (array_in out_keys.new.column)
+        (array_in out_answers.new.column)) }
+    ensures typed { result ≡ pos 0 → format_in out_keys.new.column ≡ format_in keys.old.column }
+    ensures typed_answers { result ≡ pos 0 → IsSomeAnd (fold_numbered fold)
+        (λ fold. format_in out_answers.new.column ≡ answer_format fold (format_in values.old.column)) }
     ensures kept { result ≢ pos 0 → out_keys.new.column ≡ out_keys.old.column }
     ensures kept_answers { result ≢ pos 0 → out_answers.new.column ≡ out_answers.old.column }
     ensures ended { MatchOption (fold_numbered fold) (result ≡ pos 23)
-        (λ fold. EndsOnGroups fold keys.old.column values.old.column result error.new) }
+        (λ fold. EndsOnGroups fold (array_in keys.old.column) (array_in values.old.column) result error.new) }
 {
     match fold_named(fold) {
         Some(fold) => fold_held(alloc, keys, values, fold, out_keys, out_answers, error),
@@ -50,25 +56,30 @@ fn fold_held(
     ensures same { keys.new.column ≡ keys.old.column }
     ensures same_values { values.new.column ≡ values.old.column }
     ensures made { result ≡ pos 0 →
-        AreMade fold keys.old.column values.old.column out_keys.new.column out_answers.new.column }
+        AreMade fold (array_in keys.old.column) (array_in values.old.column) (array_in out_keys.new.column)
+        (array_in out_answers.new.column) }
+    ensures typed { result ≡ pos 0 → format_in out_keys.new.column ≡ format_in keys.old.column }
+    ensures typed_answers { result ≡ pos 0 →
+        format_in out_answers.new.column ≡ answer_format fold (format_in values.old.column) }
     ensures kept { result ≢ pos 0 → out_keys.new.column ≡ out_keys.old.column }
     ensures kept_answers { result ≢ pos 0 → out_answers.new.column ≡ out_answers.old.column }
-    ensures ended { EndsOnGroups fold keys.old.column values.old.column result error.new }
+    ensures ended { EndsOnGroups fold (array_in keys.old.column) (array_in values.old.column) result error.new }
 {
     let Some(lent) = keys.take(alloc) else {
         return NO_COLUMN;
     };
-    let Some(array) = values.take(alloc) else {
+    let Some(held) = values.take(alloc) else {
         keys.put(lent);
         return NO_COLUMN;
     };
-    let outcome = groups_of(alloc, fold, &lent, &array);
+    let outcome = groups_of(alloc, fold, &lent, &held);
     keys.put(lent);
-    values.put(array);
+    values.put(held);
     answer(outcome, out_keys, out_answers, error)
 }
 
 // Puts both columns into their handles and answers 0, or answers the number of a refusal and writes its fields.
+#[tactic(auto, using(c_columns::proofs::Held::array_some, c_columns::proofs::Held::format_some))]
 fn answer(
     outcome: Result<BoxedGroups, GroupError>,
     out_keys: &mut Handle,
@@ -77,6 +88,10 @@ fn answer(
 ) -> i32
     ensures ok { IfOk outcome (λ made. (result ≡ pos 0) × (out_keys.new.column ≡ Some made.keys.value)
         × (out_answers.new.column ≡ Some made.answers.value)) }
+    ensures arrays { IfOk outcome (λ made. (array_in out_keys.new.column ≡ Some made.keys.value.array)
+        × (array_in out_answers.new.column ≡ Some made.answers.value.array)) }
+    ensures formats { IfOk outcome (λ made. (format_in out_keys.new.column ≡ format_of made.keys.value)
+        × (format_in out_answers.new.column ≡ format_of made.answers.value)) }
     ensures err { IfErr outcome (λ why. (result ≢ pos 0) × (out_keys.new.column ≡ out_keys.old.column)
         × (out_answers.new.column ≡ out_answers.old.column) × IsToldAs why result error.new) }
 {

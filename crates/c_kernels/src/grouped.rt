@@ -1,14 +1,16 @@
 //! Groups of two columns, on the heap.
-ghost use Rattle.std.specs.Prelude.{◌≡◌, Err, Some, IfErr, IfOk};
+ghost use Rattle.std.specs.Prelude.{◌≡◌, Err, Some, IfErr, IfOk, IsOkUnless};
 ghost use Rattle.runend_pairs.specs.GroupFaults.{IsGroupRefusal};
-ghost use Rattle.c_kernels.specs.Grouped.{group_fault, large_in, AreGroups};
+ghost use Rattle.typed_columns.specs.Typed.{format_of};
+ghost use Rattle.c_kernels.specs.Grouped.{answer_format, group_fault, large_in, AreGroups};
 
-use c_columns::flat::{Boxed, boxed};
+use c_columns::flat::{Boxed, boxed, boxed_like};
 use c_columns::sessions::plain_context;
-use column_core::VortexError;
+use column_core::{VortexError, VortexResult};
 use runend_array::{ArrayRef, array_of};
 use runend_pairs::{GroupError, GroupFold, Groups, fold_by};
 use std::alloc::Global;
+use typed_columns::TypedColumn;
 
 /// Holds the key and the answer of each group, as two columns on the heap.
 #[derive(Drop)]
@@ -17,35 +19,40 @@ pub struct BoxedGroups {
     pub answers: Boxed,
 }
 
-/// Returns the keys of the groups of rows with equal neighbouring keys, and what is asked of the values in each, both
-/// flat. Refused as `fold_by` refuses, and for memory.
+/// Returns the keys of the groups of rows with equal neighbouring keys, under the format of the keys, and what is asked
+/// of the values in each, under that of the values where it is one of them. Both are flat. Refused as `fold_by`
+/// refuses, and for memory.
 pub fn groups_of(
     alloc: Global,
     fold: GroupFold,
-    keys: &ArrayRef<Global>,
-    values: &ArrayRef<Global>,
+    keys: &TypedColumn<Global>,
+    values: &TypedColumn<Global>,
 ) -> Result<BoxedGroups, GroupError>
-    ensures made { IfOk result (λ made. AreGroups fold keys.now values.now made.keys.value made.answers.value) }
-    ensures refused { IfErr result
-        (IsGroupRefusal (group_fault keys.now values.now) (large_in fold keys.now values.now)) }
-    ensures first { (error : VortexError) → group_fault keys.now values.now ≡ Some error →
+    ensures made { IfOk result (λ made. AreGroups fold keys.now.array values.now.array
+        made.keys.value.array made.answers.value.array) }
+    ensures typed { IfOk result (λ made. format_of made.keys.value ≡ format_of keys.now) }
+    ensures typed_answers { IfOk result
+        (λ made. format_of made.answers.value ≡ answer_format fold (format_of values.now)) }
+    ensures refused { IfErr result (IsGroupRefusal (group_fault keys.now.array values.now.array)
+        (large_in fold keys.now.array values.now.array)) }
+    ensures first { (error : VortexError) → group_fault keys.now.array values.now.array ≡ Some error →
         result ≡ Err (GroupError.Refused error) }
 {
-    let folded = fold_by(keys, values, fold, &mut plain_context(alloc))?;
+    let folded = fold_by(&keys.array, &values.array, fold, &mut plain_context(alloc))?;
     let Groups {
         ends,
         keys: group_keys,
         answers,
     } = folded;
     drop(ends);
-    let group_keys = match boxed(alloc, array_of(group_keys)) {
+    let group_keys = match boxed_like(alloc, array_of(group_keys), keys) {
         Ok(group_keys) => group_keys,
         Err(error) => {
             drop(answers);
             return Err(GroupError::Refused(error));
         }
     };
-    let answers = match boxed(alloc, ArrayRef::Primitive(answers)) {
+    let answers = match boxed_answers(alloc, fold, ArrayRef::Primitive(answers), values) {
         Ok(answers) => answers,
         Err(error) => {
             drop(group_keys);
@@ -56,4 +63,26 @@ pub fn groups_of(
         keys: group_keys,
         answers,
     })
+}
+
+// Puts the answers on the heap: rows of the values keep the format of the values, and sums and counts have none.
+fn boxed_answers(
+    alloc: Global,
+    fold: GroupFold,
+    answers: ArrayRef<Global>,
+    values: &TypedColumn<Global>,
+) -> VortexResult<Boxed>
+    ensures only { IsOkUnless result VortexError.OutOfMemory }
+    ensures column { IfOk result (λ made. made.value.array ≡ answers) }
+    ensures typed { IfOk result (λ made. format_of made.value ≡ answer_format fold (format_of values.now)) }
+{
+    match fold {
+        GroupFold::Sum => boxed(alloc, answers),
+        GroupFold::Rows => boxed(alloc, answers),
+        GroupFold::Count => boxed(alloc, answers),
+        GroupFold::Least => boxed_like(alloc, answers, values),
+        GroupFold::Greatest => boxed_like(alloc, answers, values),
+        GroupFold::First => boxed_like(alloc, answers, values),
+        GroupFold::Last => boxed_like(alloc, answers, values),
+    }
 }

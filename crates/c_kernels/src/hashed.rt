@@ -3,6 +3,7 @@ ghost use Rattle.std.specs.Prelude.{◌≡◌, ◌≢◌, IfOk, IsSomeAnd, pos};
 ghost use Rattle.column_core.specs.Kinds.{list_fault};
 ghost use Rattle.column_core.specs.Refusal.{IsRefusedBy};
 ghost use Rattle.runend_array.specs.Array.{dtype_of};
+ghost use Rattle.c_columns.specs.Handle.{array_in};
 ghost use Rattle.c_kernels.specs.Hashed.{EndsOnHash, HasHash};
 
 use c_columns::error_fields::{ErrorFields, NO_COLUMN, write_answer};
@@ -22,15 +23,15 @@ pub fn hash_handle(
     error: &mut ErrorFields,
 ) -> i32
     ensures same { column.new.column ≡ column.old.column }
-    ensures told { result ≡ pos 0 → IsSomeAnd column.old.column (λ c. HasHash c hash.new) }
+    ensures told { result ≡ pos 0 → IsSomeAnd (array_in column.old.column) (λ c. HasHash c hash.new) }
     ensures kept { result ≢ pos 0 → hash.new ≡ hash.old }
-    ensures ended { EndsOnHash column.old.column result error.new }
+    ensures ended { EndsOnHash (array_in column.old.column) result error.new }
 {
-    let Some(array) = column.take(alloc) else {
+    let Some(held) = column.take(alloc) else {
         return NO_COLUMN;
     };
-    let outcome = hash_of(alloc, &array);
-    column.put(array);
+    let outcome = hash_of(alloc, &held.array);
+    column.put(held);
     write_answer(outcome, hash, error)
 }
 

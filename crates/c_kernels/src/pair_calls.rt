@@ -1,6 +1,8 @@
 //! The call on the columns of two handles.
-ghost use Rattle.std.specs.Prelude.{◌≡◌, ◌≢◌, IfErr, IfOk, IsSomeAnd, MatchOption, Some, pos};
+ghost use Rattle.std.specs.Prelude.{◌≡◌, ◌≢◌, [], IfErr, IfOk, IsSomeAnd, MatchOption, Some, pos};
+ghost use Rattle.typed_columns.specs.Typed.{format_of};
 ghost use Rattle.c_columns.specs.Ending.{WhereAll};
+ghost use Rattle.c_columns.specs.Handle.{array_in, format_in};
 ghost use Rattle.c_kernels.specs.Combined.{operator_numbered, AreCombined, EndsOnPairs, IsToldAs};
 
 use crate::combined::combine;
@@ -27,10 +29,12 @@ pub fn combine_handles(
     ensures same { left.new.column ≡ left.old.column }
     ensures same_right { right.new.column ≡ right.old.column }
     ensures made { result ≡ pos 0 → IsSomeAnd (operator_numbered operator)
-        (λ operator. WhereAll (AreCombined operator) left.old.column right.old.column out.new.column) }
+        (λ operator. WhereAll (AreCombined operator) (array_in left.old.column) (array_in right.old.column)
+        (array_in out.new.column)) }
+    ensures untyped { result ≡ pos 0 → format_in out.new.column ≡ [] }
     ensures kept { result ≢ pos 0 → out.new.column ≡ out.old.column }
     ensures ended { MatchOption (operator_numbered operator) (result ≡ pos 23)
-        (λ operator. EndsOnPairs operator left.old.column right.old.column result error.new) }
+        (λ operator. EndsOnPairs operator (array_in left.old.column) (array_in right.old.column) result error.new) }
 {
     match pair_operator_by(operator) {
         Some(operator) => combine_held(alloc, left, operator, right, out, error),
@@ -50,30 +54,35 @@ fn combine_held(
     ensures same { left.new.column ≡ left.old.column }
     ensures same_right { right.new.column ≡ right.old.column }
     ensures made { result ≡ pos 0 →
-        WhereAll (AreCombined operator) left.old.column right.old.column out.new.column }
+        WhereAll (AreCombined operator) (array_in left.old.column) (array_in right.old.column)
+        (array_in out.new.column) }
+    ensures untyped { result ≡ pos 0 → format_in out.new.column ≡ [] }
     ensures kept { result ≢ pos 0 → out.new.column ≡ out.old.column }
-    ensures ended { EndsOnPairs operator left.old.column right.old.column result error.new }
+    ensures ended { EndsOnPairs operator (array_in left.old.column) (array_in right.old.column) result error.new }
 {
     let Some(lent) = left.take(alloc) else {
         return NO_COLUMN;
     };
-    let Some(array) = right.take(alloc) else {
+    let Some(held) = right.take(alloc) else {
         left.put(lent);
         return NO_COLUMN;
     };
-    let outcome = combine(alloc, &lent, operator, &array);
+    let outcome = combine(alloc, &lent.array, operator, &held.array);
     left.put(lent);
-    right.put(array);
+    right.put(held);
     answer(outcome, out, error)
 }
 
 /// Puts the column into its handle and returns 0, or returns the number of a refusal and writes its fields.
+#[tactic(auto, using(c_columns::proofs::Held::array_some, c_columns::proofs::Held::format_some))]
 pub(crate) fn answer(
     outcome: Result<Boxed, ZipError>,
     out: &mut Handle,
     error: &mut ErrorFields,
 ) -> i32
     ensures ok { IfOk outcome (λ made. (result ≡ pos 0) × (out.new.column ≡ Some made.value)) }
+    ensures array { IfOk outcome (λ made. array_in out.new.column ≡ Some made.value.array) }
+    ensures format { IfOk outcome (λ made. format_in out.new.column ≡ format_of made.value) }
     ensures err { IfErr outcome (λ why. (result ≢ pos 0) × (out.new.column ≡ out.old.column)
         × IsToldAs why result error.new) }
 {

@@ -6,6 +6,7 @@ ghost use Rattle.runend_array.specs.Array.{dtype_of, rows};
 ghost use Rattle.runend_pairs.specs.GroupFaults.{numbers_fault};
 ghost use Rattle.runend_pairs.specs.NullCounts.{null_rows};
 ghost use Rattle.c_columns.specs.Ending.{IsRefusedAs};
+ghost use Rattle.c_columns.specs.Handle.{array_in};
 ghost use Rattle.c_kernels.specs.SumParts.{number_by, ArePairsOf, ArePartsShown, EndsOnParts};
 
 use c_columns::error_fields::{ErrorFields, NO_COLUMN, refuse};
@@ -38,30 +39,30 @@ pub fn sum_parts_in_handle(
 ) -> i32
     ensures same { column.new.column ≡ column.old.column }
     ensures shown { result ≡ pos 0 →
-        IsSomeAnd column.old.column (λ c. ArePartsShown c total.new least.new greatest.new) }
+        IsSomeAnd (array_in column.old.column) (λ c. ArePartsShown c total.new least.new greatest.new) }
     ensures kept_total { result ≢ pos 0 → total.new ≡ total.old }
     ensures kept_least { result ≢ pos 0 → least.new ≡ least.old }
     ensures kept_greatest { result ≢ pos 0 → greatest.new ≡ greatest.old }
-    ensures ended { EndsOnParts column.old.column result error.new }
+    ensures ended { EndsOnParts (array_in column.old.column) result error.new }
 {
-    let Some(array) = column.take(alloc) else {
+    let Some(held) = column.take(alloc) else {
         return NO_COLUMN;
     };
-    let outcome = part_pairs(alloc, &array);
-    column.put(array);
+    let outcome = part_pairs(alloc, &held.array);
+    column.put(held);
     write_parts(outcome, total, least, greatest, error)
 }
 
 /// Returns how many rows of the column of a handle are null; 0 of no column. Takes no memory.
 pub fn nulls_in_handle(alloc: Global, column: &mut Handle) -> usize
     ensures same { column.new.column ≡ column.old.column }
-    ensures counted { MatchOption column.old.column (result ≡ 0) (λ c. result ≡ null_rows (rows c)) }
+    ensures counted { MatchOption (array_in column.old.column) (result ≡ 0) (λ c. result ≡ null_rows (rows c)) }
 {
-    let Some(array) = column.take(alloc) else {
+    let Some(held) = column.take(alloc) else {
         return 0;
     };
-    let nulls = null_count(&array);
-    column.put(array);
+    let nulls = null_count(&held.array);
+    column.put(held);
     nulls
 }
 

@@ -1,7 +1,9 @@
 //! The answers for the rows of one column, on the heap, and the call on a handle.
-ghost use Rattle.std.specs.Prelude.{◌≡◌, ◌≢◌, IfOk, pos};
+ghost use Rattle.std.specs.Prelude.{◌≡◌, ◌≢◌, [], IfOk, pos};
 ghost use Rattle.column_core.specs.Refusal.{IsRefusedBy};
+ghost use Rattle.typed_columns.specs.Typed.{format_of};
 ghost use Rattle.c_columns.specs.Ending.{WhereBoth};
+ghost use Rattle.c_columns.specs.Handle.{array_in, format_in};
 ghost use Rattle.c_kernels.specs.Tested.{test_fault, EndsOnTested, IsTested};
 
 use c_columns::commands::answer;
@@ -35,15 +37,16 @@ pub fn test_handle(
     error: &mut ErrorFields,
 ) -> i32
     ensures same { column.new.column ≡ column.old.column }
-    ensures made { result ≡ pos 0 → WhereBoth (IsTested test) column.old.column out.new.column }
+    ensures made { result ≡ pos 0 → WhereBoth (IsTested test) (array_in column.old.column) (array_in out.new.column) }
+    ensures untyped { result ≡ pos 0 → format_in out.new.column ≡ [] }
     ensures kept { result ≢ pos 0 → out.new.column ≡ out.old.column }
-    ensures ended { EndsOnTested test column.old.column result error.new }
+    ensures ended { EndsOnTested test (array_in column.old.column) result error.new }
 {
-    let Some(array) = column.take(alloc) else {
+    let Some(held) = column.take(alloc) else {
         return NO_COLUMN;
     };
-    let outcome = tested(alloc, &array, test);
-    column.put(array);
+    let outcome = tested(alloc, &held.array, test);
+    column.put(held);
     answer(outcome, out, error)
 }
 
@@ -51,7 +54,8 @@ pub fn test_handle(
 /// possible. Refused as `Unsupported` unless the rows are booleans, of a test for null exactly for lists, and for
 /// memory.
 pub fn tested(alloc: Global, array: &ArrayRef<Global>, test: RowTest) -> VortexResult<Boxed>
-    ensures made { IfOk result (λ made. IsTested test array.now made.value) }
+    ensures made { IfOk result (λ made. IsTested test array.now made.value.array) }
+    ensures untyped { IfOk result (λ made. format_of made.value ≡ []) }
     ensures refused { IsRefusedBy (test_fault test array.now) result }
 {
     let answers = answers_of(alloc, array, test)?;

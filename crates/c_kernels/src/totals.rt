@@ -1,8 +1,9 @@
 //! Running totals of a column, on the heap.
-ghost use Rattle.std.specs.Prelude.{◌≡◌, Err, Some, IfErr, IfOk};
+ghost use Rattle.std.specs.Prelude.{◌≡◌, [], Err, Some, IfErr, IfOk};
 ghost use Rattle.runend_array.specs.Array.{dtype_of, rows};
 ghost use Rattle.runend_pairs.specs.GroupFaults.{numbers_fault};
 ghost use Rattle.runend_pairs.specs.Totals.{IsTotalRefusal};
+ghost use Rattle.typed_columns.specs.Typed.{format_of};
 ghost use Rattle.c_kernels.specs.Totals.{AreTotals};
 
 use c_columns::flat::{Boxed, boxed};
@@ -22,7 +23,9 @@ pub struct BoxedTotals {
 /// Returns where each run of equal neighbouring rows ends, and the sum of all rows before its end, both flat. Refused
 /// as `running_totals` refuses: with `Unsupported` before any memory is taken.
 pub fn totals_of(alloc: Global, array: &ArrayRef<Global>) -> Result<BoxedTotals, TotalError>
-    ensures made { IfOk result (λ made. AreTotals array.now made.ends.value made.totals.value) }
+    ensures made { IfOk result (λ made. AreTotals array.now made.ends.value.array made.totals.value.array) }
+    ensures untyped { IfOk result (λ made. format_of made.ends.value ≡ []) }
+    ensures untyped_totals { IfOk result (λ made. format_of made.totals.value ≡ []) }
     ensures refused { IfErr result (IsTotalRefusal (dtype_of array.now) (rows array.now)) }
     ensures first { (error : VortexError) → numbers_fault (dtype_of array.now) ≡ Some error →
         result ≡ Err (TotalError.Refused error) }

@@ -58,7 +58,7 @@ module _ (given kind : VarBinKind) (offsets : List ℤ) (bytes : List ℕ) (null
   texts_refused error code fields (inl short) is told = inr (error, inl short, (is, told))
   texts_refused error code fields (inr fault) is told = inr (error, inr (subst (λ (F : Type 0). F) (sym (texts_fault error)) fault), (is, told))
 
-  pub texts_end : {T : Type 0} (outcome : Result T VortexError) (value : T → ArrayRef Global) (out old : Held) (code : ℤ) (fields : ErrorFields)
+  pub texts_end : {T X : Type 0} (outcome : Result T VortexError) (value : T → X) (out old : Option X) (code : ℤ) (fields : ErrorFields)
       → OnOk outcome ((error : VortexError) → ¬ TextsFault given (map (λ (n : ℤ). n) offsets) bytes nulls bits first error) → IfErr outcome (λ error. IsShortOr (TextsFault given (map (λ (n : ℤ). n) offsets) bytes nulls bits first) error)
       → IfOk outcome (λ made. (code ≡ pos 0) × (out ≡ Some (value made))) → IfErr outcome (λ why. (code ≡ pos (number_of why)) × (code ≢ pos 0) × (out ≡ old) × HasFields why fields)
       → EndsUnless (TextsFault kind offsets bytes nulls bits first) code fields
@@ -91,7 +91,7 @@ pub held_unless_refused : (Fault : Faults) (c : Held) (a : ArrayRef Global) (err
 held_unless_refused Fault c a error code fields some why is told = subst (λ (h : Held). EndsOnHeldUnless Fault h code fields) (sym some) (inr (error, why, (is, told)))
 
 -- a call that answers what came of a column ends so
-pub held_unless_ends : {T : Type 0} (outcome : Result T VortexError) (value : T → ArrayRef Global) (Fault : Faults) (c out old : Held) (a : ArrayRef Global) (code : ℤ) (fields : ErrorFields) → c ≡ Some a
+pub held_unless_ends : {T X : Type 0} (outcome : Result T VortexError) (value : T → X) (Fault : Faults) (c : Held) (out old : Option X) (a : ArrayRef Global) (code : ℤ) (fields : ErrorFields) → c ≡ Some a
     → OnOk outcome ((error : VortexError) → ¬ Fault a error) → IfErr outcome (λ error. IsShortOr (Fault a) error) → IfOk outcome (λ made. (code ≡ pos 0) × (out ≡ Some (value made)))
     → IfErr outcome (λ why. (code ≡ pos (number_of why)) × (code ≢ pos 0) × (out ≡ old) × HasFields why fields) → EndsOnHeldUnless Fault c code fields
 held_unless_ends (Ok made) value Fault c out old a code fields some served refused ok err = held_unless_done Fault c a code fields some served ok.0
@@ -132,7 +132,7 @@ pub parts_refused : (Fault : PartFaults) (c d : Held) (a b : ArrayRef Global) (e
 parts_refused Fault c d a b error code fields some other why is told = on_parts Fault c d a b code fields some other (inr (error, why, (is, told)))
 
 -- a call that answers what came of two columns ends so
-pub parts_end : {T : Type 0} (outcome : Result T VortexError) (value : T → ArrayRef Global) (Fault : PartFaults) (c d out old : Held) (a b : ArrayRef Global) (code : ℤ) (fields : ErrorFields)
+pub parts_end : {T X : Type 0} (outcome : Result T VortexError) (value : T → X) (Fault : PartFaults) (c d : Held) (out old : Option X) (a b : ArrayRef Global) (code : ℤ) (fields : ErrorFields)
     → c ≡ Some a → d ≡ Some b → OnOk outcome ((error : VortexError) → ¬ Fault a b error) → IfErr outcome (λ error. IsShortOr (Fault a b) error) → IfOk outcome (λ made. (code ≡ pos 0) × (out ≡ Some (value made)))
     → IfErr outcome (λ why. (code ≡ pos (number_of why)) × (code ≢ pos 0) × (out ≡ old) × HasFields why fields) → EndsOnParts Fault c d code fields
 parts_end (Ok made) value Fault c d out old a b code fields some other served refused ok err = parts_done Fault c d a b code fields some other served ok.0

@@ -40,17 +40,17 @@ pub two_refused : (fault : Fault) (c d : Held) (a b : ArrayRef Global) (error : 
 two_refused fault c d a b error code fields some other why is told = on_two fault c d a b code fields some other (ends_refused (fault a b) error code fields why is told)
 
 -- a call that answers what came of two columns ends so, and leaves that
-pub outcome_ends : {B : Type 0} (outcome : Result B VortexError) (value : B → ArrayRef Global) (fault : Fault) (c d out old : Held) (a b : ArrayRef Global) (code : ℤ) (fields : ErrorFields)
+pub outcome_ends : {B X : Type 0} (outcome : Result B VortexError) (value : B → X) (fault : Fault) (c d : Held) (out old : Option X) (a b : ArrayRef Global) (code : ℤ) (fields : ErrorFields)
     → c ≡ Some a → d ≡ Some b → IsRefusedBy (fault a b) outcome → IfOk outcome (λ made. (code ≡ pos 0) × (out ≡ Some (value made)))
     → IfErr outcome (λ why. (code ≡ pos (number_of why)) × (code ≢ pos 0) × (out ≡ old) × HasFields why fields) → EndsOnTwo fault c d code fields
 outcome_ends (Ok made) value fault c d out old a b code fields some other none ok err = two_done fault c d a b code fields some other none ok.0
 outcome_ends (Err error) value fault c d out old a b code fields some other why ok err = two_refused fault c d a b error code fields some other why err.0 err.3
 
-pub outcome_left : {B : Type 0} (outcome : Result B VortexError) (value : B → ArrayRef Global) (wanted : ArrayRef Global → ArrayRef Global → PlainColumn) (Form : ArrayRef Global → ArrayRef Global → ArrayRef Global → Type 0)
-    (c d out old : Held) (a b : ArrayRef Global) (code : ℤ) (fields : ErrorFields)
-    → c ≡ Some a → d ≡ Some b → IfOk outcome (λ made. HasPlain (wanted a b) (Form a b) (value made)) → IfOk outcome (λ made. (code ≡ pos 0) × (out ≡ Some (value made)))
-    → IfErr outcome (λ why. (code ≡ pos (number_of why)) × (code ≢ pos 0) × (out ≡ old) × HasFields why fields) → code ≡ pos 0 → WhereAll (LeavesPlain wanted Form) c d out
-outcome_left (Ok made) value wanted Form c d out old a b code fields some other left ok err zero =
+pub outcome_left : {B X : Type 0} (outcome : Result B VortexError) (value : B → ArrayRef Global) (wanted : ArrayRef Global → ArrayRef Global → PlainColumn) (Form : ArrayRef Global → ArrayRef Global → ArrayRef Global → Type 0)
+    (c d out : Held) (held old : X) (a b : ArrayRef Global) (code : ℤ) (fields : ErrorFields)
+    → c ≡ Some a → d ≡ Some b → IfOk outcome (λ made. HasPlain (wanted a b) (Form a b) (value made)) → IfOk outcome (λ made. out ≡ Some (value made))
+    → IfErr outcome (λ why. (code ≡ pos (number_of why)) × (code ≢ pos 0) × (held ≡ old) × HasFields why fields) → code ≡ pos 0 → WhereAll (LeavesPlain wanted Form) c d out
+outcome_left (Ok made) value wanted Form c d out held old a b code fields some other left ok err zero =
     subst (λ (h : Held). WhereAll (LeavesPlain wanted Form) h d out) (sym some)
-    (subst (λ (h : Held). WhereAll (LeavesPlain wanted Form) (Some a) h out) (sym other) (subst (λ (h : Held). WhereAll (LeavesPlain wanted Form) (Some a) (Some b) h) (sym ok.1) left))
-outcome_left (Err error) value wanted Form c d out old a b code fields some other left ok err zero = absurd (err.1 zero)
+    (subst (λ (h : Held). WhereAll (LeavesPlain wanted Form) (Some a) h out) (sym other) (subst (λ (h : Held). WhereAll (LeavesPlain wanted Form) (Some a) (Some b) h) (sym ok) left))
+outcome_left (Err error) value wanted Form c d out held old a b code fields some other left ok err zero = absurd (err.1 zero)

@@ -1,9 +1,10 @@
 //! Calls that cast floats to another format, and from and to integers.
-ghost use Rattle.std.specs.Prelude.{◌≡◌, ◌≢◌, IsSomeAnd, MatchOption, pos};
+ghost use Rattle.std.specs.Prelude.{◌≡◌, ◌≢◌, [], IsSomeAnd, MatchOption, pos};
 ghost use Rattle.column_floats.specs.Formats.{floats_fault};
 ghost use Rattle.runend_floats.specs.CastRuns.{integers_fault};
 ghost use Rattle.c_columns.specs.Ending.{WhereBoth};
 ghost use Rattle.c_columns.specs.Flags.{flag_of};
+ghost use Rattle.c_columns.specs.Handle.{array_in, format_in};
 ghost use Rattle.c_columns.specs.Kinds.{ptype_by};
 ghost use Rattle.c_kernels.specs.FloatCasts.{AreFloatsCast, AreIntegersCast, AreKeysCast, EndsOnCast, FailsAsFloats, FailsAsIntegers, FailsAsKeys, format_by};
 
@@ -26,10 +27,12 @@ pub extern "C" fn hv_float_cast(
 ) -> i32
     ensures same { floats.new.column ≡ floats.old.column }
     ensures made { result ≡ pos 0 → IsSomeAnd (format_by to)
-        (λ format. WhereBoth (AreFloatsCast (flag_of is_rounded) format) floats.old.column out.new.column) }
+        (λ format. WhereBoth (AreFloatsCast (flag_of is_rounded) format) (array_in floats.old.column)
+        (array_in out.new.column)) }
+    ensures untyped { result ≡ pos 0 → format_in out.new.column ≡ [] }
     ensures kept { result ≢ pos 0 → out.new.column ≡ out.old.column }
     ensures ended { MatchOption (format_by to) (result ≡ pos 23) (λ format. EndsOnCast floats_fault
-        (FailsAsFloats (flag_of is_rounded) format) floats.old.column result error.new) }
+        (FailsAsFloats (flag_of is_rounded) format) (array_in floats.old.column) result error.new) }
 {
     cast_floats_handle(alloc, floats, to, is_rounded, out, error)
 }
@@ -48,10 +51,12 @@ pub extern "C" fn hv_float_of_integers(
 ) -> i32
     ensures same { integers.new.column ≡ integers.old.column }
     ensures made { result ≡ pos 0 → IsSomeAnd (format_by to)
-        (λ format. WhereBoth (AreIntegersCast (flag_of is_rounded) format) integers.old.column out.new.column) }
+        (λ format. WhereBoth (AreIntegersCast (flag_of is_rounded) format) (array_in integers.old.column)
+        (array_in out.new.column)) }
+    ensures untyped { result ≡ pos 0 → format_in out.new.column ≡ [] }
     ensures kept { result ≢ pos 0 → out.new.column ≡ out.old.column }
     ensures ended { MatchOption (format_by to) (result ≡ pos 23) (λ format. EndsOnCast integers_fault
-        (FailsAsIntegers (flag_of is_rounded) format) integers.old.column result error.new) }
+        (FailsAsIntegers (flag_of is_rounded) format) (array_in integers.old.column) result error.new) }
 {
     cast_integers_handle(alloc, integers, to, is_rounded, out, error)
 }
@@ -68,10 +73,11 @@ pub extern "C" fn hv_float_to_integers(
 ) -> i32
     ensures same { floats.new.column ≡ floats.old.column }
     ensures made { result ≡ pos 0 → IsSomeAnd (ptype_by to)
-        (λ ptype. WhereBoth (AreKeysCast ptype) floats.old.column out.new.column) }
+        (λ ptype. WhereBoth (AreKeysCast ptype) (array_in floats.old.column) (array_in out.new.column)) }
+    ensures untyped { result ≡ pos 0 → format_in out.new.column ≡ [] }
     ensures kept { result ≢ pos 0 → out.new.column ≡ out.old.column }
     ensures ended { MatchOption (ptype_by to) (result ≡ pos 23) (λ ptype. EndsOnCast floats_fault
-        (FailsAsKeys ptype) floats.old.column result error.new) }
+        (FailsAsKeys ptype) (array_in floats.old.column) result error.new) }
 {
     cast_keys_handle(alloc, floats, to, out, error)
 }

@@ -1,8 +1,9 @@
 //! Calls of commands whose answer is a column.
-ghost use Rattle.std.specs.Prelude.{◌≡◌, ◌≢◌, IsSomeAnd, MatchOption, Some, pos};
+ghost use Rattle.std.specs.Prelude.{◌≡◌, ◌≢◌, [], IsSomeAnd, MatchOption, Some, pos};
 ghost use Rattle.runend_commands.specs.declared.command.Command.TheVariants.{Slice, Cast, Encode, Decode};
 ghost use Rattle.c_columns.specs.Calls.{Leaves, compare_with_passed, fill_with_passed};
 ghost use Rattle.c_columns.specs.Ending.{EndsOn, EndsOnPassed, LeavesPassed, WhereAll, WhereBoth};
+ghost use Rattle.c_columns.specs.Handle.{array_in, format_in};
 ghost use Rattle.c_columns.specs.Kinds.{dtype_by, operator_by};
 ghost use Rattle.c_columns.specs.TwoColumns.{EndsOnTwo, IsComparedIn, IsFilteredIn, IsLookedUpIn, IsTakenIn, LeavesPlain, beside_fault, code_look_up_fault, compared_by, filtered_by, looked_up_by, mask_filter_fault};
 
@@ -30,9 +31,11 @@ pub extern "C" fn hv_encode(
     error: &mut ErrorFields,
 ) -> i32
     ensures same { column.new.column ≡ column.old.column }
-    ensures made { result ≡ pos 0 → WhereBoth (Leaves session.now Encode) column.old.column out.new.column }
+    ensures made { result ≡ pos 0 →
+        WhereBoth (Leaves session.now Encode) (array_in column.old.column) (array_in out.new.column) }
+    ensures typed { result ≡ pos 0 → format_in out.new.column ≡ format_in column.old.column }
     ensures kept { result ≢ pos 0 → out.new.column ≡ out.old.column }
-    ensures ended { EndsOn column.old.column (Some Encode) result error.new }
+    ensures ended { EndsOn (array_in column.old.column) (Some Encode) result error.new }
 {
     apply(alloc, session, column, Ok(Command::Encode), out, error)
 }
@@ -48,9 +51,11 @@ pub extern "C" fn hv_decode(
     error: &mut ErrorFields,
 ) -> i32
     ensures same { column.new.column ≡ column.old.column }
-    ensures made { result ≡ pos 0 → WhereBoth (Leaves session.now Decode) column.old.column out.new.column }
+    ensures made { result ≡ pos 0 →
+        WhereBoth (Leaves session.now Decode) (array_in column.old.column) (array_in out.new.column) }
+    ensures typed { result ≡ pos 0 → format_in out.new.column ≡ format_in column.old.column }
     ensures kept { result ≢ pos 0 → out.new.column ≡ out.old.column }
-    ensures ended { EndsOn column.old.column (Some Decode) result error.new }
+    ensures ended { EndsOn (array_in column.old.column) (Some Decode) result error.new }
 {
     apply(alloc, session, column, Ok(Command::Decode), out, error)
 }
@@ -69,9 +74,11 @@ pub extern "C" fn hv_slice(
     ensures same { column.new.column ≡ column.old.column }
     ensures made { result ≡ pos 0
         → WhereBoth (Leaves session.now (Slice (record { start = start; end = stop })))
-        column.old.column out.new.column }
+        (array_in column.old.column) (array_in out.new.column) }
+    ensures typed { result ≡ pos 0 → format_in out.new.column ≡ format_in column.old.column }
     ensures kept { result ≢ pos 0 → out.new.column ≡ out.old.column }
-    ensures ended { EndsOn column.old.column (Some (Slice (record { start = start; end = stop }))) result error.new }
+    ensures ended { EndsOn (array_in column.old.column)
+        (Some (Slice (record { start = start; end = stop }))) result error.new }
 {
     slice(alloc, session, column, start..stop, out, error)
 }
@@ -90,10 +97,11 @@ pub extern "C" fn hv_cast(
     ensures same { column.new.column ≡ column.old.column }
     ensures made { result ≡ pos 0
         → IsSomeAnd (dtype_by kind.now.number kind.now)
-        (λ dtype. WhereBoth (Leaves session.now (Cast dtype)) column.old.column out.new.column) }
+        (λ dtype. WhereBoth (Leaves session.now (Cast dtype)) (array_in column.old.column) (array_in out.new.column)) }
+    ensures untyped { result ≡ pos 0 → format_in out.new.column ≡ [] }
     ensures kept { result ≢ pos 0 → out.new.column ≡ out.old.column }
     ensures ended { MatchOption (dtype_by kind.now.number kind.now) (result ≡ pos 23)
-        (λ dtype. EndsOn column.old.column (Some (Cast dtype)) result error.new) }
+        (λ dtype. EndsOn (array_in column.old.column) (Some (Cast dtype)) result error.new) }
 {
     match kinds::dtype_of(kind) {
         Some(dtype) => apply(alloc, session, column, Ok(Command::Cast(dtype)), out, error),
@@ -116,20 +124,22 @@ pub extern "C" fn hv_take(
     ensures same_indices { indices.new.column ≡ indices.old.column }
     ensures made { result ≡ pos 0
         → WhereAll (LeavesPlain looked_up_by (IsTakenIn session.now))
-        indices.old.column column.old.column out.new.column }
+        (array_in indices.old.column) (array_in column.old.column) (array_in out.new.column) }
+    ensures typed { result ≡ pos 0 → format_in out.new.column ≡ format_in column.old.column }
     ensures kept { result ≢ pos 0 → out.new.column ≡ out.old.column }
-    ensures ended { EndsOnTwo code_look_up_fault indices.old.column column.old.column result error.new }
+    ensures ended { EndsOnTwo code_look_up_fault (array_in indices.old.column)
+        (array_in column.old.column) result error.new }
 {
     let Some(lent) = indices.take(alloc) else {
         return NO_COLUMN;
     };
-    let Some(array) = column.take(alloc) else {
+    let Some(held) = column.take(alloc) else {
         indices.put(lent);
         return NO_COLUMN;
     };
-    let outcome = two_columns::taken(alloc, session, &lent, &array);
+    let outcome = two_columns::taken(alloc, session, &lent.array, &held);
     indices.put(lent);
-    column.put(array);
+    column.put(held);
     answer(outcome, out, error)
 }
 
@@ -148,20 +158,22 @@ pub extern "C" fn hv_filter(
     ensures same_mask { mask.new.column ≡ mask.old.column }
     ensures made { result ≡ pos 0
         → WhereAll (LeavesPlain filtered_by (IsFilteredIn session.now))
-        mask.old.column column.old.column out.new.column }
+        (array_in mask.old.column) (array_in column.old.column) (array_in out.new.column) }
+    ensures typed { result ≡ pos 0 → format_in out.new.column ≡ format_in column.old.column }
     ensures kept { result ≢ pos 0 → out.new.column ≡ out.old.column }
-    ensures ended { EndsOnTwo mask_filter_fault mask.old.column column.old.column result error.new }
+    ensures ended { EndsOnTwo mask_filter_fault (array_in mask.old.column)
+        (array_in column.old.column) result error.new }
 {
     let Some(lent) = mask.take(alloc) else {
         return NO_COLUMN;
     };
-    let Some(array) = column.take(alloc) else {
+    let Some(held) = column.take(alloc) else {
         mask.put(lent);
         return NO_COLUMN;
     };
-    let outcome = two_columns::filtered(alloc, session, &lent, &array);
+    let outcome = two_columns::filtered(alloc, session, &lent.array, &held);
     mask.put(lent);
-    column.put(array);
+    column.put(held);
     answer(outcome, out, error)
 }
 
@@ -180,9 +192,11 @@ pub extern "C" fn hv_take_from(
     ensures same_dictionary { dictionary.new.column ≡ dictionary.old.column }
     ensures made { result ≡ pos 0
         → WhereAll (LeavesPlain looked_up_by (IsLookedUpIn session.now))
-        column.old.column dictionary.old.column out.new.column }
+        (array_in column.old.column) (array_in dictionary.old.column) (array_in out.new.column) }
+    ensures typed { result ≡ pos 0 → format_in out.new.column ≡ format_in dictionary.old.column }
     ensures kept { result ≢ pos 0 → out.new.column ≡ out.old.column }
-    ensures ended { EndsOnTwo code_look_up_fault column.old.column dictionary.old.column result error.new }
+    ensures ended { EndsOnTwo code_look_up_fault (array_in column.old.column)
+        (array_in dictionary.old.column) result error.new }
 {
     let Some(codes) = column.take(alloc) else {
         return NO_COLUMN;
@@ -191,7 +205,7 @@ pub extern "C" fn hv_take_from(
         column.put(codes);
         return NO_COLUMN;
     };
-    let outcome = two_columns::looked_up(alloc, session, &codes, &lent);
+    let outcome = two_columns::looked_up(alloc, session, &codes.array, &lent);
     column.put(codes);
     dictionary.put(lent);
     answer(outcome, out, error)
@@ -213,10 +227,11 @@ pub extern "C" fn hv_compare(
     ensures made { result ≡ pos 0
         → IsSomeAnd (operator_by operator)
         (λ op. WhereAll (LeavesPlain (compared_by op) (IsComparedIn op session.now))
-        column.old.column right.old.column out.new.column) }
+        (array_in column.old.column) (array_in right.old.column) (array_in out.new.column)) }
+    ensures untyped { result ≡ pos 0 → format_in out.new.column ≡ [] }
     ensures kept { result ≢ pos 0 → out.new.column ≡ out.old.column }
     ensures ended { MatchOption (operator_by operator) (result ≡ pos 23)
-        (λ op. EndsOnTwo beside_fault column.old.column right.old.column result error.new) }
+        (λ op. EndsOnTwo beside_fault (array_in column.old.column) (array_in right.old.column) result error.new) }
 {
     match kinds::operator_by(operator) {
         Some(operator) => compare_columns(alloc, session, column, operator, right, out, error),
@@ -241,11 +256,12 @@ pub extern "C" fn hv_compare_scalar(
     ensures made { result ≡ pos 0
         → IsSomeAnd (operator_by operator)
         (λ op. WhereBoth (LeavesPassed session.now (compare_with_passed op value.now text.now))
-        column.old.column out.new.column) }
+        (array_in column.old.column) (array_in out.new.column)) }
+    ensures untyped { result ≡ pos 0 → format_in out.new.column ≡ [] }
     ensures kept { result ≢ pos 0 → out.new.column ≡ out.old.column }
     ensures ended { MatchOption (operator_by operator) (result ≡ pos 23)
         (λ op. EndsOnPassed value.now text.now
-        (compare_with_passed op value.now text.now) column.old.column result error.new) }
+        (compare_with_passed op value.now text.now) (array_in column.old.column) result error.new) }
 {
     match kinds::operator_by(operator) {
         Some(operator) => {
@@ -270,16 +286,17 @@ pub extern "C" fn hv_fill(
     ensures same { column.new.column ≡ column.old.column }
     ensures made { result ≡ pos 0
         → WhereBoth (LeavesPassed session.now (fill_with_passed value.now text.now))
-        column.old.column out.new.column }
+        (array_in column.old.column) (array_in out.new.column) }
+    ensures typed { result ≡ pos 0 → format_in out.new.column ≡ format_in column.old.column }
     ensures kept { result ≢ pos 0 → out.new.column ≡ out.old.column }
     ensures ended { EndsOnPassed value.now text.now
-        (fill_with_passed value.now text.now) column.old.column result error.new }
+        (fill_with_passed value.now text.now) (array_in column.old.column) result error.new }
 {
-    let Some(array) = column.take(alloc) else {
+    let Some(held) = column.take(alloc) else {
         return NO_COLUMN;
     };
-    let command = fill_command(alloc, &array, value, text);
-    column.put(array);
+    let command = fill_command(alloc, &held.array, value, text);
+    column.put(held);
     apply(alloc, session, column, command, out, error)
 }
 
@@ -298,19 +315,20 @@ fn compare_columns(
     ensures same_right { right.new.column ≡ right.old.column }
     ensures made { result ≡ pos 0
         → WhereAll (LeavesPlain (compared_by operator) (IsComparedIn operator session.now))
-        column.old.column right.old.column out.new.column }
+        (array_in column.old.column) (array_in right.old.column) (array_in out.new.column) }
+    ensures untyped { result ≡ pos 0 → format_in out.new.column ≡ [] }
     ensures kept { result ≢ pos 0 → out.new.column ≡ out.old.column }
-    ensures ended { EndsOnTwo beside_fault column.old.column right.old.column result error.new }
+    ensures ended { EndsOnTwo beside_fault (array_in column.old.column) (array_in right.old.column) result error.new }
 {
-    let Some(array) = column.take(alloc) else {
+    let Some(held) = column.take(alloc) else {
         return NO_COLUMN;
     };
     let Some(lent) = right.take(alloc) else {
-        column.put(array);
+        column.put(held);
         return NO_COLUMN;
     };
-    let outcome = two_columns::compared(alloc, session, &array, operator, &lent);
-    column.put(array);
+    let outcome = two_columns::compared(alloc, session, &held.array, operator, &lent.array);
+    column.put(held);
     right.put(lent);
     answer(outcome, out, error)
 }
@@ -330,15 +348,16 @@ fn compare_with_value(
     ensures same { column.new.column ≡ column.old.column }
     ensures made { result ≡ pos 0
         → WhereBoth (LeavesPassed session.now (compare_with_passed operator value.now text.now))
-        column.old.column out.new.column }
+        (array_in column.old.column) (array_in out.new.column) }
+    ensures untyped { result ≡ pos 0 → format_in out.new.column ≡ [] }
     ensures kept { result ≢ pos 0 → out.new.column ≡ out.old.column }
     ensures ended { EndsOnPassed value.now text.now
-        (compare_with_passed operator value.now text.now) column.old.column result error.new }
+        (compare_with_passed operator value.now text.now) (array_in column.old.column) result error.new }
 {
-    let Some(array) = column.take(alloc) else {
+    let Some(held) = column.take(alloc) else {
         return NO_COLUMN;
     };
-    let command = compare_scalar_command(alloc, operator, &array, value, text);
-    column.put(array);
+    let command = compare_scalar_command(alloc, operator, &held.array, value, text);
+    column.put(held);
     apply(alloc, session, column, command, out, error)
 }

@@ -1,6 +1,7 @@
 //! The call that makes a column of one value.
-ghost use Rattle.std.specs.Prelude.{◌≡◌, ◌≢◌, IsSomeAnd, MatchOption, pos};
+ghost use Rattle.std.specs.Prelude.{◌≡◌, ◌≢◌, [], IsSomeAnd, MatchOption, pos};
 ghost use Rattle.c_columns.specs.Ending.{EndsUnless};
+ghost use Rattle.c_columns.specs.Handle.{array_in, format_in};
 ghost use Rattle.c_columns.specs.Kinds.{dtype_by};
 ghost use Rattle.c_columns.specs.Makers.{ConstantFault, IsConstantOf};
 
@@ -26,8 +27,9 @@ pub extern "C" fn hv_constant(
     error: &mut ErrorFields,
 ) -> i32
     ensures made { result ≡ pos 0
-        → IsSomeAnd (dtype_by kind.now.number kind.now) (λ dtype. IsSomeAnd out.new.column
+        → IsSomeAnd (dtype_by kind.now.number kind.now) (λ dtype. IsSomeAnd (array_in out.new.column)
         (λ c. IsConstantOf dtype value.now text.now count c)) }
+    ensures untyped { result ≡ pos 0 → format_in out.new.column ≡ [] }
     ensures kept { result ≢ pos 0 → out.new.column ≡ out.old.column }
     ensures ended { MatchOption (dtype_by kind.now.number kind.now) (result ≡ pos 23)
         (λ dtype. EndsUnless (ConstantFault dtype value.now text.now) result error.new) }

@@ -1,7 +1,8 @@
 //! Calls on columns of decimals of up to 38 digits.
-ghost use Rattle.std.specs.Prelude.{◌≡◌, ◌≢◌, IsSomeAnd, MatchOption, pos};
+ghost use Rattle.std.specs.Prelude.{◌≡◌, ◌≢◌, [], IsSomeAnd, MatchOption, pos};
 ghost use Rattle.runend_decimals.specs.Rows.{decimals_fault};
 ghost use Rattle.c_columns.specs.Ending.{WhereAll, WhereBoth};
+ghost use Rattle.c_columns.specs.Handle.{array_in, format_in};
 ghost use Rattle.c_columns.specs.Kinds.{ptype_by};
 ghost use Rattle.c_kernels.specs.DecimalCasts.{exact_fault, AreDecimals, AreWholes, EndsOnRescale, FailsAsDecimals, FailsAsWholes, IsPrecision};
 ghost use Rattle.c_kernels.specs.DecimalPairs.{numeric_numbered, AreDecimalsCombined, EndsOnDecimalPairs};
@@ -28,10 +29,10 @@ pub extern "C" fn hv_decimal_sum(
     error: &mut ErrorFields,
 ) -> i32
     ensures same { column.new.column ≡ column.old.column }
-    ensures shown { result ≡ pos 0 → IsSomeAnd column.old.column (λ c. IsDecimalSum c sum.new is_empty.new) }
+    ensures shown { result ≡ pos 0 → IsSomeAnd (array_in column.old.column) (λ c. IsDecimalSum c sum.new is_empty.new) }
     ensures kept_sum { result ≢ pos 0 → sum.new ≡ sum.old }
     ensures kept_empty { result ≢ pos 0 → is_empty.new ≡ is_empty.old }
-    ensures ended { EndsOnDecimals column.old.column result error.new }
+    ensures ended { EndsOnDecimals (array_in column.old.column) result error.new }
 {
     decimal_sum_in_handle(alloc, column, sum, is_empty, error)
 }
@@ -50,11 +51,13 @@ pub extern "C" fn hv_decimal_cast(
 ) -> i32
     ensures same { column.new.column ≡ column.old.column }
     ensures made { result ≡ pos 0 → WhereBoth (AreDecimals (record { precision = precision; scale = scale }))
-        column.old.column out.new.column }
+        (array_in column.old.column) (array_in out.new.column) }
+    ensures untyped { result ≡ pos 0 → format_in out.new.column ≡ [] }
     ensures kept { result ≢ pos 0 → out.new.column ≡ out.old.column }
     ensures digits { ¬ IsPrecision precision → result ≡ pos 23 }
     ensures ended { IsPrecision precision → EndsOnRescale exact_fault
-        (FailsAsDecimals (record { precision = precision; scale = scale })) column.old.column result error.new }
+        (FailsAsDecimals (record { precision = precision; scale = scale }))
+        (array_in column.old.column) result error.new }
 {
     let to = DecimalDType { precision, scale };
     cast_decimals_handle(alloc, column, to, out, error)
@@ -73,10 +76,11 @@ pub extern "C" fn hv_decimal_to_integers(
 ) -> i32
     ensures same { decimals.new.column ≡ decimals.old.column }
     ensures made { result ≡ pos 0 → IsSomeAnd (ptype_by to)
-        (λ ptype. WhereBoth (AreWholes ptype) decimals.old.column out.new.column) }
+        (λ ptype. WhereBoth (AreWholes ptype) (array_in decimals.old.column) (array_in out.new.column)) }
+    ensures untyped { result ≡ pos 0 → format_in out.new.column ≡ [] }
     ensures kept { result ≢ pos 0 → out.new.column ≡ out.old.column }
     ensures ended { MatchOption (ptype_by to) (result ≡ pos 23) (λ ptype. EndsOnRescale decimals_fault
-        (FailsAsWholes ptype) decimals.old.column result error.new) }
+        (FailsAsWholes ptype) (array_in decimals.old.column) result error.new) }
 {
     cast_wholes_handle(alloc, decimals, to, out, error)
 }
@@ -97,10 +101,13 @@ pub extern "C" fn hv_decimal_combine(
     ensures same { left.new.column ≡ left.old.column }
     ensures same_right { right.new.column ≡ right.old.column }
     ensures made { result ≡ pos 0 → IsSomeAnd (numeric_numbered operator)
-        (λ operator. WhereAll (AreDecimalsCombined operator) left.old.column right.old.column out.new.column) }
+        (λ operator. WhereAll (AreDecimalsCombined operator) (array_in left.old.column) (array_in right.old.column)
+        (array_in out.new.column)) }
+    ensures untyped { result ≡ pos 0 → format_in out.new.column ≡ [] }
     ensures kept { result ≢ pos 0 → out.new.column ≡ out.old.column }
     ensures ended { MatchOption (numeric_numbered operator) (result ≡ pos 23)
-        (λ operator. EndsOnDecimalPairs operator left.old.column right.old.column result error.new) }
+        (λ operator. EndsOnDecimalPairs operator (array_in left.old.column)
+        (array_in right.old.column) result error.new) }
 {
     combine_decimals(alloc, left, operator, right, out, error)
 }

@@ -6,6 +6,7 @@ ghost use Rattle.runend_array.specs.Array.{rows};
 ghost use Rattle.runend_builder.specs.Builder.{HasRuns, built_with};
 ghost use Rattle.c_columns.specs.Builders.{AreBuilt, AreEncoded, EndsOnAppend, EndsOnBuilder, EndsOnBuilt, IsEmptied, PassedAppendFault, encoding_fault, passed_row, with_rows};
 ghost use Rattle.c_columns.specs.Ending.{EndsBy, HasFields, WhereAll, WhereBoth};
+ghost use Rattle.c_columns.specs.Handle.{array_in, format_in};
 ghost use Rattle.c_columns.specs.Kinds.{dtype_by};
 ghost use Rattle.c_columns.specs.ReadFaults.{EndsOnWindow};
 
@@ -30,15 +31,16 @@ pub extern "C" fn hv_encode_rows(
     error: &mut ErrorFields,
 ) -> i32
     ensures same { column.new.column ≡ column.old.column }
-    ensures made { result ≡ pos 0 → WhereBoth AreEncoded column.old.column out.new.column }
+    ensures made { result ≡ pos 0 → WhereBoth AreEncoded (array_in column.old.column) (array_in out.new.column) }
+    ensures typed { result ≡ pos 0 → format_in out.new.column ≡ format_in column.old.column }
     ensures kept { result ≢ pos 0 → out.new.column ≡ out.old.column }
-    ensures ended { EndsOnWindow encoding_fault column.old.column result error.new }
+    ensures ended { EndsOnWindow encoding_fault (array_in column.old.column) result error.new }
 {
-    let Some(array) = column.take(alloc) else {
+    let Some(held) = column.take(alloc) else {
         return NO_COLUMN;
     };
-    let outcome = builders::encoded_rows(alloc, &array);
-    column.put(array);
+    let outcome = builders::encoded_rows(alloc, &held);
+    column.put(held);
     answer(outcome, out, error)
 }
 
@@ -74,20 +76,20 @@ pub extern "C" fn hv_append(
     ensures same { column.new.column ≡ column.old.column }
     ensures grown { result ≡ pos 0
         → WhereAll (λ built c more. more ≡ with_rows built (rows c))
-        builder.old.built column.old.column builder.new.built }
+        builder.old.built (array_in column.old.column) builder.new.built }
     ensures kept { result ≢ pos 0 → builder.new.built ≡ builder.old.built }
-    ensures ended { EndsOnAppend builder.old.built column.old.column result error.new }
+    ensures ended { EndsOnAppend builder.old.built (array_in column.old.column) result error.new }
 {
     let Some(mut built) = builder.take(alloc) else {
         return NO_COLUMN;
     };
-    let Some(array) = column.take(alloc) else {
+    let Some(held) = column.take(alloc) else {
         builder.put(built);
         return NO_COLUMN;
     };
-    let outcome = builders::append_column(alloc, &mut built, &array);
+    let outcome = builders::append_column(alloc, &mut built, &held.array);
     builder.put(built);
-    column.put(array);
+    column.put(held);
     write_status(outcome, error)
 }
 
@@ -128,7 +130,8 @@ pub extern "C" fn hv_encoding(
     error: &mut ErrorFields,
 ) -> i32
     ensures same { builder.new.built ≡ builder.old.built }
-    ensures made { result ≡ pos 0 → WhereBoth AreBuilt builder.old.built out.new.column }
+    ensures made { result ≡ pos 0 → WhereBoth AreBuilt builder.old.built (array_in out.new.column) }
+    ensures untyped { result ≡ pos 0 → format_in out.new.column ≡ [] }
     ensures kept { result ≢ pos 0 → out.new.column ≡ out.old.column }
     ensures ended { EndsOnBuilt builder.old.built result error.new }
 {
@@ -150,8 +153,9 @@ pub extern "C" fn hv_finish(
     out: &mut Handle,
     error: &mut ErrorFields,
 ) -> i32
-    ensures made { result ≡ pos 0 → WhereBoth AreBuilt builder.old.built out.new.column }
+    ensures made { result ≡ pos 0 → WhereBoth AreBuilt builder.old.built (array_in out.new.column) }
     ensures empty { result ≡ pos 0 → WhereBoth IsEmptied builder.old.built builder.new.built }
+    ensures untyped { result ≡ pos 0 → format_in out.new.column ≡ [] }
     ensures kept { result ≢ pos 0 → out.new.column ≡ out.old.column }
     ensures same { result ≢ pos 0 → builder.new.built ≡ builder.old.built }
     ensures ended { EndsOnBuilt builder.old.built result error.new }

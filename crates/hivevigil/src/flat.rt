@@ -1,8 +1,9 @@
 //! Calls that make flat columns of booleans and of decimals.
-ghost use Rattle.std.specs.Prelude.{◌≡◌, ◌≢◌, IsSomeAnd, length, pos};
+ghost use Rattle.std.specs.Prelude.{◌≡◌, ◌≢◌, [], IsSomeAnd, length, pos};
 ghost use Rattle.std.specs.Option.{option_or};
 ghost use Rattle.c_columns.specs.Bits.{bits_fault, bits_in, validity_by, validity_fault};
 ghost use Rattle.c_columns.specs.Ending.{EndsBy};
+ghost use Rattle.c_columns.specs.Handle.{array_in, format_in};
 ghost use Rattle.c_columns.specs.Makers.{AreDecimalsOf, AreTruthsOf};
 
 use c_columns::commands::answer;
@@ -29,8 +30,9 @@ pub extern "C" fn hv_bools(
     error: &mut ErrorFields,
 ) -> i32
     ensures made { result ≡ pos 0
-        → IsSomeAnd out.new.column (λ c. AreTruthsOf (bits_in truths.now start count)
+        → IsSomeAnd (array_in out.new.column) (λ c. AreTruthsOf (bits_in truths.now start count)
         (validity_by nulls bits.now first count) c) }
+    ensures untyped { result ≡ pos 0 → format_in out.new.column ≡ [] }
     ensures kept { result ≢ pos 0 → out.new.column ≡ out.old.column }
     ensures ended { EndsBy (option_or (validity_fault nulls bits.now first count)
         (bits_fault truths.now start count)) result error.new }
@@ -57,8 +59,10 @@ pub extern "C" fn hv_decimals(
     error: &mut ErrorFields,
 ) -> i32
     ensures made { result ≡ pos 0
-        → IsSomeAnd out.new.column (λ c. AreDecimalsOf (record { precision = precision; scale = scale }) pairs.now
+        → IsSomeAnd (array_in out.new.column)
+        (λ c. AreDecimalsOf (record { precision = precision; scale = scale }) pairs.now
         (validity_by nulls bits.now first (length pairs.now)) c) }
+    ensures untyped { result ≡ pos 0 → format_in out.new.column ≡ [] }
     ensures kept { result ≢ pos 0 → out.new.column ≡ out.old.column }
     ensures ended { EndsBy (validity_fault nulls bits.now first (length pairs.now)) result error.new }
 {

@@ -1,8 +1,9 @@
 //! Calls on columns of floats of 16, 32 and 64 bits, stored by their keys in columns of `i16`, `i32` and `i64`.
-ghost use Rattle.std.specs.Prelude.{◌≡◌, ◌≢◌, IsSomeAnd, MatchOption, pos};
+ghost use Rattle.std.specs.Prelude.{◌≡◌, ◌≢◌, [], IsSomeAnd, MatchOption, pos};
 ghost use Rattle.column_floats.specs.Formats.{bits_fault, constant_fault, doubles_fault, floats_fault};
 ghost use Rattle.c_columns.specs.Ending.{WhereAll, WhereBoth};
 ghost use Rattle.c_columns.specs.Flags.{flag_of};
+ghost use Rattle.c_columns.specs.Handle.{array_in, format_in};
 ghost use Rattle.c_columns.specs.Kinds.{operator_by};
 ghost use Rattle.c_kernels.specs.FloatPairs.{float_operator_numbered, AreFloatsCombined, EndsOnFloatPairs};
 ghost use Rattle.c_kernels.specs.Floats.{AreBitsOf, AreComparedBy, AreExtremesShown, AreFloatsOf, EndsOnFloats, EndsOnLookUp, IsFloatAt, IsSumShown};
@@ -26,9 +27,11 @@ pub extern "C" fn hv_float_encode(
     error: &mut ErrorFields,
 ) -> i32
     ensures same { bits.new.column ≡ bits.old.column }
-    ensures made { result ≡ pos 0 → WhereBoth (AreFloatsOf (flag_of is_canonical)) bits.old.column out.new.column }
+    ensures made { result ≡ pos 0 →
+        WhereBoth (AreFloatsOf (flag_of is_canonical)) (array_in bits.old.column) (array_in out.new.column) }
+    ensures untyped { result ≡ pos 0 → format_in out.new.column ≡ [] }
     ensures kept { result ≢ pos 0 → out.new.column ≡ out.old.column }
-    ensures ended { EndsOnFloats bits_fault bits.old.column result error.new }
+    ensures ended { EndsOnFloats bits_fault (array_in bits.old.column) result error.new }
 {
     encode_handle(alloc, bits, is_canonical, out, error)
 }
@@ -43,9 +46,10 @@ pub extern "C" fn hv_float_decode(
     error: &mut ErrorFields,
 ) -> i32
     ensures same { floats.new.column ≡ floats.old.column }
-    ensures made { result ≡ pos 0 → WhereBoth AreBitsOf floats.old.column out.new.column }
+    ensures made { result ≡ pos 0 → WhereBoth AreBitsOf (array_in floats.old.column) (array_in out.new.column) }
+    ensures untyped { result ≡ pos 0 → format_in out.new.column ≡ [] }
     ensures kept { result ≢ pos 0 → out.new.column ≡ out.old.column }
-    ensures ended { EndsOnFloats floats_fault floats.old.column result error.new }
+    ensures ended { EndsOnFloats floats_fault (array_in floats.old.column) result error.new }
 {
     decode_handle(alloc, floats, out, error)
 }
@@ -65,10 +69,12 @@ pub extern "C" fn hv_float_compare(
 ) -> i32
     ensures same { floats.new.column ≡ floats.old.column }
     ensures made { result ≡ pos 0 → IsSomeAnd (operator_by operator)
-        (λ op. WhereBoth (AreComparedBy (flag_of is_ieee) op bits) floats.old.column out.new.column) }
+        (λ op. WhereBoth (AreComparedBy (flag_of is_ieee) op bits) (array_in floats.old.column)
+        (array_in out.new.column)) }
+    ensures untyped { result ≡ pos 0 → format_in out.new.column ≡ [] }
     ensures kept { result ≢ pos 0 → out.new.column ≡ out.old.column }
     ensures ended { MatchOption (operator_by operator) (result ≡ pos 23)
-        (λ op. EndsOnFloats (λ dtype. constant_fault dtype bits) floats.old.column result error.new) }
+        (λ op. EndsOnFloats (λ dtype. constant_fault dtype bits) (array_in floats.old.column) result error.new) }
 {
     compare_handle(alloc, floats, operator, bits, is_ieee, out, error)
 }
@@ -85,10 +91,11 @@ pub extern "C" fn hv_float_at(
     error: &mut ErrorFields,
 ) -> i32
     ensures same { floats.new.column ≡ floats.old.column }
-    ensures shown { result ≡ pos 0 → IsSomeAnd floats.old.column (λ c. IsFloatAt row c is_valid.new bits.new) }
+    ensures shown { result ≡ pos 0 →
+        IsSomeAnd (array_in floats.old.column) (λ c. IsFloatAt row c is_valid.new bits.new) }
     ensures kept_valid { result ≢ pos 0 → is_valid.new ≡ is_valid.old }
     ensures kept_bits { result ≢ pos 0 → bits.new ≡ bits.old }
-    ensures ended { EndsOnLookUp row floats.old.column result error.new }
+    ensures ended { EndsOnLookUp row (array_in floats.old.column) result error.new }
 {
     float_in_handle(alloc, floats, row, is_valid, bits, error)
 }
@@ -106,12 +113,12 @@ pub extern "C" fn hv_float_min_max(
     error: &mut ErrorFields,
 ) -> i32
     ensures same { floats.new.column ≡ floats.old.column }
-    ensures shown { result ≡ pos 0 → IsSomeAnd floats.old.column
+    ensures shown { result ≡ pos 0 → IsSomeAnd (array_in floats.old.column)
         (λ c. AreExtremesShown (flag_of is_ieee) c is_found.new least.new greatest.new) }
     ensures kept_found { result ≢ pos 0 → is_found.new ≡ is_found.old }
     ensures kept_least { result ≢ pos 0 → least.new ≡ least.old }
     ensures kept_greatest { result ≢ pos 0 → greatest.new ≡ greatest.old }
-    ensures ended { EndsOnFloats floats_fault floats.old.column result error.new }
+    ensures ended { EndsOnFloats floats_fault (array_in floats.old.column) result error.new }
 {
     min_max_in_handle(alloc, floats, is_ieee, is_found, least, greatest, error)
 }
@@ -127,10 +134,10 @@ pub extern "C" fn hv_float_sum(
     error: &mut ErrorFields,
 ) -> i32
     ensures same { floats.new.column ≡ floats.old.column }
-    ensures shown { result ≡ pos 0 → IsSomeAnd floats.old.column (λ c. IsSumShown c count.new bits.new) }
+    ensures shown { result ≡ pos 0 → IsSomeAnd (array_in floats.old.column) (λ c. IsSumShown c count.new bits.new) }
     ensures kept_count { result ≢ pos 0 → count.new ≡ count.old }
     ensures kept_bits { result ≢ pos 0 → bits.new ≡ bits.old }
-    ensures ended { EndsOnFloats doubles_fault floats.old.column result error.new }
+    ensures ended { EndsOnFloats doubles_fault (array_in floats.old.column) result error.new }
 {
     sum_in_handle(alloc, floats, count, bits, error)
 }
@@ -150,10 +157,12 @@ pub extern "C" fn hv_float_combine(
     ensures same { left.new.column ≡ left.old.column }
     ensures same_right { right.new.column ≡ right.old.column }
     ensures made { result ≡ pos 0 → IsSomeAnd (float_operator_numbered operator)
-        (λ operator. WhereAll (AreFloatsCombined operator) left.old.column right.old.column out.new.column) }
+        (λ operator. WhereAll (AreFloatsCombined operator) (array_in left.old.column) (array_in right.old.column)
+        (array_in out.new.column)) }
+    ensures untyped { result ≡ pos 0 → format_in out.new.column ≡ [] }
     ensures kept { result ≢ pos 0 → out.new.column ≡ out.old.column }
     ensures ended { MatchOption (float_operator_numbered operator) (result ≡ pos 23)
-        (λ operator. EndsOnFloatPairs left.old.column right.old.column result error.new) }
+        (λ operator. EndsOnFloatPairs (array_in left.old.column) (array_in right.old.column) result error.new) }
 {
     combine_float_handles(alloc, left, operator, right, out, error)
 }

@@ -10,6 +10,7 @@ mod decimals;
 mod encodings;
 mod flat;
 mod floats;
+mod formats;
 mod groups;
 mod lists;
 mod messages;

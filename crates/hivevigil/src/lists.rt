@@ -1,9 +1,10 @@
 //! Calls that make columns of lists and take them apart.
-ghost use Rattle.std.specs.Prelude.{◌≡◌, ◌≢◌, length, pos};
+ghost use Rattle.std.specs.Prelude.{◌≡◌, ◌≢◌, [], length, pos};
 ghost use Rattle.runend_array.specs.Array.{column_of};
 ghost use Rattle.runend_column.specs.ListParts.{AreElementsOf, AreFlagsOf, AreOffsetsOf, AreSizesOf, no_lists_fault};
 ghost use Rattle.c_columns.specs.Bits.{validity_by};
 ghost use Rattle.c_columns.specs.Ending.{EndsOnHeldUnless, WhereBoth};
+ghost use Rattle.c_columns.specs.Handle.{array_in, format_in};
 ghost use Rattle.c_columns.specs.Lists.{ArePassedLists, PassedListsFault};
 ghost use Rattle.c_columns.specs.ReadFaults.{EndsOnWindow};
 
@@ -30,16 +31,18 @@ pub extern "C" fn hv_lists(
 ) -> i32
     ensures same { elements.new.column ≡ elements.old.column }
     ensures made { result ≡ pos 0 → WhereBoth (ArePassedLists offsets.now sizes.now
-        (validity_by nulls bits.now first (length offsets.now))) elements.old.column out.new.column }
+        (validity_by nulls bits.now first (length offsets.now))) (array_in elements.old.column)
+        (array_in out.new.column) }
+    ensures untyped { result ≡ pos 0 → format_in out.new.column ≡ [] }
     ensures kept { result ≢ pos 0 → out.new.column ≡ out.old.column }
     ensures ended { EndsOnHeldUnless (PassedListsFault offsets.now sizes.now nulls bits.now first)
-        elements.old.column result error.new }
+        (array_in elements.old.column) result error.new }
 {
-    let Some(array) = elements.take(alloc) else {
+    let Some(held) = elements.take(alloc) else {
         return NO_COLUMN;
     };
-    let outcome = lists::lists(alloc, &array, offsets, sizes, nulls, bits, first);
-    elements.put(array);
+    let outcome = lists::lists(alloc, &held.array, offsets, sizes, nulls, bits, first);
+    elements.put(held);
     answer(outcome, out, error)
 }
 
@@ -54,15 +57,17 @@ pub extern "C" fn hv_list_elements(
 ) -> i32
     ensures same { column.new.column ≡ column.old.column }
     ensures made { result ≡ pos 0
-        → WhereBoth (λ c d. AreElementsOf (column_of c) (column_of d)) column.old.column out.new.column }
+        → WhereBoth (λ c d. AreElementsOf (column_of c) (column_of d)) (array_in column.old.column)
+        (array_in out.new.column) }
+    ensures untyped { result ≡ pos 0 → format_in out.new.column ≡ [] }
     ensures kept { result ≢ pos 0 → out.new.column ≡ out.old.column }
-    ensures ended { EndsOnWindow no_lists_fault column.old.column result error.new }
+    ensures ended { EndsOnWindow no_lists_fault (array_in column.old.column) result error.new }
 {
-    let Some(array) = column.take(alloc) else {
+    let Some(held) = column.take(alloc) else {
         return NO_COLUMN;
     };
-    let outcome = lists::elements_of(alloc, &array);
-    column.put(array);
+    let outcome = lists::elements_of(alloc, &held.array);
+    column.put(held);
     answer(outcome, out, error)
 }
 
@@ -77,15 +82,17 @@ pub extern "C" fn hv_list_offsets(
 ) -> i32
     ensures same { column.new.column ≡ column.old.column }
     ensures made { result ≡ pos 0
-        → WhereBoth (λ c d. AreOffsetsOf (column_of c) (column_of d)) column.old.column out.new.column }
+        → WhereBoth (λ c d. AreOffsetsOf (column_of c) (column_of d)) (array_in column.old.column)
+        (array_in out.new.column) }
+    ensures untyped { result ≡ pos 0 → format_in out.new.column ≡ [] }
     ensures kept { result ≢ pos 0 → out.new.column ≡ out.old.column }
-    ensures ended { EndsOnWindow no_lists_fault column.old.column result error.new }
+    ensures ended { EndsOnWindow no_lists_fault (array_in column.old.column) result error.new }
 {
-    let Some(array) = column.take(alloc) else {
+    let Some(held) = column.take(alloc) else {
         return NO_COLUMN;
     };
-    let outcome = lists::offsets_of(alloc, &array);
-    column.put(array);
+    let outcome = lists::offsets_of(alloc, &held.array);
+    column.put(held);
     answer(outcome, out, error)
 }
 
@@ -100,15 +107,17 @@ pub extern "C" fn hv_list_sizes(
 ) -> i32
     ensures same { column.new.column ≡ column.old.column }
     ensures made { result ≡ pos 0
-        → WhereBoth (λ c d. AreSizesOf (column_of c) (column_of d)) column.old.column out.new.column }
+        → WhereBoth (λ c d. AreSizesOf (column_of c) (column_of d)) (array_in column.old.column)
+        (array_in out.new.column) }
+    ensures untyped { result ≡ pos 0 → format_in out.new.column ≡ [] }
     ensures kept { result ≢ pos 0 → out.new.column ≡ out.old.column }
-    ensures ended { EndsOnWindow no_lists_fault column.old.column result error.new }
+    ensures ended { EndsOnWindow no_lists_fault (array_in column.old.column) result error.new }
 {
-    let Some(array) = column.take(alloc) else {
+    let Some(held) = column.take(alloc) else {
         return NO_COLUMN;
     };
-    let outcome = lists::sizes_of(alloc, &array);
-    column.put(array);
+    let outcome = lists::sizes_of(alloc, &held.array);
+    column.put(held);
     answer(outcome, out, error)
 }
 
@@ -123,14 +132,16 @@ pub extern "C" fn hv_list_validity(
 ) -> i32
     ensures same { column.new.column ≡ column.old.column }
     ensures made { result ≡ pos 0
-        → WhereBoth (λ c d. AreFlagsOf (column_of c) (column_of d)) column.old.column out.new.column }
+        → WhereBoth (λ c d. AreFlagsOf (column_of c) (column_of d)) (array_in column.old.column)
+        (array_in out.new.column) }
+    ensures untyped { result ≡ pos 0 → format_in out.new.column ≡ [] }
     ensures kept { result ≢ pos 0 → out.new.column ≡ out.old.column }
-    ensures ended { EndsOnWindow no_lists_fault column.old.column result error.new }
+    ensures ended { EndsOnWindow no_lists_fault (array_in column.old.column) result error.new }
 {
-    let Some(array) = column.take(alloc) else {
+    let Some(held) = column.take(alloc) else {
         return NO_COLUMN;
     };
-    let outcome = lists::flags_of(alloc, &array);
-    column.put(array);
+    let outcome = lists::flags_of(alloc, &held.array);
+    column.put(held);
     answer(outcome, out, error)
 }

@@ -1,7 +1,8 @@
 //! Calls that write columns as messages, and read messages.
-ghost use Rattle.std.specs.Prelude.{◌≡◌, ◌≢◌, IsSomeAnd, length, pos};
+ghost use Rattle.std.specs.Prelude.{◌≡◌, ◌≢◌, [], IsSomeAnd, length, pos};
 ghost use Rattle.runend_array.specs.Array.{column_of};
 ghost use Rattle.c_columns.specs.Flags.{Tells};
+ghost use Rattle.c_columns.specs.Handle.{array_in, format_in};
 ghost use Rattle.c_columns.specs.Messages.{AreMessage, EndsOnReading, EndsOnSize, EndsOnWrite, HasMessage, IsColumnOfMessage, IsMessageAtFront};
 
 use c_columns::commands::answer;
@@ -21,15 +22,15 @@ pub extern "C" fn hv_write_size(
     error: &mut ErrorFields,
 ) -> i32
     ensures same { column.new.column ≡ column.old.column }
-    ensures told { result ≡ pos 0 → IsSomeAnd column.old.column (λ c. HasMessage (column_of c) size.new) }
+    ensures told { result ≡ pos 0 → IsSomeAnd (array_in column.old.column) (λ c. HasMessage (column_of c) size.new) }
     ensures kept { result ≢ pos 0 → size.new ≡ size.old }
-    ensures ended { EndsOnSize column.old.column result error.new }
+    ensures ended { EndsOnSize (array_in column.old.column) result error.new }
 {
-    let Some(array) = column.take(alloc) else {
+    let Some(held) = column.take(alloc) else {
         return NO_COLUMN;
     };
-    let outcome = messages::message_size(&array);
-    column.put(array);
+    let outcome = messages::message_size(&held.array);
+    column.put(held);
     write_answer(outcome, size, error)
 }
 
@@ -47,16 +48,16 @@ pub extern "C" fn hv_write(
 ) -> i32
     ensures same { column.new.column ≡ column.old.column }
     ensures told { result ≡ pos 0
-        → IsSomeAnd column.old.column (λ c. IsMessageAtFront (column_of c) size.new bytes.new) }
+        → IsSomeAnd (array_in column.old.column) (λ c. IsMessageAtFront (column_of c) size.new bytes.new) }
     ensures kept { result ≢ pos 0 → bytes.new ≡ bytes.old }
     ensures kept_size { result ≢ pos 0 → size.new ≡ size.old }
-    ensures ended { EndsOnWrite (length bytes.old) column.old.column result error.new }
+    ensures ended { EndsOnWrite (length bytes.old) (array_in column.old.column) result error.new }
 {
-    let Some(array) = column.take(alloc) else {
+    let Some(held) = column.take(alloc) else {
         return NO_COLUMN;
     };
-    let outcome = messages::put_message(&array, bytes);
-    column.put(array);
+    let outcome = messages::put_message(&held.array, bytes);
+    column.put(held);
     write_answer(outcome, size, error)
 }
 
@@ -70,7 +71,8 @@ pub extern "C" fn hv_read_column(
     out: &mut Handle,
     error: &mut ErrorFields,
 ) -> i32
-    ensures made { result ≡ pos 0 → IsSomeAnd out.new.column (IsColumnOfMessage bytes.now) }
+    ensures made { result ≡ pos 0 → IsSomeAnd (array_in out.new.column) (IsColumnOfMessage bytes.now) }
+    ensures untyped { result ≡ pos 0 → format_in out.new.column ≡ [] }
     ensures kept { result ≢ pos 0 → out.new.column ≡ out.old.column }
     ensures ended { EndsOnReading bytes.now result error.new }
 {

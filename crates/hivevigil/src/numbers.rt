@@ -1,8 +1,9 @@
 //! Calls that make flat columns of integers.
-ghost use Rattle.std.specs.Prelude.{◌≡◌, ◌≢◌, IsSomeAnd, length, map, pos};
+ghost use Rattle.std.specs.Prelude.{◌≡◌, ◌≢◌, [], IsSomeAnd, length, map, pos};
 ghost use Rattle.column_base.specs.declared.dtype.PType.TheVariants.{U8, U16, U32, U64, I8, I16, I32, I64};
 ghost use Rattle.c_columns.specs.Bits.{validity_by, validity_fault};
 ghost use Rattle.c_columns.specs.Ending.{EndsBy};
+ghost use Rattle.c_columns.specs.Handle.{array_in, format_in};
 ghost use Rattle.c_columns.specs.Makers.{IsFlatOf};
 
 use c_columns::commands::answer;
@@ -25,8 +26,9 @@ pub extern "C" fn hv_u8(
     error: &mut ErrorFields,
 ) -> i32
     ensures made { result ≡ pos 0
-        → IsSomeAnd out.new.column (λ c. IsFlatOf U8 (map pos items.now)
+        → IsSomeAnd (array_in out.new.column) (λ c. IsFlatOf U8 (map pos items.now)
         (validity_by nulls bits.now first (length items.now)) c) }
+    ensures untyped { result ≡ pos 0 → format_in out.new.column ≡ [] }
     ensures kept { result ≢ pos 0 → out.new.column ≡ out.old.column }
     ensures ended { EndsBy (validity_fault nulls bits.now first (length items.now)) result error.new }
 {
@@ -47,8 +49,9 @@ pub extern "C" fn hv_u16(
     error: &mut ErrorFields,
 ) -> i32
     ensures made { result ≡ pos 0
-        → IsSomeAnd out.new.column (λ c. IsFlatOf U16 (map pos items.now)
+        → IsSomeAnd (array_in out.new.column) (λ c. IsFlatOf U16 (map pos items.now)
         (validity_by nulls bits.now first (length items.now)) c) }
+    ensures untyped { result ≡ pos 0 → format_in out.new.column ≡ [] }
     ensures kept { result ≢ pos 0 → out.new.column ≡ out.old.column }
     ensures ended { EndsBy (validity_fault nulls bits.now first (length items.now)) result error.new }
 {
@@ -69,8 +72,9 @@ pub extern "C" fn hv_u32(
     error: &mut ErrorFields,
 ) -> i32
     ensures made { result ≡ pos 0
-        → IsSomeAnd out.new.column (λ c. IsFlatOf U32 (map pos items.now)
+        → IsSomeAnd (array_in out.new.column) (λ c. IsFlatOf U32 (map pos items.now)
         (validity_by nulls bits.now first (length items.now)) c) }
+    ensures untyped { result ≡ pos 0 → format_in out.new.column ≡ [] }
     ensures kept { result ≢ pos 0 → out.new.column ≡ out.old.column }
     ensures ended { EndsBy (validity_fault nulls bits.now first (length items.now)) result error.new }
 {
@@ -91,8 +95,9 @@ pub extern "C" fn hv_u64(
     error: &mut ErrorFields,
 ) -> i32
     ensures made { result ≡ pos 0
-        → IsSomeAnd out.new.column (λ c. IsFlatOf U64 (map pos items.now)
+        → IsSomeAnd (array_in out.new.column) (λ c. IsFlatOf U64 (map pos items.now)
         (validity_by nulls bits.now first (length items.now)) c) }
+    ensures untyped { result ≡ pos 0 → format_in out.new.column ≡ [] }
     ensures kept { result ≢ pos 0 → out.new.column ≡ out.old.column }
     ensures ended { EndsBy (validity_fault nulls bits.now first (length items.now)) result error.new }
 {
@@ -113,8 +118,9 @@ pub extern "C" fn hv_i8(
     error: &mut ErrorFields,
 ) -> i32
     ensures made { result ≡ pos 0
-        → IsSomeAnd out.new.column (λ c. IsFlatOf I8 (items.now)
+        → IsSomeAnd (array_in out.new.column) (λ c. IsFlatOf I8 (items.now)
         (validity_by nulls bits.now first (length items.now)) c) }
+    ensures untyped { result ≡ pos 0 → format_in out.new.column ≡ [] }
     ensures kept { result ≢ pos 0 → out.new.column ≡ out.old.column }
     ensures ended { EndsBy (validity_fault nulls bits.now first (length items.now)) result error.new }
 {
@@ -135,8 +141,9 @@ pub extern "C" fn hv_i16(
     error: &mut ErrorFields,
 ) -> i32
     ensures made { result ≡ pos 0
-        → IsSomeAnd out.new.column (λ c. IsFlatOf I16 (items.now)
+        → IsSomeAnd (array_in out.new.column) (λ c. IsFlatOf I16 (items.now)
         (validity_by nulls bits.now first (length items.now)) c) }
+    ensures untyped { result ≡ pos 0 → format_in out.new.column ≡ [] }
     ensures kept { result ≢ pos 0 → out.new.column ≡ out.old.column }
     ensures ended { EndsBy (validity_fault nulls bits.now first (length items.now)) result error.new }
 {
@@ -157,8 +164,9 @@ pub extern "C" fn hv_i32(
     error: &mut ErrorFields,
 ) -> i32
     ensures made { result ≡ pos 0
-        → IsSomeAnd out.new.column (λ c. IsFlatOf I32 (items.now)
+        → IsSomeAnd (array_in out.new.column) (λ c. IsFlatOf I32 (items.now)
         (validity_by nulls bits.now first (length items.now)) c) }
+    ensures untyped { result ≡ pos 0 → format_in out.new.column ≡ [] }
     ensures kept { result ≢ pos 0 → out.new.column ≡ out.old.column }
     ensures ended { EndsBy (validity_fault nulls bits.now first (length items.now)) result error.new }
 {
@@ -179,8 +187,9 @@ pub extern "C" fn hv_i64(
     error: &mut ErrorFields,
 ) -> i32
     ensures made { result ≡ pos 0
-        → IsSomeAnd out.new.column (λ c. IsFlatOf I64 (items.now)
+        → IsSomeAnd (array_in out.new.column) (λ c. IsFlatOf I64 (items.now)
         (validity_by nulls bits.now first (length items.now)) c) }
+    ensures untyped { result ≡ pos 0 → format_in out.new.column ≡ [] }
     ensures kept { result ≢ pos 0 → out.new.column ≡ out.old.column }
     ensures ended { EndsBy (validity_fault nulls bits.now first (length items.now)) result error.new }
 {

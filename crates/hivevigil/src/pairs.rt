@@ -1,9 +1,10 @@
 //! Calls that work rows by the runs of their columns: of two, of one by itself, and of two by a mask.
-ghost use Rattle.std.specs.Prelude.{◌≡◌, ◌≢◌, IsSomeAnd, MatchOption, pos};
+ghost use Rattle.std.specs.Prelude.{◌≡◌, ◌≢◌, [], IsSomeAnd, MatchOption, pos};
 ghost use Rattle.c_columns.specs.Ending.{WhereAll, WhereBoth};
 ghost use Rattle.c_columns.specs.Flags.{Tells};
+ghost use Rattle.c_columns.specs.Handle.{array_in, format_in};
 ghost use Rattle.c_columns.specs.TwoColumns.{EndsOnTwo};
-ghost use Rattle.c_kernels.specs.Chosen.{AreChosenOf, EndsOnThree};
+ghost use Rattle.c_kernels.specs.Chosen.{AreChosenOf, EndsOnThree, IsCommonFormat};
 ghost use Rattle.c_kernels.specs.Combined.{operator_numbered, AreCombined, EndsOnPairs};
 ghost use Rattle.c_kernels.specs.Equal.{equal_fault, AreEqual};
 ghost use Rattle.c_kernels.specs.Hashed.{EndsOnHash, HasHash};
@@ -33,10 +34,12 @@ pub extern "C" fn hv_combine(
     ensures same { left.new.column ≡ left.old.column }
     ensures same_right { right.new.column ≡ right.old.column }
     ensures made { result ≡ pos 0 → IsSomeAnd (operator_numbered operator)
-        (λ operator. WhereAll (AreCombined operator) left.old.column right.old.column out.new.column) }
+        (λ operator. WhereAll (AreCombined operator) (array_in left.old.column) (array_in right.old.column)
+        (array_in out.new.column)) }
+    ensures untyped { result ≡ pos 0 → format_in out.new.column ≡ [] }
     ensures kept { result ≢ pos 0 → out.new.column ≡ out.old.column }
     ensures ended { MatchOption (operator_numbered operator) (result ≡ pos 23)
-        (λ operator. EndsOnPairs operator left.old.column right.old.column result error.new) }
+        (λ operator. EndsOnPairs operator (array_in left.old.column) (array_in right.old.column) result error.new) }
 {
     combine_handles(alloc, left, operator, right, out, error)
 }
@@ -50,9 +53,10 @@ pub extern "C" fn hv_not(
     error: &mut ErrorFields,
 ) -> i32
     ensures same { column.new.column ≡ column.old.column }
-    ensures made { result ≡ pos 0 → WhereBoth (IsTested Not) column.old.column out.new.column }
+    ensures made { result ≡ pos 0 → WhereBoth (IsTested Not) (array_in column.old.column) (array_in out.new.column) }
+    ensures untyped { result ≡ pos 0 → format_in out.new.column ≡ [] }
     ensures kept { result ≢ pos 0 → out.new.column ≡ out.old.column }
-    ensures ended { EndsOnTested Not column.old.column result error.new }
+    ensures ended { EndsOnTested Not (array_in column.old.column) result error.new }
 {
     test_handle(alloc, column, RowTest::Not, out, error)
 }
@@ -66,9 +70,10 @@ pub extern "C" fn hv_is_null(
     error: &mut ErrorFields,
 ) -> i32
     ensures same { column.new.column ≡ column.old.column }
-    ensures made { result ≡ pos 0 → WhereBoth (IsTested Null) column.old.column out.new.column }
+    ensures made { result ≡ pos 0 → WhereBoth (IsTested Null) (array_in column.old.column) (array_in out.new.column) }
+    ensures untyped { result ≡ pos 0 → format_in out.new.column ≡ [] }
     ensures kept { result ≢ pos 0 → out.new.column ≡ out.old.column }
-    ensures ended { EndsOnTested Null column.old.column result error.new }
+    ensures ended { EndsOnTested Null (array_in column.old.column) result error.new }
 {
     test_handle(alloc, column, RowTest::Null, out, error)
 }
@@ -82,9 +87,10 @@ pub extern "C" fn hv_is_valid(
     error: &mut ErrorFields,
 ) -> i32
     ensures same { column.new.column ≡ column.old.column }
-    ensures made { result ≡ pos 0 → WhereBoth (IsTested Valid) column.old.column out.new.column }
+    ensures made { result ≡ pos 0 → WhereBoth (IsTested Valid) (array_in column.old.column) (array_in out.new.column) }
+    ensures untyped { result ≡ pos 0 → format_in out.new.column ≡ [] }
     ensures kept { result ≢ pos 0 → out.new.column ≡ out.old.column }
-    ensures ended { EndsOnTested Valid column.old.column result error.new }
+    ensures ended { EndsOnTested Valid (array_in column.old.column) result error.new }
 {
     test_handle(alloc, column, RowTest::Valid, out, error)
 }
@@ -102,9 +108,9 @@ pub extern "C" fn hv_equals(
     ensures same { left.new.column ≡ left.old.column }
     ensures same_right { right.new.column ≡ right.old.column }
     ensures told { result ≡ pos 0 →
-        WhereBoth (λ c d. Tells truth.new (AreEqual c d)) left.old.column right.old.column }
+        WhereBoth (λ c d. Tells truth.new (AreEqual c d)) (array_in left.old.column) (array_in right.old.column) }
     ensures kept { result ≢ pos 0 → truth.new ≡ truth.old }
-    ensures ended { EndsOnTwo equal_fault left.old.column right.old.column result error.new }
+    ensures ended { EndsOnTwo equal_fault (array_in left.old.column) (array_in right.old.column) result error.new }
 {
     equal_handles(alloc, left, right, truth, error)
 }
@@ -125,9 +131,13 @@ pub extern "C" fn hv_if_else(
     ensures same_left { left.new.column ≡ left.old.column }
     ensures same_right { right.new.column ≡ right.old.column }
     ensures made { result ≡ pos 0 →
-        AreChosenOf mask.old.column left.old.column right.old.column out.new.column }
+        AreChosenOf (array_in mask.old.column) (array_in left.old.column) (array_in right.old.column)
+        (array_in out.new.column) }
+    ensures typed { result ≡ pos 0 →
+        IsCommonFormat (format_in left.old.column) (format_in right.old.column) (format_in out.new.column) }
     ensures kept { result ≢ pos 0 → out.new.column ≡ out.old.column }
-    ensures ended { EndsOnThree mask.old.column left.old.column right.old.column result error.new }
+    ensures ended { EndsOnThree (array_in mask.old.column) (array_in left.old.column)
+        (array_in right.old.column) result error.new }
 {
     choose_handles(alloc, mask, left, right, out, error)
 }
@@ -142,9 +152,9 @@ pub extern "C" fn hv_hash(
     error: &mut ErrorFields,
 ) -> i32
     ensures same { column.new.column ≡ column.old.column }
-    ensures told { result ≡ pos 0 → IsSomeAnd column.old.column (λ c. HasHash c hash.new) }
+    ensures told { result ≡ pos 0 → IsSomeAnd (array_in column.old.column) (λ c. HasHash c hash.new) }
     ensures kept { result ≢ pos 0 → hash.new ≡ hash.old }
-    ensures ended { EndsOnHash column.old.column result error.new }
+    ensures ended { EndsOnHash (array_in column.old.column) result error.new }
 {
     hash_handle(alloc, column, hash, error)
 }

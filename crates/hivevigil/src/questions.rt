@@ -7,6 +7,7 @@ ghost use Rattle.runend_commands.specs.declared.command.Command.TheVariants.{Sum
 ghost use Rattle.runend_commands.specs.Meaning.{plain};
 ghost use Rattle.c_columns.specs.Ending.{EndsOn, EndsOnEnds, EndsOnExtreme, EndsOnRow};
 ghost use Rattle.c_columns.specs.Flags.{Tells, flag_of};
+ghost use Rattle.c_columns.specs.Handle.{array_in};
 ghost use Rattle.c_columns.specs.InPlace.{IsExtremeNeverShortOn, IsNeverShortOn};
 ghost use Rattle.c_columns.specs.Kinds.{IsKindOf};
 ghost use Rattle.c_columns.specs.Reads.{form_number, offset_in};
@@ -34,16 +35,17 @@ pub extern "C" fn hv_sum(
     error: &mut ErrorFields,
 ) -> i32
     ensures same { column.new.column ≡ column.old.column }
-    ensures told { result ≡ pos 0 → IsSomeAnd column.old.column (λ c. IsTotalOf (dtype_of c) (rows c) total.new) }
+    ensures told { result ≡ pos 0 →
+        IsSomeAnd (array_in column.old.column) (λ c. IsTotalOf (dtype_of c) (rows c) total.new) }
     ensures kept { result ≢ pos 0 → total.new ≡ total.old }
-    ensures ended { EndsOn column.old.column (Some Sum) result error.new }
-    ensures memory { IsNeverShortOn session.now kernel.Sum column.old.column result }
+    ensures ended { EndsOn (array_in column.old.column) (Some Sum) result error.new }
+    ensures memory { IsNeverShortOn session.now kernel.Sum (array_in column.old.column) result }
 {
-    let Some(array) = column.take(alloc) else {
+    let Some(held) = column.take(alloc) else {
         return NO_COLUMN;
     };
-    let outcome = questions::sum_of(alloc, session, &array);
-    column.put(array);
+    let outcome = questions::sum_of(alloc, session, &held.array);
+    column.put(held);
     write_answer(outcome, total, error)
 }
 
@@ -59,16 +61,17 @@ pub extern "C" fn hv_is_constant(
     error: &mut ErrorFields,
 ) -> i32
     ensures same { column.new.column ≡ column.old.column }
-    ensures told { result ≡ pos 0 → IsSomeAnd column.old.column (λ c. Tells truth.new (order.IsConstant (rows c))) }
+    ensures told { result ≡ pos 0 →
+        IsSomeAnd (array_in column.old.column) (λ c. Tells truth.new (order.IsConstant (rows c))) }
     ensures kept { result ≢ pos 0 → truth.new ≡ truth.old }
-    ensures ended { EndsOn column.old.column (Some IsConstant) result error.new }
-    ensures memory { IsNeverShortOn session.now kernel.IsConstant column.old.column result }
+    ensures ended { EndsOn (array_in column.old.column) (Some IsConstant) result error.new }
+    ensures memory { IsNeverShortOn session.now kernel.IsConstant (array_in column.old.column) result }
 {
-    let Some(array) = column.take(alloc) else {
+    let Some(held) = column.take(alloc) else {
         return NO_COLUMN;
     };
-    let outcome = questions::is_constant(alloc, session, &array);
-    column.put(array);
+    let outcome = questions::is_constant(alloc, session, &held.array);
+    column.put(held);
     write_answer(outcome, truth, error)
 }
 
@@ -87,16 +90,16 @@ pub extern "C" fn hv_is_sorted(
 ) -> i32
     ensures same { column.new.column ≡ column.old.column }
     ensures told { result ≡ pos 0
-        → IsSomeAnd column.old.column (λ c. Tells truth.new (order.IsSorted (flag_of strict) (rows c))) }
+        → IsSomeAnd (array_in column.old.column) (λ c. Tells truth.new (order.IsSorted (flag_of strict) (rows c))) }
     ensures kept { result ≢ pos 0 → truth.new ≡ truth.old }
-    ensures ended { EndsOn column.old.column (Some (IsSorted (flag_of strict))) result error.new }
-    ensures memory { IsNeverShortOn session.now kernel.IsSorted column.old.column result }
+    ensures ended { EndsOn (array_in column.old.column) (Some (IsSorted (flag_of strict))) result error.new }
+    ensures memory { IsNeverShortOn session.now kernel.IsSorted (array_in column.old.column) result }
 {
-    let Some(array) = column.take(alloc) else {
+    let Some(held) = column.take(alloc) else {
         return NO_COLUMN;
     };
-    let outcome = questions::is_sorted(alloc, session, &array, kinds::is_set(strict));
-    column.put(array);
+    let outcome = questions::is_sorted(alloc, session, &held.array, kinds::is_set(strict));
+    column.put(held);
     write_answer(outcome, truth, error)
 }
 
@@ -116,17 +119,17 @@ pub extern "C" fn hv_extreme(
 ) -> i32
     ensures same { column.new.column ≡ column.old.column }
     ensures told { result ≡ pos 0
-        → IsSomeAnd column.old.column (λ c. IsExtremeOf (flag_of greatest) (plain c) text.new value.new) }
+        → IsSomeAnd (array_in column.old.column) (λ c. IsExtremeOf (flag_of greatest) (plain c) text.new value.new) }
     ensures kept_value { result ≢ pos 0 → value.new ≡ value.old }
     ensures kept_text { result ≢ pos 0 → text.new ≡ text.old }
-    ensures ended { EndsOnExtreme (flag_of greatest) (length text.old) column.old.column result error.new }
-    ensures memory { IsExtremeNeverShortOn session.now column.old.column result }
+    ensures ended { EndsOnExtreme (flag_of greatest) (length text.old) (array_in column.old.column) result error.new }
+    ensures memory { IsExtremeNeverShortOn session.now (array_in column.old.column) result }
 {
-    let Some(array) = column.take(alloc) else {
+    let Some(held) = column.take(alloc) else {
         return NO_COLUMN;
     };
-    let outcome = questions::extreme_of(alloc, session, &array, kinds::is_set(greatest), text);
-    column.put(array);
+    let outcome = questions::extreme_of(alloc, session, &held.array, kinds::is_set(greatest), text);
+    column.put(held);
     write_answer(outcome, value, error)
 }
 
@@ -147,21 +150,22 @@ pub extern "C" fn hv_min_max(
 ) -> i32
     ensures same { column.new.column ≡ column.old.column }
     ensures told_least { result ≡ pos 0
-        → IsSomeAnd column.old.column (λ c. IsExtremeOf false (plain c) least_text.new least.new) }
+        → IsSomeAnd (array_in column.old.column) (λ c. IsExtremeOf false (plain c) least_text.new least.new) }
     ensures told_greatest { result ≡ pos 0
-        → IsSomeAnd column.old.column (λ c. IsExtremeOf true (plain c) greatest_text.new greatest.new) }
+        → IsSomeAnd (array_in column.old.column) (λ c. IsExtremeOf true (plain c) greatest_text.new greatest.new) }
     ensures kept_least { result ≢ pos 0 → least.new ≡ least.old }
     ensures kept_least_text { result ≢ pos 0 → least_text.new ≡ least_text.old }
     ensures kept_greatest { result ≢ pos 0 → greatest.new ≡ greatest.old }
     ensures kept_greatest_text { result ≢ pos 0 → greatest_text.new ≡ greatest_text.old }
-    ensures ended { EndsOnEnds (length least_text.old) (length greatest_text.old) column.old.column result error.new }
-    ensures memory { IsExtremeNeverShortOn session.now column.old.column result }
+    ensures ended { EndsOnEnds (length least_text.old) (length greatest_text.old)
+        (array_in column.old.column) result error.new }
+    ensures memory { IsExtremeNeverShortOn session.now (array_in column.old.column) result }
 {
-    let Some(array) = column.take(alloc) else {
+    let Some(held) = column.take(alloc) else {
         return NO_COLUMN;
     };
-    let outcome = questions::extremes_of(alloc, session, &array, least_text, greatest_text);
-    column.put(array);
+    let outcome = questions::extremes_of(alloc, session, &held.array, least_text, greatest_text);
+    column.put(held);
     match outcome {
         Ok(ends) => {
             *least = ends.least;
@@ -185,16 +189,16 @@ pub extern "C" fn hv_at(
     error: &mut ErrorFields,
 ) -> i32
     ensures same { column.new.column ≡ column.old.column }
-    ensures told { result ≡ pos 0 → IsSomeAnd column.old.column (λ c. IsShownAt row c text.new value.new) }
+    ensures told { result ≡ pos 0 → IsSomeAnd (array_in column.old.column) (λ c. IsShownAt row c text.new value.new) }
     ensures kept_value { result ≢ pos 0 → value.new ≡ value.old }
     ensures kept_text { result ≢ pos 0 → text.new ≡ text.old }
-    ensures ended { EndsOnRow row (length text.old) column.old.column result error.new }
+    ensures ended { EndsOnRow row (length text.old) (array_in column.old.column) result error.new }
 {
-    let Some(array) = column.take(alloc) else {
+    let Some(held) = column.take(alloc) else {
         return NO_COLUMN;
     };
-    let outcome = questions::row_at(&array, row, text);
-    column.put(array);
+    let outcome = questions::row_at(&held.array, row, text);
+    column.put(held);
     write_answer(outcome, value, error)
 }
 
@@ -202,13 +206,13 @@ pub extern "C" fn hv_at(
 #[unsafe(no_mangle)]
 pub extern "C" fn hv_length(alloc: Global, column: &mut Handle) -> usize
     ensures same { column.new.column ≡ column.old.column }
-    ensures told { MatchOption column.old.column (result ≡ 0) (λ c. result ≡ length (rows c)) }
+    ensures told { MatchOption (array_in column.old.column) (result ≡ 0) (λ c. result ≡ length (rows c)) }
 {
-    let Some(array) = column.take(alloc) else {
+    let Some(held) = column.take(alloc) else {
         return 0;
     };
-    let found = array.len();
-    column.put(array);
+    let found = held.array.len();
+    column.put(held);
     found
 }
 
@@ -216,13 +220,13 @@ pub extern "C" fn hv_length(alloc: Global, column: &mut Handle) -> usize
 #[unsafe(no_mangle)]
 pub extern "C" fn hv_kind_of(alloc: Global, column: &mut Handle) -> Kind
     ensures same { column.new.column ≡ column.old.column }
-    ensures told { MatchOption column.old.column (result.number ≡ 255) (λ c. IsKindOf (dtype_of c) result) }
+    ensures told { MatchOption (array_in column.old.column) (result.number ≡ 255) (λ c. IsKindOf (dtype_of c) result) }
 {
-    let Some(array) = column.take(alloc) else {
+    let Some(held) = column.take(alloc) else {
         return kinds::no_kind();
     };
-    let found = kinds::kind_of(array.dtype());
-    column.put(array);
+    let found = kinds::kind_of(held.array.dtype());
+    column.put(held);
     found
 }
 
@@ -230,13 +234,13 @@ pub extern "C" fn hv_kind_of(alloc: Global, column: &mut Handle) -> Kind
 #[unsafe(no_mangle)]
 pub extern "C" fn hv_form(alloc: Global, column: &mut Handle) -> u8
     ensures same { column.new.column ≡ column.old.column }
-    ensures told { MatchOption column.old.column (result ≡ 255) (λ c. result ≡ form_number (column_of c)) }
+    ensures told { MatchOption (array_in column.old.column) (result ≡ 255) (λ c. result ≡ form_number (column_of c)) }
 {
-    let Some(array) = column.take(alloc) else {
+    let Some(held) = column.take(alloc) else {
         return 255;
     };
-    let found = runs::form_of_array(&array);
-    column.put(array);
+    let found = runs::form_of_array(&held.array);
+    column.put(held);
     found
 }
 
@@ -244,12 +248,12 @@ pub extern "C" fn hv_form(alloc: Global, column: &mut Handle) -> u8
 #[unsafe(no_mangle)]
 pub extern "C" fn hv_offset(alloc: Global, column: &mut Handle) -> usize
     ensures same { column.new.column ≡ column.old.column }
-    ensures told { MatchOption column.old.column (result ≡ 0) (λ c. result ≡ offset_in (column_of c)) }
+    ensures told { MatchOption (array_in column.old.column) (result ≡ 0) (λ c. result ≡ offset_in (column_of c)) }
 {
-    let Some(array) = column.take(alloc) else {
+    let Some(held) = column.take(alloc) else {
         return 0;
     };
-    let found = runs::offset_of(&array);
-    column.put(array);
+    let found = runs::offset_of(&held.array);
+    column.put(held);
     found
 }

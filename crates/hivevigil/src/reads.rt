@@ -5,6 +5,7 @@
 ghost use Rattle.std.specs.Prelude.{◌≡◌, ◌≢◌, IsSomeAnd, length, map, pos};
 ghost use Rattle.column_base.specs.declared.dtype.PType.TheVariants.{U8, U16, U32, U64, I8, I16, I32, I64};
 ghost use Rattle.runend_array.specs.Array.{column_of, rows};
+ghost use Rattle.c_columns.specs.Handle.{array_in};
 ghost use Rattle.c_columns.specs.ReadFaults.{EndsOnRead, EndsOnRows, bytes_fault, decimals_fault, flags_fault, numbers_fault, offsets_fault, truths_fault};
 ghost use Rattle.c_columns.specs.Reads.{AreBytesFrom, AreNumbersFrom, AreOffsetsFrom, ArePairsFrom, AreTruthWords, AreValidityWords};
 
@@ -27,15 +28,16 @@ pub extern "C" fn hv_read_u8(
 ) -> i32
     ensures same { column.new.column ≡ column.old.column }
     ensures told { result ≡ pos 0
-        → IsSomeAnd column.old.column (λ c. AreNumbersFrom (column_of c) start (map pos items.new)) }
+        → IsSomeAnd (array_in column.old.column) (λ c. AreNumbersFrom (column_of c) start (map pos items.new)) }
     ensures kept { result ≢ pos 0 → items.new ≡ items.old }
-    ensures ended { EndsOnRows (numbers_fault U8 start (length items.old)) column.old.column result error.new }
+    ensures ended { EndsOnRows (numbers_fault U8 start (length items.old))
+        (array_in column.old.column) result error.new }
 {
-    let Some(array) = column.take(alloc) else {
+    let Some(held) = column.take(alloc) else {
         return NO_COLUMN;
     };
-    let outcome = windows::read_numbers(alloc, &array, start, items);
-    column.put(array);
+    let outcome = windows::read_numbers(alloc, &held.array, start, items);
+    column.put(held);
     write_status(outcome, error)
 }
 
@@ -52,15 +54,16 @@ pub extern "C" fn hv_read_u16(
 ) -> i32
     ensures same { column.new.column ≡ column.old.column }
     ensures told { result ≡ pos 0
-        → IsSomeAnd column.old.column (λ c. AreNumbersFrom (column_of c) start (map pos items.new)) }
+        → IsSomeAnd (array_in column.old.column) (λ c. AreNumbersFrom (column_of c) start (map pos items.new)) }
     ensures kept { result ≢ pos 0 → items.new ≡ items.old }
-    ensures ended { EndsOnRows (numbers_fault U16 start (length items.old)) column.old.column result error.new }
+    ensures ended { EndsOnRows (numbers_fault U16 start (length items.old))
+        (array_in column.old.column) result error.new }
 {
-    let Some(array) = column.take(alloc) else {
+    let Some(held) = column.take(alloc) else {
         return NO_COLUMN;
     };
-    let outcome = windows::read_numbers(alloc, &array, start, items);
-    column.put(array);
+    let outcome = windows::read_numbers(alloc, &held.array, start, items);
+    column.put(held);
     write_status(outcome, error)
 }
 
@@ -77,15 +80,16 @@ pub extern "C" fn hv_read_u32(
 ) -> i32
     ensures same { column.new.column ≡ column.old.column }
     ensures told { result ≡ pos 0
-        → IsSomeAnd column.old.column (λ c. AreNumbersFrom (column_of c) start (map pos items.new)) }
+        → IsSomeAnd (array_in column.old.column) (λ c. AreNumbersFrom (column_of c) start (map pos items.new)) }
     ensures kept { result ≢ pos 0 → items.new ≡ items.old }
-    ensures ended { EndsOnRows (numbers_fault U32 start (length items.old)) column.old.column result error.new }
+    ensures ended { EndsOnRows (numbers_fault U32 start (length items.old))
+        (array_in column.old.column) result error.new }
 {
-    let Some(array) = column.take(alloc) else {
+    let Some(held) = column.take(alloc) else {
         return NO_COLUMN;
     };
-    let outcome = windows::read_numbers(alloc, &array, start, items);
-    column.put(array);
+    let outcome = windows::read_numbers(alloc, &held.array, start, items);
+    column.put(held);
     write_status(outcome, error)
 }
 
@@ -102,15 +106,16 @@ pub extern "C" fn hv_read_u64(
 ) -> i32
     ensures same { column.new.column ≡ column.old.column }
     ensures told { result ≡ pos 0
-        → IsSomeAnd column.old.column (λ c. AreNumbersFrom (column_of c) start (map pos items.new)) }
+        → IsSomeAnd (array_in column.old.column) (λ c. AreNumbersFrom (column_of c) start (map pos items.new)) }
     ensures kept { result ≢ pos 0 → items.new ≡ items.old }
-    ensures ended { EndsOnRows (numbers_fault U64 start (length items.old)) column.old.column result error.new }
+    ensures ended { EndsOnRows (numbers_fault U64 start (length items.old))
+        (array_in column.old.column) result error.new }
 {
-    let Some(array) = column.take(alloc) else {
+    let Some(held) = column.take(alloc) else {
         return NO_COLUMN;
     };
-    let outcome = windows::read_numbers(alloc, &array, start, items);
-    column.put(array);
+    let outcome = windows::read_numbers(alloc, &held.array, start, items);
+    column.put(held);
     write_status(outcome, error)
 }
 
@@ -126,15 +131,17 @@ pub extern "C" fn hv_read_i8(
     error: &mut ErrorFields,
 ) -> i32
     ensures same { column.new.column ≡ column.old.column }
-    ensures told { result ≡ pos 0 → IsSomeAnd column.old.column (λ c. AreNumbersFrom (column_of c) start (items.new)) }
+    ensures told { result ≡ pos 0 →
+        IsSomeAnd (array_in column.old.column) (λ c. AreNumbersFrom (column_of c) start (items.new)) }
     ensures kept { result ≢ pos 0 → items.new ≡ items.old }
-    ensures ended { EndsOnRows (numbers_fault I8 start (length items.old)) column.old.column result error.new }
+    ensures ended { EndsOnRows (numbers_fault I8 start (length items.old))
+        (array_in column.old.column) result error.new }
 {
-    let Some(array) = column.take(alloc) else {
+    let Some(held) = column.take(alloc) else {
         return NO_COLUMN;
     };
-    let outcome = windows::read_numbers(alloc, &array, start, items);
-    column.put(array);
+    let outcome = windows::read_numbers(alloc, &held.array, start, items);
+    column.put(held);
     write_status(outcome, error)
 }
 
@@ -150,15 +157,17 @@ pub extern "C" fn hv_read_i16(
     error: &mut ErrorFields,
 ) -> i32
     ensures same { column.new.column ≡ column.old.column }
-    ensures told { result ≡ pos 0 → IsSomeAnd column.old.column (λ c. AreNumbersFrom (column_of c) start (items.new)) }
+    ensures told { result ≡ pos 0 →
+        IsSomeAnd (array_in column.old.column) (λ c. AreNumbersFrom (column_of c) start (items.new)) }
     ensures kept { result ≢ pos 0 → items.new ≡ items.old }
-    ensures ended { EndsOnRows (numbers_fault I16 start (length items.old)) column.old.column result error.new }
+    ensures ended { EndsOnRows (numbers_fault I16 start (length items.old))
+        (array_in column.old.column) result error.new }
 {
-    let Some(array) = column.take(alloc) else {
+    let Some(held) = column.take(alloc) else {
         return NO_COLUMN;
     };
-    let outcome = windows::read_numbers(alloc, &array, start, items);
-    column.put(array);
+    let outcome = windows::read_numbers(alloc, &held.array, start, items);
+    column.put(held);
     write_status(outcome, error)
 }
 
@@ -174,15 +183,17 @@ pub extern "C" fn hv_read_i32(
     error: &mut ErrorFields,
 ) -> i32
     ensures same { column.new.column ≡ column.old.column }
-    ensures told { result ≡ pos 0 → IsSomeAnd column.old.column (λ c. AreNumbersFrom (column_of c) start (items.new)) }
+    ensures told { result ≡ pos 0 →
+        IsSomeAnd (array_in column.old.column) (λ c. AreNumbersFrom (column_of c) start (items.new)) }
     ensures kept { result ≢ pos 0 → items.new ≡ items.old }
-    ensures ended { EndsOnRows (numbers_fault I32 start (length items.old)) column.old.column result error.new }
+    ensures ended { EndsOnRows (numbers_fault I32 start (length items.old))
+        (array_in column.old.column) result error.new }
 {
-    let Some(array) = column.take(alloc) else {
+    let Some(held) = column.take(alloc) else {
         return NO_COLUMN;
     };
-    let outcome = windows::read_numbers(alloc, &array, start, items);
-    column.put(array);
+    let outcome = windows::read_numbers(alloc, &held.array, start, items);
+    column.put(held);
     write_status(outcome, error)
 }
 
@@ -198,15 +209,17 @@ pub extern "C" fn hv_read_i64(
     error: &mut ErrorFields,
 ) -> i32
     ensures same { column.new.column ≡ column.old.column }
-    ensures told { result ≡ pos 0 → IsSomeAnd column.old.column (λ c. AreNumbersFrom (column_of c) start (items.new)) }
+    ensures told { result ≡ pos 0 →
+        IsSomeAnd (array_in column.old.column) (λ c. AreNumbersFrom (column_of c) start (items.new)) }
     ensures kept { result ≢ pos 0 → items.new ≡ items.old }
-    ensures ended { EndsOnRows (numbers_fault I64 start (length items.old)) column.old.column result error.new }
+    ensures ended { EndsOnRows (numbers_fault I64 start (length items.old))
+        (array_in column.old.column) result error.new }
 {
-    let Some(array) = column.take(alloc) else {
+    let Some(held) = column.take(alloc) else {
         return NO_COLUMN;
     };
-    let outcome = windows::read_numbers(alloc, &array, start, items);
-    column.put(array);
+    let outcome = windows::read_numbers(alloc, &held.array, start, items);
+    column.put(held);
     write_status(outcome, error)
 }
 
@@ -222,15 +235,16 @@ pub extern "C" fn hv_read_decimals(
     error: &mut ErrorFields,
 ) -> i32
     ensures same { column.new.column ≡ column.old.column }
-    ensures told { result ≡ pos 0 → IsSomeAnd column.old.column (λ c. ArePairsFrom (column_of c) start pairs.new) }
+    ensures told { result ≡ pos 0 →
+        IsSomeAnd (array_in column.old.column) (λ c. ArePairsFrom (column_of c) start pairs.new) }
     ensures kept { result ≢ pos 0 → pairs.new ≡ pairs.old }
-    ensures ended { EndsOnRows (decimals_fault start (length pairs.old)) column.old.column result error.new }
+    ensures ended { EndsOnRows (decimals_fault start (length pairs.old)) (array_in column.old.column) result error.new }
 {
-    let Some(array) = column.take(alloc) else {
+    let Some(held) = column.take(alloc) else {
         return NO_COLUMN;
     };
-    let outcome = windows::read_decimals(alloc, &array, start, pairs);
-    column.put(array);
+    let outcome = windows::read_decimals(alloc, &held.array, start, pairs);
+    column.put(held);
     write_status(outcome, error)
 }
 
@@ -244,15 +258,16 @@ pub extern "C" fn hv_read_bools(
     error: &mut ErrorFields,
 ) -> i32
     ensures same { column.new.column ≡ column.old.column }
-    ensures told { result ≡ pos 0 → IsSomeAnd column.old.column (λ c. AreTruthWords (column_of c) words.new) }
+    ensures told { result ≡ pos 0 →
+        IsSomeAnd (array_in column.old.column) (λ c. AreTruthWords (column_of c) words.new) }
     ensures kept { result ≢ pos 0 → words.new ≡ words.old }
-    ensures ended { EndsOnRead (truths_fault (length words.old)) column.old.column result error.new }
+    ensures ended { EndsOnRead (truths_fault (length words.old)) (array_in column.old.column) result error.new }
 {
-    let Some(array) = column.take(alloc) else {
+    let Some(held) = column.take(alloc) else {
         return NO_COLUMN;
     };
-    let outcome = windows::read_all_booleans(&array, words);
-    column.put(array);
+    let outcome = windows::read_all_booleans(&held.array, words);
+    column.put(held);
     write_status(outcome, error)
 }
 
@@ -266,15 +281,16 @@ pub extern "C" fn hv_read_validity(
     error: &mut ErrorFields,
 ) -> i32
     ensures same { column.new.column ≡ column.old.column }
-    ensures told { result ≡ pos 0 → IsSomeAnd column.old.column (λ c. AreValidityWords (column_of c) words.new) }
+    ensures told { result ≡ pos 0 →
+        IsSomeAnd (array_in column.old.column) (λ c. AreValidityWords (column_of c) words.new) }
     ensures kept { result ≢ pos 0 → words.new ≡ words.old }
-    ensures ended { EndsOnRead (flags_fault (length words.old)) column.old.column result error.new }
+    ensures ended { EndsOnRead (flags_fault (length words.old)) (array_in column.old.column) result error.new }
 {
-    let Some(array) = column.take(alloc) else {
+    let Some(held) = column.take(alloc) else {
         return NO_COLUMN;
     };
-    let outcome = windows::read_all_validity(&array, words);
-    column.put(array);
+    let outcome = windows::read_all_validity(&held.array, words);
+    column.put(held);
     write_status(outcome, error)
 }
 
@@ -290,15 +306,17 @@ pub extern "C" fn hv_read_offsets(
     error: &mut ErrorFields,
 ) -> i32
     ensures same { column.new.column ≡ column.old.column }
-    ensures told { result ≡ pos 0 → IsSomeAnd column.old.column (λ c. AreOffsetsFrom (column_of c) start offsets.new) }
+    ensures told { result ≡ pos 0 →
+        IsSomeAnd (array_in column.old.column) (λ c. AreOffsetsFrom (column_of c) start offsets.new) }
     ensures kept { result ≢ pos 0 → offsets.new ≡ offsets.old }
-    ensures ended { EndsOnRows (offsets_fault I32 start (length offsets.old)) column.old.column result error.new }
+    ensures ended { EndsOnRows (offsets_fault I32 start (length offsets.old))
+        (array_in column.old.column) result error.new }
 {
-    let Some(array) = column.take(alloc) else {
+    let Some(held) = column.take(alloc) else {
         return NO_COLUMN;
     };
-    let outcome = windows::read_offsets(alloc, &array, start, offsets);
-    column.put(array);
+    let outcome = windows::read_offsets(alloc, &held.array, start, offsets);
+    column.put(held);
     write_status(outcome, error)
 }
 
@@ -314,15 +332,17 @@ pub extern "C" fn hv_read_large_offsets(
     error: &mut ErrorFields,
 ) -> i32
     ensures same { column.new.column ≡ column.old.column }
-    ensures told { result ≡ pos 0 → IsSomeAnd column.old.column (λ c. AreOffsetsFrom (column_of c) start offsets.new) }
+    ensures told { result ≡ pos 0 →
+        IsSomeAnd (array_in column.old.column) (λ c. AreOffsetsFrom (column_of c) start offsets.new) }
     ensures kept { result ≢ pos 0 → offsets.new ≡ offsets.old }
-    ensures ended { EndsOnRows (offsets_fault I64 start (length offsets.old)) column.old.column result error.new }
+    ensures ended { EndsOnRows (offsets_fault I64 start (length offsets.old))
+        (array_in column.old.column) result error.new }
 {
-    let Some(array) = column.take(alloc) else {
+    let Some(held) = column.take(alloc) else {
         return NO_COLUMN;
     };
-    let outcome = windows::read_offsets(alloc, &array, start, offsets);
-    column.put(array);
+    let outcome = windows::read_offsets(alloc, &held.array, start, offsets);
+    column.put(held);
     write_status(outcome, error)
 }
 
@@ -340,14 +360,15 @@ pub extern "C" fn hv_read_bytes(
 ) -> i32
     ensures same { column.new.column ≡ column.old.column }
     ensures told { result ≡ pos 0
-        → IsSomeAnd column.old.column (λ c. AreBytesFrom (column_of c) start count bytes.new) }
+        → IsSomeAnd (array_in column.old.column) (λ c. AreBytesFrom (column_of c) start count bytes.new) }
     ensures kept { result ≢ pos 0 → bytes.new ≡ bytes.old }
-    ensures ended { EndsOnRows (bytes_fault start count (length bytes.old)) column.old.column result error.new }
+    ensures ended { EndsOnRows (bytes_fault start count (length bytes.old))
+        (array_in column.old.column) result error.new }
 {
-    let Some(array) = column.take(alloc) else {
+    let Some(held) = column.take(alloc) else {
         return NO_COLUMN;
     };
-    let outcome = windows::read_bytes(alloc, &array, start, count, bytes);
-    column.put(array);
+    let outcome = windows::read_bytes(alloc, &held.array, start, count, bytes);
+    column.put(held);
     write_status(outcome, error)
 }

@@ -3,6 +3,7 @@
 
 ghost use Rattle.std.specs.Prelude.{◌≡◌, ◌≢◌, IsSomeAnd, length, pos};
 ghost use Rattle.runend_array.specs.Array.{column_of};
+ghost use Rattle.c_columns.specs.Handle.{array_in};
 ghost use Rattle.c_columns.specs.ReadFaults.{EndsOnRead};
 ghost use Rattle.c_columns.specs.RunParts.{no_runs_fault};
 ghost use Rattle.c_columns.specs.RunReads.{AreStopsFrom, EndsOnRun, IsRunCount, IsRunOfRow, IsRunTold, run_of_row_fault, stops_fault};
@@ -22,15 +23,15 @@ pub extern "C" fn hv_run_count(
     error: &mut ErrorFields,
 ) -> i32
     ensures same { column.new.column ≡ column.old.column }
-    ensures told { result ≡ pos 0 → IsSomeAnd column.old.column (λ c. IsRunCount count.new (column_of c)) }
+    ensures told { result ≡ pos 0 → IsSomeAnd (array_in column.old.column) (λ c. IsRunCount count.new (column_of c)) }
     ensures kept { result ≢ pos 0 → count.new ≡ count.old }
-    ensures ended { EndsOnRead no_runs_fault column.old.column result error.new }
+    ensures ended { EndsOnRead no_runs_fault (array_in column.old.column) result error.new }
 {
-    let Some(array) = column.take(alloc) else {
+    let Some(held) = column.take(alloc) else {
         return NO_COLUMN;
     };
-    let outcome = run_reads::run_count(&array);
-    column.put(array);
+    let outcome = run_reads::run_count(&held.array);
+    column.put(held);
     write_answer(outcome, count, error)
 }
 
@@ -44,15 +45,15 @@ pub extern "C" fn hv_run_of(
     error: &mut ErrorFields,
 ) -> i32
     ensures same { column.new.column ≡ column.old.column }
-    ensures told { result ≡ pos 0 → IsSomeAnd column.old.column (λ c. IsRunOfRow row run.new (column_of c)) }
+    ensures told { result ≡ pos 0 → IsSomeAnd (array_in column.old.column) (λ c. IsRunOfRow row run.new (column_of c)) }
     ensures kept { result ≢ pos 0 → run.new ≡ run.old }
-    ensures ended { EndsOnRead (run_of_row_fault row) column.old.column result error.new }
+    ensures ended { EndsOnRead (run_of_row_fault row) (array_in column.old.column) result error.new }
 {
-    let Some(array) = column.take(alloc) else {
+    let Some(held) = column.take(alloc) else {
         return NO_COLUMN;
     };
-    let outcome = run_reads::run_of_row(&array, row);
-    column.put(array);
+    let outcome = run_reads::run_of_row(&held.array, row);
+    column.put(held);
     write_answer(outcome, run, error)
 }
 
@@ -72,18 +73,19 @@ pub extern "C" fn hv_run(
 ) -> i32
     ensures same { column.new.column ≡ column.old.column }
     ensures told { result ≡ pos 0
-        → IsSomeAnd column.old.column (λ c. IsRunTold run start.new stop.new text.new value.new (column_of c)) }
+        → IsSomeAnd (array_in column.old.column)
+        (λ c. IsRunTold run start.new stop.new text.new value.new (column_of c)) }
     ensures kept_start { result ≢ pos 0 → start.new ≡ start.old }
     ensures kept_stop { result ≢ pos 0 → stop.new ≡ stop.old }
     ensures kept_value { result ≢ pos 0 → value.new ≡ value.old }
     ensures kept_text { result ≢ pos 0 → text.new ≡ text.old }
-    ensures ended { EndsOnRun run (length text.old) column.old.column result error.new }
+    ensures ended { EndsOnRun run (length text.old) (array_in column.old.column) result error.new }
 {
-    let Some(array) = column.take(alloc) else {
+    let Some(held) = column.take(alloc) else {
         return NO_COLUMN;
     };
-    let outcome = run_reads::run_at(&array, run, text);
-    column.put(array);
+    let outcome = run_reads::run_at(&held.array, run, text);
+    column.put(held);
     match outcome {
         Ok(found) => {
             *start = found.start;
@@ -106,14 +108,15 @@ pub extern "C" fn hv_read_ends_u64(
     error: &mut ErrorFields,
 ) -> i32
     ensures same { column.new.column ≡ column.old.column }
-    ensures told { result ≡ pos 0 → IsSomeAnd column.old.column (λ c. AreStopsFrom first stops.new (column_of c)) }
+    ensures told { result ≡ pos 0 →
+        IsSomeAnd (array_in column.old.column) (λ c. AreStopsFrom first stops.new (column_of c)) }
     ensures kept { result ≢ pos 0 → stops.new ≡ stops.old }
-    ensures ended { EndsOnRead (stops_fault first (length stops.old)) column.old.column result error.new }
+    ensures ended { EndsOnRead (stops_fault first (length stops.old)) (array_in column.old.column) result error.new }
 {
-    let Some(array) = column.take(alloc) else {
+    let Some(held) = column.take(alloc) else {
         return NO_COLUMN;
     };
-    let outcome = run_reads::read_stops(&array, first, stops);
-    column.put(array);
+    let outcome = run_reads::read_stops(&held.array, first, stops);
+    column.put(held);
     write_status(outcome, error)
 }

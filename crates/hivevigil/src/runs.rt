@@ -1,8 +1,9 @@
 //! Calls that make run columns of what handles hold, and take them apart; sessions; and the end of a handle.
-ghost use Rattle.std.specs.Prelude.{◌≡◌, ◌≢◌, IsSomeAnd, MatchOption, None, length, pos};
+ghost use Rattle.std.specs.Prelude.{◌≡◌, ◌≢◌, [], IsSomeAnd, MatchOption, None, length, pos};
 ghost use Rattle.runend_array.specs.Array.{column_of};
 ghost use Rattle.runend_array.specs.SessionForm.{crate_thresholds};
 ghost use Rattle.c_columns.specs.Ending.{EndsAlways, EndsOnHeldUnless, EndsOnParts, EndsOnRuns, WhereAll, WhereBoth};
+ghost use Rattle.c_columns.specs.Handle.{array_in, format_in};
 ghost use Rattle.c_columns.specs.Kinds.{dtype_by};
 ghost use Rattle.c_columns.specs.Makers.{AreRecordedRuns, AreRunsOf, IsCopyOf};
 ghost use Rattle.c_columns.specs.Reads.{AreRunValuesOf};
@@ -33,9 +34,12 @@ pub extern "C" fn hv_runs(
 ) -> i32
     ensures same { ends.new.column ≡ ends.old.column }
     ensures same_values { values.new.column ≡ values.old.column }
-    ensures made { result ≡ pos 0 → WhereAll (AreRunsOf offset count) ends.old.column values.old.column out.new.column }
+    ensures made { result ≡ pos 0 → WhereAll (AreRunsOf offset count) (array_in ends.old.column)
+        (array_in values.old.column) (array_in out.new.column) }
+    ensures typed { result ≡ pos 0 → format_in out.new.column ≡ format_in values.old.column }
     ensures kept { result ≢ pos 0 → out.new.column ≡ out.old.column }
-    ensures ended { EndsOnParts (RunsFault offset count) ends.old.column values.old.column result error.new }
+    ensures ended { EndsOnParts (RunsFault offset count) (array_in ends.old.column)
+        (array_in values.old.column) result error.new }
 {
     let Some(lent_ends) = ends.take(alloc) else {
         return NO_COLUMN;
@@ -44,7 +48,7 @@ pub extern "C" fn hv_runs(
         ends.put(lent_ends);
         return NO_COLUMN;
     };
-    let outcome = runs::run_column(alloc, &lent_ends, &lent_values, offset, count);
+    let outcome = runs::run_column(alloc, &lent_ends.array, &lent_values, offset, count);
     ends.put(lent_ends);
     values.put(lent_values);
     answer(outcome, out, error)
@@ -68,11 +72,13 @@ pub extern "C" fn hv_deserialize(
     ensures same_values { values.new.column ≡ values.old.column }
     ensures made { result ≡ pos 0
         → IsSomeAnd (dtype_by kind.now.number kind.now)
-        (λ dtype. WhereAll (AreRecordedRuns bytes.now dtype count) ends.old.column values.old.column out.new.column) }
+        (λ dtype. WhereAll (AreRecordedRuns bytes.now dtype count) (array_in ends.old.column)
+        (array_in values.old.column) (array_in out.new.column)) }
+    ensures typed { result ≡ pos 0 → format_in out.new.column ≡ format_in values.old.column }
     ensures kept { result ≢ pos 0 → out.new.column ≡ out.old.column }
     ensures ended { MatchOption (dtype_by kind.now.number kind.now) (result ≡ pos 23)
         (λ dtype. EndsOnParts (RecordedFault bytes.now dtype count)
-        ends.old.column values.old.column result error.new) }
+        (array_in ends.old.column) (array_in values.old.column) result error.new) }
 {
     let Some(dtype) = kinds::dtype_of(kind) else {
         return BAD_NUMBER;
@@ -84,7 +90,7 @@ pub extern "C" fn hv_deserialize(
         ends.put(lent_ends);
         return NO_COLUMN;
     };
-    let outcome = runs::recorded_column(alloc, dtype, count, bytes, &lent_ends, &lent_values);
+    let outcome = runs::recorded_column(alloc, dtype, count, bytes, &lent_ends.array, &lent_values);
     ends.put(lent_ends);
     values.put(lent_values);
     answer(outcome, out, error)
@@ -103,16 +109,16 @@ pub extern "C" fn hv_serialize(
 ) -> i32
     ensures same { column.new.column ≡ column.old.column }
     ensures told { result ≡ pos 0
-        → IsSomeAnd column.old.column (λ c. IsRecordAtFront (column_of c) size.new bytes.new) }
+        → IsSomeAnd (array_in column.old.column) (λ c. IsRecordAtFront (column_of c) size.new bytes.new) }
     ensures kept_bytes { result ≢ pos 0 → bytes.new ≡ bytes.old }
     ensures kept_size { result ≢ pos 0 → size.new ≡ size.old }
-    ensures ended { EndsOnHeldUnless (SerializeFault (length bytes.old)) column.old.column result error.new }
+    ensures ended { EndsOnHeldUnless (SerializeFault (length bytes.old)) (array_in column.old.column) result error.new }
 {
-    let Some(array) = column.take(alloc) else {
+    let Some(held) = column.take(alloc) else {
         return NO_COLUMN;
     };
-    let outcome = runs::put_record(alloc, &array, bytes);
-    column.put(array);
+    let outcome = runs::put_record(alloc, &held.array, bytes);
+    column.put(held);
     write_answer(outcome, size, error)
 }
 
@@ -127,15 +133,17 @@ pub extern "C" fn hv_ends(
 ) -> i32
     ensures same { column.new.column ≡ column.old.column }
     ensures made { result ≡ pos 0
-        → WhereBoth (λ c d. AreEndsOf (column_of c) (column_of d)) column.old.column out.new.column }
+        → WhereBoth (λ c d. AreEndsOf (column_of c) (column_of d)) (array_in column.old.column)
+        (array_in out.new.column) }
+    ensures untyped { result ≡ pos 0 → format_in out.new.column ≡ [] }
     ensures kept { result ≢ pos 0 → out.new.column ≡ out.old.column }
-    ensures ended { EndsOnRuns column.old.column result error.new }
+    ensures ended { EndsOnRuns (array_in column.old.column) result error.new }
 {
-    let Some(array) = column.take(alloc) else {
+    let Some(held) = column.take(alloc) else {
         return NO_COLUMN;
     };
-    let outcome = runs::ends_of(alloc, &array);
-    column.put(array);
+    let outcome = runs::ends_of(alloc, &held.array);
+    column.put(held);
     answer(outcome, out, error)
 }
 
@@ -150,15 +158,17 @@ pub extern "C" fn hv_values(
 ) -> i32
     ensures same { column.new.column ≡ column.old.column }
     ensures made { result ≡ pos 0
-        → WhereBoth (λ c d. AreRunValuesOf (column_of c) (column_of d)) column.old.column out.new.column }
+        → WhereBoth (λ c d. AreRunValuesOf (column_of c) (column_of d)) (array_in column.old.column)
+        (array_in out.new.column) }
+    ensures typed { result ≡ pos 0 → format_in out.new.column ≡ format_in column.old.column }
     ensures kept { result ≢ pos 0 → out.new.column ≡ out.old.column }
-    ensures ended { EndsOnRuns column.old.column result error.new }
+    ensures ended { EndsOnRuns (array_in column.old.column) result error.new }
 {
-    let Some(array) = column.take(alloc) else {
+    let Some(held) = column.take(alloc) else {
         return NO_COLUMN;
     };
-    let outcome = runs::values_of(alloc, &array);
-    column.put(array);
+    let outcome = runs::values_of(alloc, &held);
+    column.put(held);
     answer(outcome, out, error)
 }
 
@@ -173,15 +183,16 @@ pub extern "C" fn hv_clone(
     error: &mut ErrorFields,
 ) -> i32
     ensures same { column.new.column ≡ column.old.column }
-    ensures made { result ≡ pos 0 → WhereBoth IsCopyOf column.old.column out.new.column }
+    ensures made { result ≡ pos 0 → WhereBoth IsCopyOf (array_in column.old.column) (array_in out.new.column) }
+    ensures typed { result ≡ pos 0 → format_in out.new.column ≡ format_in column.old.column }
     ensures kept { result ≢ pos 0 → out.new.column ≡ out.old.column }
-    ensures ended { EndsAlways column.old.column result error.new }
+    ensures ended { EndsAlways (array_in column.old.column) result error.new }
 {
-    let Some(array) = column.take(alloc) else {
+    let Some(held) = column.take(alloc) else {
         return NO_COLUMN;
     };
-    let outcome = runs::boxed_copy(alloc, &array);
-    column.put(array);
+    let outcome = runs::boxed_copy(alloc, &held);
+    column.put(held);
     answer(outcome, out, error)
 }
 
@@ -196,15 +207,16 @@ pub extern "C" fn hv_compact(
     error: &mut ErrorFields,
 ) -> i32
     ensures same { column.new.column ≡ column.old.column }
-    ensures made { result ≡ pos 0 → WhereBoth IsCopyOf column.old.column out.new.column }
+    ensures made { result ≡ pos 0 → WhereBoth IsCopyOf (array_in column.old.column) (array_in out.new.column) }
+    ensures typed { result ≡ pos 0 → format_in out.new.column ≡ format_in column.old.column }
     ensures kept { result ≢ pos 0 → out.new.column ≡ out.old.column }
-    ensures ended { EndsAlways column.old.column result error.new }
+    ensures ended { EndsAlways (array_in column.old.column) result error.new }
 {
-    let Some(array) = column.take(alloc) else {
+    let Some(held) = column.take(alloc) else {
         return NO_COLUMN;
     };
-    let outcome = runs::boxed_compact(alloc, &array);
-    column.put(array);
+    let outcome = runs::boxed_compact(alloc, &held);
+    column.put(held);
     answer(outcome, out, error)
 }
 

@@ -1,6 +1,7 @@
 //! Calls that put the rows of a column in another order, and count them by value.
-ghost use Rattle.std.specs.Prelude.{◌≡◌, ◌≢◌, pos};
+ghost use Rattle.std.specs.Prelude.{◌≡◌, ◌≢◌, [], pos};
 ghost use Rattle.c_columns.specs.Ending.{WhereAll, WhereBoth};
+ghost use Rattle.c_columns.specs.Handle.{array_in, format_in};
 ghost use Rattle.c_kernels.specs.Ordered.{AreCounted, AreReversed, AreSorted, EndsOnOrder};
 
 use c_columns::error_fields::ErrorFields;
@@ -18,9 +19,10 @@ pub extern "C" fn hv_reverse(
     error: &mut ErrorFields,
 ) -> i32
     ensures same { column.new.column ≡ column.old.column }
-    ensures made { result ≡ pos 0 → WhereBoth AreReversed column.old.column out.new.column }
+    ensures made { result ≡ pos 0 → WhereBoth AreReversed (array_in column.old.column) (array_in out.new.column) }
+    ensures typed { result ≡ pos 0 → format_in out.new.column ≡ format_in column.old.column }
     ensures kept { result ≢ pos 0 → out.new.column ≡ out.old.column }
-    ensures ended { EndsOnOrder column.old.column result error.new }
+    ensures ended { EndsOnOrder (array_in column.old.column) result error.new }
 {
     reverse_handle(alloc, column, out, error)
 }
@@ -35,9 +37,10 @@ pub extern "C" fn hv_sort(
     error: &mut ErrorFields,
 ) -> i32
     ensures same { column.new.column ≡ column.old.column }
-    ensures made { result ≡ pos 0 → WhereBoth AreSorted column.old.column out.new.column }
+    ensures made { result ≡ pos 0 → WhereBoth AreSorted (array_in column.old.column) (array_in out.new.column) }
+    ensures typed { result ≡ pos 0 → format_in out.new.column ≡ format_in column.old.column }
     ensures kept { result ≢ pos 0 → out.new.column ≡ out.old.column }
-    ensures ended { EndsOnOrder column.old.column result error.new }
+    ensures ended { EndsOnOrder (array_in column.old.column) result error.new }
 {
     sort_handle(alloc, column, out, error)
 }
@@ -54,10 +57,13 @@ pub extern "C" fn hv_value_counts(
 ) -> i32
     ensures same { column.new.column ≡ column.old.column }
     ensures made { result ≡ pos 0 →
-        WhereAll AreCounted column.old.column out_values.new.column out_counts.new.column }
+        WhereAll AreCounted (array_in column.old.column) (array_in out_values.new.column)
+        (array_in out_counts.new.column) }
+    ensures typed { result ≡ pos 0 → format_in out_values.new.column ≡ format_in column.old.column }
+    ensures untyped { result ≡ pos 0 → format_in out_counts.new.column ≡ [] }
     ensures kept { result ≢ pos 0 → out_values.new.column ≡ out_values.old.column }
     ensures kept_counts { result ≢ pos 0 → out_counts.new.column ≡ out_counts.old.column }
-    ensures ended { EndsOnOrder column.old.column result error.new }
+    ensures ended { EndsOnOrder (array_in column.old.column) result error.new }
 {
     count_handle(alloc, column, out_values, out_counts, error)
 }

@@ -2,6 +2,7 @@
 ghost use Rattle.std.specs.Prelude.{◌≡◌, ◌≢◌, IsSomeAnd, MatchOption, pos};
 ghost use Rattle.runend_array.specs.Array.{rows};
 ghost use Rattle.runend_pairs.specs.NullCounts.{null_rows};
+ghost use Rattle.c_columns.specs.Handle.{array_in};
 ghost use Rattle.c_kernels.specs.SumParts.{ArePartsShown, EndsOnParts};
 
 use c_columns::error_fields::ErrorFields;
@@ -23,11 +24,11 @@ pub extern "C" fn hv_sum_parts(
 ) -> i32
     ensures same { column.new.column ≡ column.old.column }
     ensures shown { result ≡ pos 0 →
-        IsSomeAnd column.old.column (λ c. ArePartsShown c total.new least.new greatest.new) }
+        IsSomeAnd (array_in column.old.column) (λ c. ArePartsShown c total.new least.new greatest.new) }
     ensures kept_total { result ≢ pos 0 → total.new ≡ total.old }
     ensures kept_least { result ≢ pos 0 → least.new ≡ least.old }
     ensures kept_greatest { result ≢ pos 0 → greatest.new ≡ greatest.old }
-    ensures ended { EndsOnParts column.old.column result error.new }
+    ensures ended { EndsOnParts (array_in column.old.column) result error.new }
 {
     sum_parts_in_handle(alloc, column, total, least, greatest, error)
 }
@@ -36,7 +37,7 @@ pub extern "C" fn hv_sum_parts(
 #[unsafe(no_mangle)]
 pub extern "C" fn hv_null_count(alloc: Global, column: &mut Handle) -> usize
     ensures same { column.new.column ≡ column.old.column }
-    ensures counted { MatchOption column.old.column (result ≡ 0) (λ c. result ≡ null_rows (rows c)) }
+    ensures counted { MatchOption (array_in column.old.column) (result ≡ 0) (λ c. result ≡ null_rows (rows c)) }
 {
     nulls_in_handle(alloc, column)
 }

@@ -1,7 +1,8 @@
 //! Calls that make flat columns of texts and bytes.
-ghost use Rattle.std.specs.Prelude.{◌≡◌, ◌≢◌, ◌-◌, IsSomeAnd, length, pos};
+ghost use Rattle.std.specs.Prelude.{◌≡◌, ◌≢◌, ◌-◌, [], IsSomeAnd, length, pos};
 ghost use Rattle.c_columns.specs.Bits.{validity_by};
 ghost use Rattle.c_columns.specs.Ending.{EndsUnless};
+ghost use Rattle.c_columns.specs.Handle.{array_in, format_in};
 ghost use Rattle.c_columns.specs.Kinds.{varbin_kind_by};
 ghost use Rattle.c_columns.specs.Makers.{AreTextsOf, TextsFault};
 
@@ -27,8 +28,9 @@ pub extern "C" fn hv_texts(
     error: &mut ErrorFields,
 ) -> i32
     ensures made { result ≡ pos 0
-        → IsSomeAnd out.new.column (λ c. AreTextsOf (varbin_kind_by binary) offsets.now bytes.now
+        → IsSomeAnd (array_in out.new.column) (λ c. AreTextsOf (varbin_kind_by binary) offsets.now bytes.now
         (validity_by nulls bits.now first (length offsets.now - 1)) c) }
+    ensures untyped { result ≡ pos 0 → format_in out.new.column ≡ [] }
     ensures kept { result ≢ pos 0 → out.new.column ≡ out.old.column }
     ensures ended { EndsUnless (TextsFault
         (varbin_kind_by binary) offsets.now bytes.now nulls bits.now first) result error.new }
@@ -63,8 +65,9 @@ pub extern "C" fn hv_large_texts(
     error: &mut ErrorFields,
 ) -> i32
     ensures made { result ≡ pos 0
-        → IsSomeAnd out.new.column (λ c. AreTextsOf (varbin_kind_by binary) offsets.now bytes.now
+        → IsSomeAnd (array_in out.new.column) (λ c. AreTextsOf (varbin_kind_by binary) offsets.now bytes.now
         (validity_by nulls bits.now first (length offsets.now - 1)) c) }
+    ensures untyped { result ≡ pos 0 → format_in out.new.column ≡ [] }
     ensures kept { result ≢ pos 0 → out.new.column ≡ out.old.column }
     ensures ended { EndsUnless (TextsFault
         (varbin_kind_by binary) offsets.now bytes.now nulls bits.now first) result error.new }

@@ -1,7 +1,8 @@
 //! Calls that write columns with a logical type as messages, and read such messages.
-ghost use Rattle.std.specs.Prelude.{◌≡◌, ◌≢◌, IsSomeAnd, length, pos};
+ghost use Rattle.std.specs.Prelude.{◌≡◌, ◌≢◌, [], IsSomeAnd, length, pos};
 ghost use Rattle.runend_array.specs.Array.{column_of};
 ghost use Rattle.c_columns.specs.Flags.{Tells};
+ghost use Rattle.c_columns.specs.Handle.{array_in, format_in};
 ghost use Rattle.c_columns.specs.TypedMessages.{AreTypedMessage, EndsOnTypedReading, EndsOnTypedSize, EndsOnTypedWrite, HasTypedMessage, IsColumnOfTyped, IsTypedMessageAtFront};
 
 use c_columns::error_fields::{ErrorFields, NO_COLUMN, refuse, write_answer};
@@ -23,15 +24,15 @@ pub extern "C" fn hv_typed_size(
 ) -> i32
     ensures same { column.new.column ≡ column.old.column }
     ensures told { result ≡ pos 0
-        → IsSomeAnd column.old.column (λ c. HasTypedMessage format.now (column_of c) size.new) }
+        → IsSomeAnd (array_in column.old.column) (λ c. HasTypedMessage format.now (column_of c) size.new) }
     ensures kept { result ≢ pos 0 → size.new ≡ size.old }
-    ensures ended { EndsOnTypedSize format.now column.old.column result error.new }
+    ensures ended { EndsOnTypedSize format.now (array_in column.old.column) result error.new }
 {
-    let Some(array) = column.take(alloc) else {
+    let Some(held) = column.take(alloc) else {
         return NO_COLUMN;
     };
-    let outcome = typed_messages::typed_size(&array, format);
-    column.put(array);
+    let outcome = typed_messages::typed_size(&held.array, format);
+    column.put(held);
     write_answer(outcome, size, error)
 }
 
@@ -50,23 +51,24 @@ pub extern "C" fn hv_write_typed(
 ) -> i32
     ensures same { column.new.column ≡ column.old.column }
     ensures told { result ≡ pos 0
-        → IsSomeAnd column.old.column (λ c. IsTypedMessageAtFront format.now (column_of c) size.new bytes.new) }
+        → IsSomeAnd (array_in column.old.column)
+        (λ c. IsTypedMessageAtFront format.now (column_of c) size.new bytes.new) }
     ensures kept { result ≢ pos 0 → bytes.new ≡ bytes.old }
     ensures kept_size { result ≢ pos 0 → size.new ≡ size.old }
-    ensures ended { EndsOnTypedWrite (length bytes.old) format.now column.old.column result error.new }
+    ensures ended { EndsOnTypedWrite (length bytes.old) format.now (array_in column.old.column) result error.new }
 {
-    let Some(array) = column.take(alloc) else {
+    let Some(held) = column.take(alloc) else {
         return NO_COLUMN;
     };
-    let outcome = typed_messages::put_typed(&array, format, bytes);
-    column.put(array);
+    let outcome = typed_messages::put_typed(&held.array, format, bytes);
+    column.put(held);
     write_answer(outcome, size, error)
 }
 
 /// Makes the column of which the bytes are the message, with or without a logical type: the name of the type has the
 /// `format_len` bytes from `format_at` on, which are none where it has no type. Refused as `BadMetadata` exactly where
 /// they are the message of no column, else as `OutOfMemory` only.
-#[tactic(auto, using(c_columns::proofs::TypedEndings::read_done, c_columns::proofs::TypedEndings::read_refused))]
+#[tactic(auto, using(c_columns::proofs::TypedEndings::read_done, c_columns::proofs::TypedEndings::read_refused, c_columns::proofs::Held::array_is, c_columns::proofs::Held::format_some))]
 #[unsafe(no_mangle)]
 pub extern "C" fn hv_read_typed(
     alloc: Global,
@@ -77,7 +79,8 @@ pub extern "C" fn hv_read_typed(
     error: &mut ErrorFields,
 ) -> i32
     ensures made { result ≡ pos 0
-        → IsSomeAnd out.new.column (IsColumnOfTyped bytes.now format_at.new format_len.new) }
+        → IsSomeAnd (array_in out.new.column) (IsColumnOfTyped bytes.now format_at.new format_len.new) }
+    ensures untyped { result ≡ pos 0 → format_in out.new.column ≡ [] }
     ensures kept { result ≢ pos 0 → out.new.column ≡ out.old.column }
     ensures places { result ≢ pos 0 → (format_at.new ≡ format_at.old) × (format_len.new ≡ format_len.old) }
     ensures ended { EndsOnTypedReading bytes.now result error.new }

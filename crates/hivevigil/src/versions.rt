@@ -4,9 +4,9 @@ ghost use Rattle.std.specs.Prelude.{◌≡◌};
 /// Returns the version as one number: a million for each major, a thousand for each minor, and one for each patch.
 #[unsafe(no_mangle)]
 pub extern "C" fn hv_version() -> u32
-    ensures { result ≡ 1009000 }
+    ensures { result ≡ 1010000 }
 {
-    1_009_000
+    1_010_000
 }
 
 /// Returns the number of the binary interface: a program that was compiled for this number runs with this library.

@@ -3,6 +3,7 @@
 
 ghost use Rattle.std.specs.Prelude.{◌≡◌, ◌≢◌, IsSomeAnd, length, pos};
 ghost use Rattle.runend_array.specs.Array.{column_of};
+ghost use Rattle.c_columns.specs.Handle.{array_in};
 ghost use Rattle.c_columns.specs.ReadFaults.{EndsOnWindow, flags_from_fault, truths_from_fault};
 ghost use Rattle.c_columns.specs.Reads.{AreTruthWordsFrom, AreValidityWordsFrom};
 
@@ -24,15 +25,16 @@ pub extern "C" fn hv_read_bools_from(
 ) -> i32
     ensures same { column.new.column ≡ column.old.column }
     ensures told { result ≡ pos 0
-        → IsSomeAnd column.old.column (λ c. AreTruthWordsFrom (column_of c) start count words.new) }
+        → IsSomeAnd (array_in column.old.column) (λ c. AreTruthWordsFrom (column_of c) start count words.new) }
     ensures kept { result ≢ pos 0 → words.new ≡ words.old }
-    ensures ended { EndsOnWindow (truths_from_fault start count (length words.old)) column.old.column result error.new }
+    ensures ended { EndsOnWindow (truths_from_fault start count (length words.old))
+        (array_in column.old.column) result error.new }
 {
-    let Some(array) = column.take(alloc) else {
+    let Some(held) = column.take(alloc) else {
         return NO_COLUMN;
     };
-    let outcome = windows::read_booleans(alloc, &array, start, count, words);
-    column.put(array);
+    let outcome = windows::read_booleans(alloc, &held.array, start, count, words);
+    column.put(held);
     write_status(outcome, error)
 }
 
@@ -49,14 +51,15 @@ pub extern "C" fn hv_read_validity_from(
 ) -> i32
     ensures same { column.new.column ≡ column.old.column }
     ensures told { result ≡ pos 0
-        → IsSomeAnd column.old.column (λ c. AreValidityWordsFrom (column_of c) start count words.new) }
+        → IsSomeAnd (array_in column.old.column) (λ c. AreValidityWordsFrom (column_of c) start count words.new) }
     ensures kept { result ≢ pos 0 → words.new ≡ words.old }
-    ensures ended { EndsOnWindow (flags_from_fault start count (length words.old)) column.old.column result error.new }
+    ensures ended { EndsOnWindow (flags_from_fault start count (length words.old))
+        (array_in column.old.column) result error.new }
 {
-    let Some(array) = column.take(alloc) else {
+    let Some(held) = column.take(alloc) else {
         return NO_COLUMN;
     };
-    let outcome = windows::read_validity(alloc, &array, start, count, words);
-    column.put(array);
+    let outcome = windows::read_validity(alloc, &held.array, start, count, words);
+    column.put(held);
     write_status(outcome, error)
 }

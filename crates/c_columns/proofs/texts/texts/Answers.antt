@@ -17,7 +17,7 @@ returns-in_err-array-clause-refused g c =
 pub returns-clause-made : goal.returns-clause-made
 returns-clause-made g c =
     of_value _ _ c.boxed.result (λ made same. texts_made g.T.NativePType.number c.args.kind c.args.offsets.now c.args.bytes.now c.args.nulls c.args.bits.now c.args.first c.in_ok-views.views.items c.in_ok-buffers.buffers.items
-    (form_of c.in_ok-validity.validity) c.len.result c.in_ok-array.array made.value c.in_ok-views.ensures.cuts (c.len.ensures ∙ c.in_ok-views.views.ok.0) c.in_ok-validity.ensures.validity c.in_ok-buffers.ensures.buffer c.in_ok-array.ensures.ok same) c.boxed.ensures.column
+    (form_of c.in_ok-validity.validity) c.len.result c.in_ok-array.array made.value.array c.in_ok-views.ensures.cuts (c.len.ensures ∙ c.in_ok-views.views.ok.0) c.in_ok-validity.ensures.validity c.in_ok-buffers.ensures.buffer c.in_ok-array.ensures.ok same) c.boxed.ensures.column
 
 pub returns-clause-served : goal.returns-clause-served
 returns-clause-served g c =

@@ -7,13 +7,13 @@ use Rattle.c_kernels.proofs.float_casts.floats_cast.Goals as goal
 pub returns-in_ok-round_floats-clause-made : goal.returns-in_ok-round_floats-clause-made
 returns-in_ok-round_floats-clause-made c =
     let runs = c.in_ok-round_floats in
-    floats_boxed c.args.is_rounded true c.args.to c.args.floats.now runs.field-0 c.boxed_runs.result (λ made. made.value) c.if-is_rounded.true runs.ensures.cast c.boxed_runs.ensures.form
+    floats_boxed c.args.is_rounded true c.args.to c.args.floats.now runs.field-0 c.boxed_runs.result (λ made. made.value.array) c.if-is_rounded.true runs.ensures.cast c.boxed_runs.ensures.form
 
 pub returns-in_ok-cast_floats-clause-made : goal.returns-in_ok-cast_floats-clause-made
 returns-in_ok-cast_floats-clause-made c =
     let runs = c.in_ok-cast_floats in
     let boxed = c.boxed_runs-else-is_rounded in
-    floats_boxed c.args.is_rounded false c.args.to c.args.floats.now runs.field-0 boxed.result (λ made. made.value) c.if-is_rounded.false runs.ensures.cast boxed.ensures.form
+    floats_boxed c.args.is_rounded false c.args.to c.args.floats.now runs.field-0 boxed.result (λ made. made.value.array) c.if-is_rounded.false runs.ensures.cast boxed.ensures.form
 
 pub returns-in_err-cast_floats-clause-first : goal.returns-in_err-cast_floats-clause-first
 returns-in_err-cast_floats-clause-first c error fault =

@@ -1,19 +1,20 @@
-use Rattle.std.proofs.Common.{◌∙◌, ap, sym, subst, w32, ℤ}
-use Rattle.std.specs.Prelude.{Some}
+use Rattle.std.proofs.Common.{◌∙◌, sym, subst, w32, ℤ}
 use Rattle.std.proofs.lemmas.Int.{to_z-of_z}
 use Rattle.c_columns.proofs.Endings.{told_constant}
 use Rattle.runend_array.specs.declared.session.Kernel.TheVariants as kernel
+use Rattle.c_columns.specs.Handle.{array_in}
 use Rattle.c_columns.specs.InPlace.{IsNeverShortOn}
+use Rattle.c_columns.proofs.Held.{lent_array}
 use Rattle.c_columns.proofs.Short.{never_short}
 use Rattle.hivevigil.proofs.questions.hv_is_constant.Goals as goal
 
 pub returns-clause-told : goal.returns-clause-told
 returns-clause-told c = λ zero.
     let back = to_z-of_z w32 c.write_answer.result (record { sfits = c.write_answer.type_inv }) in
-    told_constant c.args.column.now.column c.deref.result.now c.is_constant-outcome.result c.write_answer.result _ _ (c.in-Some.ensures.found ∙ ap Some (sym c.deref.ensures)) c.is_constant-outcome.ensures.told c.write_answer.ensures.ok c.write_answer.ensures.err (sym back ∙ zero)
+    told_constant (array_in c.args.column.now.column) c.deref.result.now.array c.is_constant-outcome.result c.write_answer.result _ _ (lent_array c.deref.ensures c.in-Some.ensures.array) c.is_constant-outcome.ensures.told c.write_answer.ensures.ok c.write_answer.ensures.err (sym back ∙ zero)
 
 pub returns-clause-memory : goal.returns-clause-memory
 returns-clause-memory c =
     let back = to_z-of_z w32 c.write_answer.result (record { sfits = c.write_answer.type_inv }) in
-    subst (λ (code : ℤ). IsNeverShortOn c.args.session.now kernel.IsConstant c.args.column.now.column code) (sym back)
-    (never_short c.args.session.now kernel.IsConstant c.args.column.now.column c.deref.result.now c.is_constant-outcome.result c.write_answer.result c.write_answer.new.place c.write_answer.new.fields (c.in-Some.ensures.found ∙ ap Some (sym c.deref.ensures)) c.is_constant-outcome.ensures.memory c.write_answer.ensures.ok c.write_answer.ensures.err)
+    subst (λ (code : ℤ). IsNeverShortOn c.args.session.now kernel.IsConstant (array_in c.args.column.now.column) code) (sym back)
+    (never_short c.args.session.now kernel.IsConstant (array_in c.args.column.now.column) c.deref.result.now.array c.is_constant-outcome.result c.write_answer.result c.write_answer.new.place c.write_answer.new.fields (lent_array c.deref.ensures c.in-Some.ensures.array) c.is_constant-outcome.ensures.memory c.write_answer.ensures.ok c.write_answer.ensures.err)

@@ -19,7 +19,7 @@ use denote.Steps.{nothing}
 use denote.Triple.Walked.{Stays, stay_dropped, walk_of, Goes-dropped}
 use Rattle.core.proofs.cell.Inside.{one}
 use Rattle.std.specs.Prelude.{Option, None}
-use Rattle.runend_array.specs.declared.array_ref.ArrayRef.{ArrayRef}
+use Rattle.typed_columns.specs.declared.typed_column.TypedColumn.{TypedColumn}
 use Rattle.std.specs.Global.{Global}
 use Rattle.std.proofs.alloc.Global.TheLaws as heap_laws
 use Rattle.std.proofs.raw_atomic.Walks.{proved_at, leaves}
@@ -43,7 +43,7 @@ empty_spec 𝓤 𝓛 𝓜 𝓡 wired =
     -- the allocator is one value
     let h = one (layout HeapRow) z.0.4.0 ((heap_laws.the_row_laws.lawful 𝓛).typed alloc z.0.4.0 are.0) in
     let made : Val = pair_value (ptr_val null_ptr) h.0 in
-    let Holds : Option (ArrayRef Global) = None in
+    let Holds : Option (TypedColumn Global) = None in
     qed 𝓛 ((‵ ftrue ⊛ ‵ (owns (types_at ended.signature.params z.0.0) z.0.3 z.0.4)) ∷ raw ((c z.0.0 z.0.3).requires z.1) ∷ []) ∵
     split ! $ move ! (1 ∷ []) $ fsplit ! $
     rewrite ! 0 (λ (us : List Val). ‵ (HeapRow.own_val alloc us)) h.1 refl $

@@ -2,7 +2,7 @@
 use Rattle.std.proofs.Common.{◌≡◌, List, [], ◌∷◌, refl}
 use Rattle.std.specs.Prelude.{Option, Some}
 use Rattle.std.specs.Global.{Global}
-use Rattle.runend_array.specs.declared.array_ref.ArrayRef.{ArrayRef}
+use Rattle.typed_columns.specs.declared.typed_column.TypedColumn.{TypedColumn}
 use mir.Val.{Val, vptr}
 use base.Logic.{SProp, emp}
 use base.Fml.{ftrue}
@@ -42,7 +42,7 @@ of_spec 𝓤 𝓛 𝓜 𝓡 wired =
     let Post : Val → SProp 𝓤 = (walk_of 𝓛 ended stays c).post z in
     let Run : List Val → SProp 𝓤 = λ ws. WpFn 𝓤 H 𝓣.C 𝓣.Λ fn ws Post in
     let box = z.0.3.0 in
-    let Holds : Option (ArrayRef Global) = Some box.value in
+    let Holds : Option (TypedColumn Global) = Some box.value in
     qed 𝓛 ((‵ ftrue ⊛ ‵ (owns (types_at ended.signature.params z.0.0) z.0.3 z.0.4)) ∷ raw ((c z.0.0 z.0.3).requires z.1) ∷ []) ∵
     split ! $ move ! (1 ∷ []) $ fsplit ! $ open_parked column_row HeapRow laws ghosts ! box z.0.4.0 (λ b o h _ is fits.
     let word : Val = pair_value (vptr b o) h in
