@@ -145,6 +145,9 @@ CALL(hv_write_typed, TYPED, ALL,
      hv_write_typed(COLUMN, (const uint8_t *)"tdD", 3, in->bytes, ROOM, &in->size, &in->error))
 CALL(hv_read_typed, TYPED, ALL, hv_read_typed(in->typed, in->typed_size, &in->out, &in->size, &in->stop, &in->error))
 CALL(hv_is_typed_message, TYPED, ALL, hv_is_typed_message(in->typed, in->typed_size, &in->flag, &in->error))
+#define FORMATS "`hv_with_type`, `hv_type`"
+CALL(hv_with_type, FORMATS, ALL, hv_with_type(COLUMN, (const uint8_t *)"tdD", 3, OUT))
+CALL(hv_type, FORMATS, ALL, hv_type(COLUMN, in->bytes, ROOM, &in->size, &in->error))
 CALL(hv_free, "`hv_free`", ALL, freed(in))
 CALL(hv_compare_value, "`hv_compare_value` (`hivevigil_helpers.h`)", PLAIN,
      hv_compare_value(SESSION, COLUMN, HV_LE, &in->value, TEXT, OUT))
@@ -163,4 +166,5 @@ CALL(hv_compare_value, "`hv_compare_value` (`hivevigil_helpers.h`)", PLAIN,
 #undef OF_BUILDERS
 #undef MESSAGES
 #undef TYPED
+#undef FORMATS
 #undef CALL

@@ -297,6 +297,8 @@ static void check_empty_handles(void) {
     NO_COLUMN(hv_serialize(&empty, bytes, 8, &size, &error));
     NO_COLUMN(hv_typed_size(&empty, record, 2, &size, &error));
     NO_COLUMN(hv_write_typed(&empty, record, 2, bytes, 8, &size, &error));
+    NO_COLUMN(hv_with_type(&empty, record, 2, &out, &error));
+    NO_COLUMN(hv_type(&empty, bytes, 8, &size, &error));
     NO_COLUMN(hv_deserialize(&kind, 0, record, 2, &empty, &numbers, &out, &error));
     NO_COLUMN(hv_deserialize(&kind, 0, record, 2, &numbers, &empty, &out, &error));
     CHECK(hv_length(&empty) == 0 && hv_offset(&empty) == 0 && hv_form(&empty) == FORM_NONE);
@@ -415,6 +417,8 @@ static void check_missing_room(void) {
     MISSING(hv_write_typed(&runs, (const uint8_t *)"g", 1, NULL, 99, &size, &error), 99);
     MISSING(hv_read_typed(NULL, 9, &out, &size, &stop, &error), 9);
     MISSING(hv_is_typed_message(NULL, 9, text, &error), 9);
+    MISSING(hv_with_type(&runs, NULL, 3, &out, &error), 3);
+    MISSING(hv_type(&runs, NULL, 9, &size, &error), 9);
 }
 
 /* Nor is an `error` that nobody asks for, whether the call is done or refused, or no handle to free. What is lent may

@@ -278,6 +278,8 @@ STEP(write_typed, hv_write_typed(&part, durations, 3, message, sizeof message, &
 STEP(column_of_typed, hv_read_typed(typed_message, typed_size, &out, &type_at, &type_len, &error))
 STEP(untyped_column, hv_read_typed(kept_message, message_size, &out, &type_at, &type_len, &error))
 STEP(is_typed_message, hv_is_typed_message(typed_message, typed_size, &truth, &error))
+STEP(give_format, hv_with_type(&part, durations, 3, &out, &error))
+STEP(read_format, hv_type(&part, message, sizeof message, &size, &error))
 STEP(export_flat, hv_arrow_export(&session, &flat, "flat", &schema, &array, &error))
 STEP(export_runs, hv_arrow_export(&session, &part, "runs", &schema, &array, &error))
 STEP(export_constant, hv_arrow_export(&session, &constant, "constant", &schema, &array, &error))
@@ -461,6 +463,7 @@ static const step steps[] = {
     NAMED(write_texts), NAMED(texts_of_message), NAMED(size_of_lists), NAMED(write_lists), NAMED(lists_of_message),
     NAMED(write_decoded_lists), NAMED(is_message), NAMED(decoded_lists_of_message),
     NAMED(size_of_typed), NAMED(write_typed), NAMED(column_of_typed), NAMED(untyped_column), NAMED(is_typed_message),
+    NAMED(give_format), NAMED(read_format),
     NAMED(export_flat), NAMED(export_runs), NAMED(export_constant),
     NAMED(export_texts), NAMED(export_truths), NAMED(export_dictionary), NAMED(import_texts),
     NAMED(import_dictionary), NAMED(export_and_import),
