@@ -22,16 +22,33 @@ pub struct Line {
     /// How often the call was made in a turn.
     pub calls: usize,
     pub ours: f64,
-    pub rust: f64,
     pub ours_taken: Taken,
-    pub rust_taken: Taken,
+    pub forms: Vec<Timed>,
+}
+
+/// Holds what one form of the Rust side took. The plain form has no name.
+#[derive(Clone, Debug)]
+pub struct Timed {
+    pub name: &'static str,
+    pub rust: f64,
+    pub taken: Taken,
 }
 
 impl Line {
+    /// Returns the form that took least.
+    pub fn fastest(&self) -> &Timed {
+        let least = |left: &&Timed, right: &&Timed| left.rust.total_cmp(&right.rust);
+        self.forms.iter().min_by(least).expect("a line has a form")
+    }
+
+    /// Ours / Rust of the fastest form.
     pub fn ratio(&self) -> f64 {
-        self.ours / self.rust
+        self.ours / self.fastest().rust
     }
 }
+
+/// Names a form of the Rust side.
+pub type Form<'a, R> = (&'static str, &'a dyn Fn() -> R);
 
 /// All lines of one run of the program.
 pub struct Bench {
@@ -39,8 +56,10 @@ pub struct Bench {
     pub turns: usize,
     pub only: Vec<String>,
     pub lines: Vec<Line>,
-    /// The lines at which the two sides answer differently.
-    pub differ: Vec<Shape>,
+    /// Names the lines at which two sides answer differently, and the form of Rust's.
+    pub differ: Vec<(Shape, &'static str)>,
+    /// Compares answers, which is done in the first round only.
+    pub compares: bool,
 }
 
 impl Bench {
@@ -48,36 +67,56 @@ impl Bench {
         self.only.is_empty() || self.only.iter().any(|name| call.starts_with(name.as_str()))
     }
 
-    /// Runs both once to compare what they answer, and then in turns.
+    /// Times a line whose Rust side has one form.
     pub fn line<O, R>(
+        &mut self,
+        shape: Shape,
+        units: (usize, &'static str),
+        ours: impl Fn() -> O,
+        rust: impl Fn() -> R,
+        same: impl Fn(&O, &R) -> bool,
+    ) {
+        self.question(shape, units, ours, &[("", &rust)], same);
+    }
+
+    /// Runs ours and each form once to compare what they answer, and then all in turns.
+    pub fn question<O, R>(
         &mut self,
         shape: Shape,
         (units, unit): (usize, &'static str),
         ours: impl Fn() -> O,
-        rust: impl Fn() -> R,
+        forms: &[Form<R>],
         same: impl Fn(&O, &R) -> bool,
     ) {
         if !self.wants(&shape.call) {
             return;
         }
         let (left, ours_taken) = counted(&ours);
-        let (right, rust_taken) = counted(&rust);
-        if !same(&left, &right) {
-            self.differ.push(shape.clone());
+        let mut taken = Vec::new();
+        for (name, rust) in forms {
+            let (right, rust_taken) = counted(rust);
+            taken.push(rust_taken);
+            if self.compares && !same(&left, &right) {
+                self.differ.push((shape.clone(), name));
+            }
         }
-        drop((left, right));
-        let (ours, rust) = in_turns(self.turns, ours, rust);
+        drop(left);
+        let (ours, rust) = in_turns(self.turns, ours, forms);
         let each = |nanoseconds: u64| nanoseconds as f64 / units.max(1) as f64;
-        let line = Line {
+        let forms = forms.iter().zip(rust).zip(taken);
+        let forms = forms.map(|(((name, _), rust), taken)| Timed {
+            name,
+            rust: each(rust),
+            taken,
+        });
+        self.add(Line {
             shape,
             unit,
             calls: if unit == "call" { units } else { 1 },
             ours: each(ours),
-            rust: each(rust),
             ours_taken,
-            rust_taken,
-        };
-        self.add(line);
+            forms: forms.collect(),
+        });
     }
 
     pub fn add(&mut self, line: Line) {
@@ -102,16 +141,21 @@ pub fn middle_rounds(lines: &[Line]) -> Vec<Line> {
     rounds.into_iter().map(middle).collect()
 }
 
-/// The middle turn of each.
-fn in_turns<O, R>(turns: usize, ours: impl Fn() -> O, rust: impl Fn() -> R) -> (u64, u64) {
-    let (mut left, mut right) = (Vec::new(), Vec::new());
+/// Times all in turns; the middle turn of ours, and of each form, counts.
+fn in_turns<O, R>(turns: usize, ours: impl Fn() -> O, forms: &[Form<R>]) -> (u64, Vec<u64>) {
+    let mut left = Vec::new();
+    let mut right = vec![Vec::new(); forms.len()];
     for _ in 0..turns {
-        right.push(timed(&rust));
+        for (times, (_, rust)) in right.iter_mut().zip(forms) {
+            times.push(timed(rust));
+        }
         left.push(timed(&ours));
     }
-    left.sort_unstable();
-    right.sort_unstable();
-    (left[turns / 2], right[turns / 2])
+    let middle = |mut times: Vec<u64>| {
+        times.sort_unstable();
+        times[turns / 2]
+    };
+    (middle(left), right.into_iter().map(middle).collect())
 }
 
 /// What was made is given back after the clock stopped.
@@ -132,12 +176,14 @@ impl Line {
             size,
         } = &self.shape;
         let nulls = if *nulls { "with null" } else { "" };
-        eprintln!(
-            "{call:<34} {kind:<8} {nulls:<9} {size:>12}  ours {:>9.3}  Rust {:>9.3} ns a {:<5}  ratio {:>5.2}",
-            self.ours,
-            self.rust,
-            self.unit,
-            self.ratio(),
+        eprint!(
+            "{call:<34} {kind:<8} {nulls:<9} {size:>12}  ours {:>9.3} ns a {:<5}",
+            self.ours, self.unit,
         );
+        for Timed { name, rust, .. } in &self.forms {
+            let name = if name.is_empty() { "plain" } else { name };
+            eprint!("  {name} {rust:.3} ({:.2})", self.ours / rust);
+        }
+        eprintln!();
     }
 }

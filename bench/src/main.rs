@@ -40,6 +40,7 @@ fn asked() -> Option<Asked> {
         only: vec![],
         lines: vec![],
         differ: vec![],
+        compares: true,
     };
     let mut asked = Asked {
         bench,
@@ -103,12 +104,15 @@ fn main() -> ExitCode {
     } else if asked.growth {
         print!("{}", lines::growth(bench));
     } else {
-        (0..asked.rounds).for_each(|_| lines::all(bench));
+        for round in 0..asked.rounds {
+            bench.compares = round == 0;
+            lines::all(bench);
+        }
         bench.lines = line::middle_rounds(&bench.lines);
         print!("{}", report::tables(bench));
     }
-    for shape in &bench.differ {
-        println!("DIFFERS: {shape:?}");
+    for (shape, form) in &bench.differ {
+        println!("DIFFERS: {shape:?} {form}");
     }
     if bench.differ.is_empty() {
         println!("{} lines agree", bench.lines.len());

@@ -4,25 +4,36 @@ use crate::memory::Taken;
 use std::fmt::Write;
 
 const MEANS: [&str; 3] = ["3", "16", "200"];
+const GOAL: f64 = 1.15;
 
 /// All tables of a run.
 pub fn tables(bench: &Bench) -> String {
-    let mut text = format!(
-        "{} lines, geometric mean of ours / Rust {:.2}; {} above 1.15.\n\n",
-        bench.lines.len(),
-        geometric_mean(&bench.lines.iter().collect::<Vec<_>>()),
-        bench
+    let mut text = String::new();
+    let kinds: [(&str, fn(&Line) -> bool); 3] = [
+        ("questions", in_grid),
+        ("single calls", |line| !in_grid(line) && !is_small(line)),
+        ("calls on ten rows", is_small),
+    ];
+    for (name, is_one) in kinds {
+        let ratios: Vec<f64> = bench
             .lines
             .iter()
-            .filter(|line| line.ratio() > 1.15)
-            .count(),
-    );
-    text.push_str(
-        "| Call | 3 rows | 16 rows | 200 rows | Geometric mean |\n|---|---|---|---|---|\n",
-    );
-    for group in groups(bench) {
-        row(&mut text, &group);
+            .filter(|line| is_one(line))
+            .map(Line::ratio)
+            .collect();
+        let (count, mean) = (ratios.len(), geometric_mean(&ratios));
+        let above = ratios.iter().filter(|ratio| **ratio > GOAL).count();
+        let _ = writeln!(
+            text,
+            "{count} {name}: ours / the fastest Rust form {mean:.2}, {above} above {GOAL}."
+        );
     }
+    text.push_str(
+        "\n| Call | 3 rows | 16 rows | 200 rows | Geometric mean |\n|---|---|---|---|---|\n",
+    );
+    groups(bench)
+        .iter()
+        .for_each(|group| rows(&mut text, group));
     text.push_str("\n| Call | Of | Ours | Rust | Ours / Rust |\n|---|---|---|---|---|\n");
     for line in bench.lines.iter().filter(|line| !in_grid(line)) {
         single(&mut text, line);
@@ -30,8 +41,8 @@ pub fn tables(bench: &Bench) -> String {
     let (rows, runs) = (bench.rows, bench.rows / 16);
     let _ = writeln!(
         text,
-        "\nMemory that a call takes beside its column. {rows} rows of u64 are {} KiB; in runs of 16 rows, with ends of \
-         32 bits, some {runs} runs of {} KiB.",
+        "\nMemory that a call takes beside its column, and that the fastest form takes. {rows} rows of u64 are {} KiB; in \
+         runs of 16 rows, with ends of 32 bits, some {runs} runs of {} KiB.",
         rows * 8 / 1024,
         runs * 12 / 1024,
     );
@@ -48,44 +59,52 @@ fn in_grid(line: &Line) -> bool {
     MEANS.contains(&line.shape.size.as_str())
 }
 
+fn is_small(line: &Line) -> bool {
+    line.shape.call.ends_with(", ten rows")
+        || line.shape.call == "list of ten" && line.shape.size == "10 rows"
+}
+
 /// Memory goes by rows and runs, so that one length of runs shows it; and what a call takes that has little to do.
 fn shows_memory(line: &Line) -> bool {
     let of_runs = line.shape.size == "16" && !["i32", "u8"].contains(&line.shape.kind);
     of_runs || line.shape.call.ends_with(", ten rows")
 }
 
-pub fn geometric_mean(lines: &[&Line]) -> f64 {
-    let logs: f64 = lines.iter().map(|line| line.ratio().ln()).sum();
-    (logs / lines.len().max(1) as f64).exp()
+fn geometric_mean(ratios: &[f64]) -> f64 {
+    let logs: f64 = ratios.iter().map(|ratio| ratio.ln()).sum();
+    (logs / ratios.len().max(1) as f64).exp()
 }
 
-/// A title, and the lines that have it.
+/// Groups the lines of one call on one kind of rows, with null or without.
 struct Group<'a> {
-    title: String,
+    of: &'a Shape,
     lines: Vec<&'a Line>,
 }
 
-fn title(shape: &Shape) -> String {
+/// Names a line relative to this form of Rust's; the plain one has no name.
+fn title(shape: &Shape, form: &str) -> String {
     let kind = match shape.kind {
         "u64" | "i32" | "u8" => "",
         other => other,
     };
+    let form = match (form, kind) {
+        ("", _) => String::new(),
+        (_, "") => format!(", beside {form}"),
+        _ => format!(", beside {form},"),
+    };
     let gap = if kind.is_empty() { "" } else { " of " };
-    format!(
-        "{}{gap}{kind}{}",
-        shape.call,
-        if shape.nulls { ", with null" } else { "" }
-    )
+    let nulls = if shape.nulls { ", with null" } else { "" };
+    format!("{}{form}{gap}{kind}{nulls}", shape.call)
 }
 
 fn groups(bench: &Bench) -> Vec<Group<'_>> {
     let mut groups: Vec<Group> = Vec::new();
     for line in bench.lines.iter().filter(|line| in_grid(line)) {
-        let title = title(&line.shape);
-        match groups.iter_mut().find(|group| group.title == title) {
+        let same = |group: &&mut Group| title(group.of, "") == title(&line.shape, "");
+        match groups.iter_mut().find(same) {
             Some(group) => group.lines.push(line),
             None => groups.push(Group {
-                title,
+                of: &line.shape,
                 lines: vec![line],
             }),
         }
@@ -93,25 +112,32 @@ fn groups(bench: &Bench) -> Vec<Group<'_>> {
     groups
 }
 
-fn row(text: &mut String, group: &Group) {
-    let cell = |mean: &str| {
-        let of_mean = group.lines.iter().filter(|line| line.shape.size == mean);
-        let ratios: Vec<String> = of_mean.map(|line| format!("{:.2}", line.ratio())).collect();
-        ratios.join(" ")
-    };
-    let cells = MEANS.map(cell).join(" | ");
-    let mean = geometric_mean(&group.lines);
-    let _ = writeln!(text, "| {} | {cells} | {mean:.2} |", group.title);
+/// Writes a row for each form: three cells of ratios, and their mean.
+fn rows(text: &mut String, group: &Group) {
+    for (at, form) in group.lines[0].forms.iter().enumerate() {
+        let ratio = |line: &Line| line.ours / line.forms[at].rust;
+        let cell = |mean: &str| {
+            let of_mean = group.lines.iter().filter(|line| line.shape.size == mean);
+            let ratios: Vec<String> = of_mean.map(|line| format!("{:.2}", ratio(line))).collect();
+            ratios.join(" ")
+        };
+        let all: Vec<f64> = group.lines.iter().map(|line| ratio(line)).collect();
+        let (cells, mean) = (MEANS.map(cell).join(" | "), geometric_mean(&all));
+        let title = title(group.of, form.name);
+        let _ = writeln!(text, "| {title} | {cells} | {mean:.2} |");
+    }
 }
 
 fn single(text: &mut String, line: &Line) {
     let (size, unit) = (&line.shape.size, line.unit);
-    let (ours, rust, ratio) = (line.ours, line.rust, line.ratio());
-    let title = title(&line.shape);
-    let _ = writeln!(
-        text,
-        "| {title} | {size} | {ours:.1} ns a {unit} | {rust:.1} | {ratio:.2} |"
-    );
+    for form in &line.forms {
+        let (ours, rust, ratio) = (line.ours, form.rust, line.ours / form.rust);
+        let title = title(&line.shape, form.name);
+        let _ = writeln!(
+            text,
+            "| {title} | {size} | {ours:.1} ns a {unit} | {rust:.1} | {ratio:.2} |"
+        );
+    }
 }
 
 fn memory(text: &mut String, line: &Line) {
@@ -120,11 +146,11 @@ fn memory(text: &mut String, line: &Line) {
         most => format!("{} KiB", most.div_ceil(1024)),
     };
     let requests = |taken: Taken| taken.requests / line.calls.max(1) as u64;
-    let (ours, rust) = (line.ours_taken, line.rust_taken);
+    let (ours, rust) = (line.ours_taken, line.fastest().taken);
     let _ = writeln!(
         text,
         "| {} | {} | {} | {} | {} | {} |",
-        title(&line.shape),
+        title(&line.shape, ""),
         line.shape.kind,
         bytes(ours),
         bytes(rust),

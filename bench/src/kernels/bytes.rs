@@ -1,5 +1,6 @@
 //! Runs and lists of integers as messages of `docs/column.proto`, and back: a pass over lengths of runs, or over lists,
 //! and copies.
+use super::lengths::{ends_of_pairs, packed_len_by_blocks, push_by_blocks};
 use crate::bits::Bits;
 use crate::data::{Flat, Lists, Runs};
 use std::ptr;
@@ -138,6 +139,11 @@ pub fn message_size_by_powers<T>(runs: &Runs<T>) -> usize {
     size_around(runs, packed_len_by_powers(&runs.ends))
 }
 
+#[inline(never)]
+pub fn message_size_by_blocks<T>(runs: &Runs<T>) -> usize {
+    size_around(runs, packed_len_by_blocks(&runs.ends))
+}
+
 fn size_around<T>(runs: &Runs<T>, packed: usize) -> usize {
     let head = 6 + 1 + varint_len(runs.rows() as u64) + 4;
     head + field_len(packed) + field_len(flat_len(&runs.values))
@@ -159,6 +165,12 @@ pub fn write_in_one_pass<T>(runs: &Runs<T>, number: u64) -> Vec<u8> {
     let packed = packed(&runs.ends);
     let push_lengths = |message: &mut Vec<u8>| message.extend_from_slice(&packed);
     write_around(runs, number, packed.len(), push_lengths)
+}
+
+/// Writes the same message, with lengths counted and written 64 at a time.
+pub fn write_by_blocks<T>(runs: &Runs<T>, number: u64) -> Vec<u8> {
+    let push_lengths = |message: &mut Vec<u8>| push_by_blocks(message, &runs.ends);
+    write_around(runs, number, packed_len_by_blocks(&runs.ends), push_lengths)
 }
 
 fn write_around<T>(
@@ -347,6 +359,13 @@ pub fn read<T: Copy + Default>(message: &[u8], number: u64) -> Option<Runs<T>> {
 
 pub fn read_by_words<T: Copy + Default>(message: &[u8], number: u64) -> Option<Runs<T>> {
     read_around(message, number, ends_by_words)
+}
+
+/// Reads the same where lengths of one byte and two are read without a branch; others are read one by one.
+pub fn read_by_pairs<T: Copy + Default>(message: &[u8], number: u64) -> Option<Runs<T>> {
+    read_around(message, number, |packed| {
+        ends_of_pairs(packed).or_else(|| ends_of(packed))
+    })
 }
 
 fn read_around<T: Copy + Default>(

@@ -1,4 +1,5 @@
 //! Each row beside one value.
+use super::words::word_of;
 use crate::bits::Bits;
 use crate::data::{Runs, Truths};
 use crate::kernels::decode::{spread, spread_by_ones, spread_by_turns};
@@ -9,11 +10,9 @@ fn less<T: Copy + PartialOrd>(
     spread: impl Fn(&[u32], &Bits, usize) -> Bits,
 ) -> Truths {
     let items = &runs.values.items;
-    let word = |part: &[T]| {
-        let answers = part.iter().enumerate();
-        answers.fold(0u64, |word, (at, item)| {
-            word | u64::from(*item < right) << at
-        })
+    let word = |part: &[T]| match <&[T; 64]>::try_from(part) {
+        Ok(part) => word_of(|at| part[at] < right),
+        Err(_) => word_of(|at| at < part.len() && part[at] < right),
     };
     let words = items.chunks(64).map(word).collect();
     let mut answers = Bits {

@@ -33,25 +33,3 @@ pub fn fill<T: Copy + PartialEq>(runs: &Runs<T>, value: T) -> Runs<T> {
     }
     join(runs.ends.clone(), Flat { items, flags: None })
 }
-
-/// The row of the dictionary that each code numbers; `None` where there is none. What is stored under null is blank.
-#[inline(never)]
-pub fn take_from<T: Copy + Default, U: Copy + PartialEq + Default>(
-    codes: &Runs<T>,
-    dictionary: &[U],
-    place: impl Fn(T) -> usize,
-) -> Option<Runs<U>> {
-    let items = &codes.values.items;
-    if !items
-        .iter()
-        .fold(true, |all, code| all & (place(*code) < dictionary.len()))
-    {
-        return None;
-    }
-    let items = items.iter().map(|code| dictionary[place(*code)]).collect();
-    let values = blanked(Flat {
-        items,
-        flags: codes.values.flags.clone(),
-    });
-    Some(join(codes.ends.clone(), values))
-}

@@ -1,7 +1,7 @@
 //! Kernels over buffers that columns share: what a call leaves as it is has one more owner, and is not copied.
 use crate::bits::Bits;
 use crate::data::{Flat, Runs};
-use crate::kernels::join::{any_equal, blanked, join};
+use crate::kernels::join::join;
 use crate::kernels::Slice;
 use std::ops::Range;
 use std::sync::Arc;
@@ -75,27 +75,75 @@ impl<T: Copy> SharedRuns<T> {
     }
 }
 
-/// The runs of these ends, joined where neighbours show the same; where none do, the ends are shared.
-fn over<T: Copy, U: Copy + PartialEq>(runs: &SharedRuns<T>, values: Flat<U>) -> SharedRuns<U> {
-    if any_equal(&values) {
-        return SharedRuns::of(join(runs.ends.to_vec(), values));
-    }
-    SharedRuns {
-        ends: runs.ends.clone(),
-        items: Arc::new(values.items),
-        flags: values.flags.map(Arc::new),
-        kept: runs.kept.clone(),
-        offset: 0,
-    }
+/// Runs to a block: what is tested, mapped and compared with its neighbours while it is in the cache.
+const BLOCK: usize = 1024;
+
+/// Says what a call leaves under null: nulls, over a value, or that value in their place.
+enum UnderNull<U> {
+    Null(U),
+    Row(U),
 }
 
-/// The calls below are made on all runs of their columns.
-fn values<T, U: Copy + Default>(runs: &SharedRuns<T>, item: impl Fn(&T) -> U) -> Flat<U> {
-    let flags = runs.flags.as_deref().cloned();
-    blanked(Flat {
-        items: runs.items.iter().map(item).collect(),
-        flags,
+/// Maps each value of the runs, and joins them where neighbours show the same; where none do, the ends are shared. `None`
+/// where `fits` refuses a value that is shown. The call is made on all runs of the column.
+#[inline(always)]
+fn mapped<T: Copy, U: Copy + PartialEq>(
+    runs: &SharedRuns<T>,
+    under_null: UnderNull<U>,
+    fits: impl Fn(T) -> bool,
+    to: impl Fn(T) -> U,
+) -> Option<SharedRuns<U>> {
+    let (stored, flags) = match under_null {
+        UnderNull::Null(stored) => (stored, runs.flags.as_ref()),
+        UnderNull::Row(row) => (row, None),
+    };
+    let valid = |flags: Option<&Arc<Bits>>, at: usize| flags.is_none_or(|flags| flags.get(at));
+    let mut items: Vec<U> = Vec::with_capacity(runs.items.len());
+    let mut joins = false;
+    for part in runs.items.chunks(BLOCK) {
+        let start = items.len();
+        let fit = part.iter().fold(true, |all, item| all & fits(*item));
+        let refused = |at: usize| valid(runs.flags.as_ref(), start + at) && !fits(part[at]);
+        if !fit && (0..part.len()).any(refused) {
+            return None;
+        }
+        items.extend(part.iter().map(|item| to(*item)));
+        write_under_null(&mut items, start, runs.flags.as_ref(), stored);
+        let first = start.max(1);
+        let pairs = items[first..].iter().zip(&items[first - 1..]);
+        let some = pairs.fold(false, |some, (item, other)| some | (item == other));
+        let same =
+            |at: usize| items[at] == items[at - 1] && valid(flags, at) == valid(flags, at - 1);
+        joins = joins || some && (first..items.len()).any(same);
+    }
+    if joins {
+        let flags = flags.map(|flags| Bits::clone(flags));
+        let values = Flat { items, flags };
+        return Some(SharedRuns::of(join(runs.ends.to_vec(), values)));
+    }
+    Some(SharedRuns {
+        ends: runs.ends.clone(),
+        items: Arc::new(items),
+        flags: flags.cloned(),
+        kept: runs.kept.clone(),
+        offset: 0,
     })
+}
+
+/// Writes an item under each null, of the items from `start` on, which is a multiple of 64.
+#[inline(always)]
+fn write_under_null<U: Copy>(items: &mut [U], start: usize, flags: Option<&Arc<Bits>>, item: U) {
+    let Some(flags) = flags else {
+        return;
+    };
+    let words = &flags.words[start / 64..];
+    for (part, word) in items[start..].chunks_mut(64).zip(words) {
+        let mut left = !word & u64::MAX >> (64 - part.len());
+        while left != 0 {
+            part[left.trailing_zeros() as usize] = item;
+            left &= left - 1;
+        }
+    }
 }
 
 #[inline(never)]
@@ -104,22 +152,12 @@ pub fn cast_shared<T: Copy, U: Copy + PartialEq + Default>(
     fits: impl Fn(T) -> bool,
     to: impl Fn(T) -> U,
 ) -> Option<SharedRuns<U>> {
-    if !runs.items.iter().fold(true, |all, item| all & fits(*item)) {
-        let valid = |at: usize| runs.flags.as_ref().is_none_or(|flags| flags.get(at));
-        if (0..runs.items.len()).any(|at| valid(at) && !fits(runs.items[at])) {
-            return None;
-        }
-    }
-    Some(over(runs, values(runs, |item| to(*item))))
+    mapped(runs, UnderNull::Null(U::default()), fits, to)
 }
 
 #[inline(never)]
 pub fn fill_shared<T: Copy + PartialEq>(runs: &SharedRuns<T>, value: T) -> SharedRuns<T> {
-    let mut items = runs.items.to_vec();
-    if let Some(flags) = &runs.flags {
-        flags.for_each_zero(|at| items[at] = value);
-    }
-    over(runs, Flat { items, flags: None })
+    mapped(runs, UnderNull::Row(value), |_| true, |item| item).expect("each value fits")
 }
 
 #[inline(never)]
@@ -132,5 +170,6 @@ pub fn take_from_shared<T: Copy, U: Copy + PartialEq + Default>(
     if !codes.items.iter().fold(true, inside) {
         return None;
     }
-    Some(over(codes, values(codes, |code| dictionary[place(*code)])))
+    let row = |code: T| dictionary[place(code)];
+    mapped(codes, UnderNull::Null(U::default()), |_| true, row)
 }

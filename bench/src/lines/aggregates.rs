@@ -1,9 +1,12 @@
 //! Questions over all runs.
 use super::{session, shape, Number};
 use crate::data::{Flat, Runs};
-use crate::kernels::{is_constant, is_sorted, least, least_and_greatest, sum, sum_short, Addend};
+use crate::kernels::{
+    is_constant, is_sorted, least, least_and_greatest, least_and_greatest_by_blocks,
+    least_by_blocks, sum, sum_by_blocks, Addend,
+};
 use crate::library::Column;
-use crate::line::Bench;
+use crate::line::{Bench, Form};
 use crate::load::Load;
 
 pub fn lines<T: Number>(bench: &mut Bench, load: &Load) {
@@ -15,36 +18,32 @@ pub fn lines<T: Number>(bench: &mut Bench, load: &Load) {
     }
     let (session, runs, units) = (session(), load.runs(T::of), (load.ends.len(), "run"));
     let column = Column::of_runs(&runs);
-    bench.line(
-        shape(load, "sum", T::NAME),
-        units,
-        || column.sum(&session),
-        || sum(&runs),
-        |ours, rust| *ours == Some(*rust),
-    );
-    if T::default().short().is_some() {
-        bench.line(
-            shape(load, "sum, beside 64 bits", T::NAME),
-            units,
-            || column.sum(&session),
-            || sum_short(&runs),
-            |ours, rust| ours == rust,
-        );
-    }
-    bench.line(
-        shape(load, "least", T::NAME),
-        units,
-        || column.extreme(&session, false),
-        || least(&runs.values),
-        |ours, rust| *ours == rust.map(Addend::wide),
-    );
-    bench.line(
-        shape(load, "min_max", T::NAME),
-        units,
-        || column.least_and_greatest(&session),
-        || least_and_greatest(&runs.values),
-        |ours, rust| *ours == rust.map(|(low, high)| (low.wide(), high.wide())),
-    );
+    let sums: [Form<i128>; 2] = [("", &|| sum(&runs)), ("blocks", &|| sum_by_blocks(&runs))];
+    let shape_of = |call: &str| shape(load, call, T::NAME);
+    let same = |ours: &Option<i128>, rust: &i128| *ours == Some(*rust);
+    bench.question(shape_of("sum"), units, || column.sum(&session), &sums, same);
+    let values = &runs.values;
+    let forms: [Form<Option<T>>; 2] = [
+        ("", &|| least(values)),
+        ("blocks", &|| least_by_blocks(values)),
+    ];
+    let ours = || column.extreme(&session, false);
+    let same = |ours: &Option<i128>, rust: &Option<T>| *ours == rust.map(Addend::wide);
+    bench.question(shape_of("least"), units, ours, &forms, same);
+    let forms: [Form<Option<(T, T)>>; 2] = [
+        ("", &|| least_and_greatest(values)),
+        ("blocks", &|| least_and_greatest_by_blocks(values)),
+    ];
+    let forms = if load.flags.is_some() {
+        &forms[..]
+    } else {
+        &forms[..1]
+    };
+    let ours = || column.least_and_greatest(&session);
+    let same = |ours: &Option<(i128, i128)>, rust: &Option<(T, T)>| {
+        *ours == rust.map(|(low, high)| (low.wide(), high.wide()))
+    };
+    bench.question(shape_of("min_max"), units, ours, forms, same);
     if load.flags.is_none() {
         orders(bench, load, &runs);
     }

@@ -2,15 +2,12 @@
 use super::{same_runs, shape, Number};
 use crate::data::{Flat, Lists, Runs};
 use crate::kernels::{
-    message_size, message_size_by_powers, read, read_by_words, read_lists, write,
-    write_in_one_pass, write_lists,
+    message_size, message_size_by_blocks, message_size_by_powers, read, read_by_pairs,
+    read_by_words, read_lists, write, write_by_blocks, write_in_one_pass, write_lists,
 };
 use crate::library::{Column, Item};
-use crate::line::Bench;
+use crate::line::{Bench, Form};
 use crate::load::Load;
-
-type Write<T> = fn(&Runs<T>, u64) -> Vec<u8>;
-type Read<T> = fn(&[u8], u64) -> Option<Runs<T>>;
 
 pub fn lines<T: Number>(bench: &mut Bench, load: &Load) {
     if !bench.wants("bytes") {
@@ -19,31 +16,32 @@ pub fn lines<T: Number>(bench: &mut Bench, load: &Load) {
     let (runs, units) = (load.runs(T::of), (load.ends.len(), "run"));
     let column = Column::of_runs(&runs);
     let message = write(&runs, T::MESSAGE);
-    let writers: [(&str, Write<T>); 2] = [("", write), (", beside one pass", write_in_one_pass)];
-    for (beside, write) in writers {
-        let shape = |call: &str| shape(load, &format!("bytes, {call}{beside}"), T::NAME);
-        let rust = || write(&runs, T::MESSAGE);
-        let ours = || column.message(message.len());
-        bench.line(shape("written"), units, ours, rust, Vec::eq);
-        let ours = || column.message(column.message_size());
-        bench.line(shape("size and written"), units, ours, rust, Vec::eq);
-    }
-    let sizes: [(&str, fn(&Runs<T>) -> usize); 2] = [
-        ("", message_size),
-        (", beside powers", message_size_by_powers),
+    let shape_of = |call: &str| shape(load, call, T::NAME);
+    let writers: [Form<Vec<u8>>; 3] = [
+        ("", &|| write(&runs, T::MESSAGE)),
+        ("one pass", &|| write_in_one_pass(&runs, T::MESSAGE)),
+        ("blocks", &|| write_by_blocks(&runs, T::MESSAGE)),
     ];
-    for (beside, size) in sizes {
-        let shape = shape(load, &format!("bytes, size{beside}"), T::NAME);
-        let (ours, rust) = (|| column.message_size(), || size(&runs));
-        bench.line(shape, units, ours, rust, usize::eq);
-    }
-    let readers: [(&str, Read<T>); 2] = [("", read), (", beside words", read_by_words)];
-    for (beside, read) in readers {
-        let shape = shape(load, &format!("bytes, read{beside}"), T::NAME);
-        let ours = || Column::of_message(&message);
-        let rust = || read(&message, T::MESSAGE).expect("the message is whole");
-        bench.line(shape, units, ours, rust, same_runs);
-    }
+    let ours = || column.message(message.len());
+    bench.question(shape_of("bytes, written"), units, ours, &writers, Vec::eq);
+    let ours = || column.message(column.message_size());
+    let shape = shape_of("bytes, size and written");
+    bench.question(shape, units, ours, &writers, Vec::eq);
+    let sizes: [Form<usize>; 3] = [
+        ("", &|| message_size(&runs)),
+        ("powers", &|| message_size_by_powers(&runs)),
+        ("blocks", &|| message_size_by_blocks(&runs)),
+    ];
+    let ours = || column.message_size();
+    bench.question(shape_of("bytes, size"), units, ours, &sizes, usize::eq);
+    let whole = |read: Option<Runs<T>>| read.expect("the message is whole");
+    let readers: [Form<Runs<T>>; 3] = [
+        ("", &|| whole(read(&message, T::MESSAGE))),
+        ("words", &|| whole(read_by_words(&message, T::MESSAGE))),
+        ("pairs", &|| whole(read_by_pairs(&message, T::MESSAGE))),
+    ];
+    let ours = || Column::of_message(&message);
+    bench.question(shape_of("bytes, read"), units, ours, &readers, same_runs);
 }
 
 /// Lists as long as the runs of the load, one after the other.

@@ -3,10 +3,10 @@ use super::looks::same_slice;
 use super::selects::{index_column, mask_column};
 use super::{again, same_runs, session};
 use crate::bits::Bits;
-use crate::data::{Flat, Runs};
+use crate::data::{Flat, Runs, Truths};
 use crate::kernels::{self, black_box};
 use crate::library::{passed, Column, Item};
-use crate::line::{Bench, Shape};
+use crate::line::{Bench, Form, Shape};
 
 const TIMES: usize = 10_000;
 
@@ -24,6 +24,16 @@ fn line<O, R>(
     rust: impl Fn() -> R,
     same: impl Fn(&O, &R) -> bool,
 ) {
+    question(bench, call, ours, &[("", &rust)], same);
+}
+
+fn question<O, R>(
+    bench: &mut Bench,
+    call: &str,
+    ours: impl Fn() -> O,
+    forms: &[Form<R>],
+    same: impl Fn(&O, &R) -> bool,
+) {
     let call = format!("{call}, ten rows");
     let shape = Shape {
         call,
@@ -31,8 +41,15 @@ fn line<O, R>(
         nulls: true,
         size: "a call".to_string(),
     };
-    let (ours, rust) = (again(TIMES, ours), again(TIMES, rust));
-    bench.line(shape, (TIMES, "call"), ours, rust, same);
+    let calls = forms.iter();
+    let calls: Vec<_> = calls
+        .map(|(name, rust)| (*name, again(TIMES, rust)))
+        .collect();
+    let forms: Vec<Form<R>> = calls
+        .iter()
+        .map(|(name, call)| (*name, call as _))
+        .collect();
+    bench.question(shape, (TIMES, "call"), again(TIMES, ours), &forms, same);
 }
 
 pub fn lines(bench: &mut Bench) {
@@ -47,13 +64,11 @@ pub fn lines(bench: &mut Bench) {
         || black_box(&flat).clone(),
         |ours, rust| ours.read_flat::<i64>().same_rows(rust),
     );
-    line(
-        bench,
-        "encode",
-        || ours.encode(&session),
-        || kernels::encode(black_box(&flat)),
-        same_runs,
-    );
+    let forms: [Form<Runs<i64>>; 2] = [
+        ("", &|| kernels::encode(black_box(&flat))),
+        ("bits", &|| kernels::encode_by_bits(black_box(&flat))),
+    ];
+    question(bench, "encode", || ours.encode(&session), &forms, same_runs);
     line(
         bench,
         "decode",
@@ -94,13 +109,13 @@ fn changes(bench: &mut Bench, column: &Column, runs: &Runs<i64>) {
         || kernels::fill(black_box(runs), 3),
         same_runs,
     );
-    line(
-        bench,
-        "compare",
-        || column.less_than(&session, passed(7, true)),
-        || kernels::less_by_runs(black_box(runs), 7),
-        |ours, rust| ours.read_truths().flat().same_rows(&rust.flat()),
-    );
+    let ours = || column.less_than(&session, passed(7, true));
+    let forms: [Form<Truths>; 2] = [
+        ("", &|| kernels::less_by_runs(black_box(runs), 7)),
+        ("ones", &|| kernels::less_by_ones(black_box(runs), 7)),
+    ];
+    let same = |ours: &Column, rust: &Truths| ours.read_truths().flat().same_rows(&rust.flat());
+    question(bench, "compare", ours, &forms, same);
 }
 
 fn copies(bench: &mut Bench, column: &Column, runs: &Runs<i64>) {

@@ -1,8 +1,9 @@
 //! Rows to runs, and runs to rows.
 use super::{same_runs, session, shape, Number};
-use crate::kernels::{decode, encode, encode_by_words};
+use crate::data::Runs;
+use crate::kernels::{decode, encode, encode_by_bits, encode_by_words};
 use crate::library::Column;
-use crate::line::Bench;
+use crate::line::{Bench, Form};
 use crate::load::Load;
 
 pub fn lines<T: Number>(bench: &mut Bench, load: &Load) {
@@ -13,24 +14,16 @@ pub fn lines<T: Number>(bench: &mut Bench, load: &Load) {
     let flat = decode(&runs);
     let column = T::column(&flat);
     let ours = || column.encode(&session);
-    bench.line(
-        shape(load, "encode", T::NAME),
-        rows,
-        ours,
-        || encode(&flat),
-        same_runs,
-    );
-    let rust = || encode_by_words(&flat);
-    bench.line(
-        shape(load, "encode, beside words", T::NAME),
-        rows,
-        ours,
-        rust,
-        same_runs,
-    );
+    let forms: [Form<Runs<T>>; 3] = [
+        ("", &|| encode(&flat)),
+        ("words", &|| encode_by_words(&flat)),
+        ("bits", &|| encode_by_bits(&flat)),
+    ];
+    let shape_of = |call: &str| shape(load, call, T::NAME);
+    bench.question(shape_of("encode"), rows, ours, &forms, same_runs);
     let column = Column::of_runs(&runs);
     bench.line(
-        shape(load, "decode", T::NAME),
+        shape_of("decode"),
         rows,
         || column.decode(&session),
         || decode(&runs),

@@ -4,11 +4,11 @@ use super::{same_runs, shape};
 use crate::bits::Bits;
 use crate::data::{Flat, Runs, Texts, TruthRuns, Truths, View};
 use crate::kernels::{
-    decode, decode_truths, encode, encode_by_words, encode_texts, encode_truths,
-    encode_truths_by_words,
+    decode, decode_truths, encode, encode_by_bits, encode_by_words, encode_texts,
+    encode_texts_by_bits, encode_truths, encode_truths_by_bits, encode_truths_by_words,
 };
 use crate::library::{Column, Item};
-use crate::line::Bench;
+use crate::line::{Bench, Form};
 use crate::load::Load;
 
 pub fn lines(bench: &mut Bench, load: &Load) {
@@ -24,29 +24,24 @@ pub fn lines(bench: &mut Bench, load: &Load) {
     numbers(bench, load);
 }
 
-/// A loop of Rust's, and what its line is called after the name of the call.
-type Kernel<'a, R> = (&'static str, &'a dyn Fn() -> R);
-
 /// A flat column that is encoded as it is, and built of a hundred batches; the Rust loops have it as one column.
 fn both<R>(
     bench: &mut Bench,
     load: &Load,
     kind: &'static str,
     column: &Column,
-    kernels: &[Kernel<R>],
+    forms: &[Form<R>],
     same: fn(&Column, &R) -> bool,
 ) {
     let units = (load.rows(), "row");
-    let parts = batches(column, load.rows());
-    for (beside, rust) in kernels {
-        let shape = |call: &str| shape(load, &format!("{call}{beside}"), kind);
-        if kind != "u64" {
-            let ours = || column.encode_rows();
-            bench.line(shape("encode rows"), units, ours, rust, same);
-        }
-        let ours = || Column::built(&parts);
-        bench.line(shape("built of a hundred batches"), units, ours, rust, same);
+    if kind != "u64" {
+        let ours = || column.encode_rows();
+        bench.question(shape(load, "encode rows", kind), units, ours, forms, same);
     }
+    let parts = batches(column, load.rows());
+    let ours = || Column::built(&parts);
+    let shape = shape(load, "built of a hundred batches", kind);
+    bench.question(shape, units, ours, forms, same);
 }
 
 fn batches(column: &Column, rows: usize) -> Vec<Column> {
@@ -60,21 +55,23 @@ fn batches(column: &Column, rows: usize) -> Vec<Column> {
 fn numbers(bench: &mut Bench, load: &Load) {
     let flat = decode(&load.runs(|number| number));
     let column = u64::column(&flat);
-    let kernels: [Kernel<Runs<u64>>; 2] = [
+    let forms: [Form<Runs<u64>>; 3] = [
         ("", &|| encode(&flat)),
-        (", beside words", &|| encode_by_words(&flat)),
+        ("words", &|| encode_by_words(&flat)),
+        ("bits", &|| encode_by_bits(&flat)),
     ];
-    both(bench, load, "u64", &column, &kernels, same_runs);
+    both(bench, load, "u64", &column, &forms, same_runs);
 }
 
 fn decimals(bench: &mut Bench, load: &Load) {
     let flat = decode(&load.runs(|number| i128::from(number) << 30));
     let column = i128::column(&flat);
-    let kernels: [Kernel<Runs<i128>>; 2] = [
+    let forms: [Form<Runs<i128>>; 3] = [
         ("", &|| encode(&flat)),
-        (", beside words,", &|| encode_by_words(&flat)),
+        ("words", &|| encode_by_words(&flat)),
+        ("bits", &|| encode_by_bits(&flat)),
     ];
-    both(bench, load, "decimals", &column, &kernels, same_runs);
+    both(bench, load, "decimals", &column, &forms, same_runs);
 }
 
 fn truths(bench: &mut Bench, load: &Load) {
@@ -86,11 +83,12 @@ fn truths(bench: &mut Bench, load: &Load) {
     let values = Truths { bits, flags };
     let rows = decode_truths(&TruthRuns { ends, values });
     let column = Column::truths(&rows);
-    let kernels: [Kernel<TruthRuns>; 2] = [
+    let forms: [Form<TruthRuns>; 3] = [
         ("", &|| encode_truths(&rows)),
-        (", beside words,", &|| encode_truths_by_words(&rows)),
+        ("words", &|| encode_truths_by_words(&rows)),
+        ("bits", &|| encode_truths_by_bits(&rows)),
     ];
-    both(bench, load, "booleans", &column, &kernels, same_truths);
+    both(bench, load, "booleans", &column, &forms, same_truths);
 }
 
 fn same_truths(ours: &Column, rust: &TruthRuns) -> bool {
@@ -105,8 +103,11 @@ fn texts(bench: &mut Bench, load: &Load) {
     let views = decode(&texts.views);
     let bytes = texts.bytes.clone();
     let rows = Texts { views, bytes };
-    let kernels: [Kernel<Texts<Runs<View>>>; 1] = [("", &|| encode_texts(&rows))];
-    both(bench, load, "texts", &column, &kernels, same_texts);
+    let forms: [Form<Texts<Runs<View>>>; 2] = [
+        ("", &|| encode_texts(&rows)),
+        ("bits", &|| encode_texts_by_bits(&rows)),
+    ];
+    both(bench, load, "texts", &column, &forms, same_texts);
 }
 
 fn same_texts(ours: &Column, rust: &Texts<Runs<View>>) -> bool {

@@ -6,9 +6,9 @@ use super::session;
 use crate::bits::Bits;
 use crate::clock::now;
 use crate::data::{Flat, Runs};
-use crate::kernels::{self, black_box, Kept, Slice};
+use crate::kernels::{self, black_box, Kept, SharedRuns, Slice};
 use crate::library::{passed, Column};
-use crate::line::{Bench, Line, Shape};
+use crate::line::{Bench, Line, Shape, Timed};
 use crate::load::Load;
 use crate::memory::Taken;
 use std::hash::{DefaultHasher, Hash, Hasher};
@@ -53,21 +53,25 @@ fn line(bench: &mut Bench, name: &str, call: &str, rows: usize) {
     }
     let answer = told[0][0].1.clone();
     if told.iter().flatten().any(|(_, other)| *other != answer) {
-        bench.differ.push(shape.clone());
+        bench.differ.push((shape.clone(), ""));
     }
     let middle = |mut told: Vec<Told>| {
         told.sort_by(|left, right| left.0.total_cmp(&right.0));
         told[told.len() / 2].0
     };
     let [ours, rust] = told.map(middle);
+    let (ours_taken, taken, plain) = (Taken::default(), Taken::default(), "");
     bench.add(Line {
         shape,
         unit: "call",
         calls: 1,
         ours,
-        rust,
-        ours_taken: Taken::default(),
-        rust_taken: Taken::default(),
+        ours_taken,
+        forms: vec![Timed {
+            name: plain,
+            rust,
+            taken,
+        }],
     });
 }
 
@@ -132,17 +136,32 @@ fn rust(call: &str, runs: &Runs<u64>) -> Option<(u64, String)> {
             || kernels::look_up(runs, rows / 2).map(i128::from),
             |row| format!("{row:?}"),
         ),
-        "sum" => timed(|| Some(kernels::sum(runs)), |sum| format!("{sum:?}")),
-        "slice" => timed(
-            || kernels::slice(runs, rows / 4..rows),
-            |slice| told(&rows_of(slice, rows - rows / 4)),
+        "sum" => timed(
+            || Some(kernels::sum_by_blocks(runs)),
+            |sum| format!("{sum:?}"),
         ),
-        "clone" => timed(|| runs.clone(), decoded),
+        "slice" => {
+            let shared = SharedRuns::of(runs.clone());
+            timed(
+                || shared.slice(rows / 4..rows),
+                |slice| told(&rows_of(slice.copied(), rows - rows / 4)),
+            )
+        }
+        "clone" => {
+            let shared = SharedRuns::of(runs.clone());
+            timed(|| shared.clone(), |shared| decoded(shared.copied().0))
+        }
         "fill" => timed(|| kernels::fill(runs, 9), decoded),
         "decode" => timed(|| kernels::decode(runs), flat),
         "take" => {
             let indices = indices(rows, 4, true);
-            timed(|| kernels::take(ends, values, &indices), flat)
+            let many = rows > 1_000;
+            let take = if many {
+                kernels::take_by_ranks
+            } else {
+                kernels::take
+            };
+            timed(|| take(ends, values, &indices), flat)
         }
         "filter" => {
             let mask = mask(rows, 2);

@@ -48,7 +48,7 @@ fn row(text: &mut String, call: &str, lines: &[&Line]) {
         .collect();
     let unit = lines[0].unit;
     let ours = slope(unit, lines.iter().map(|line| line.ours));
-    let rust = slope(unit, lines.iter().map(|line| line.rust));
+    let rust = slope(unit, lines.iter().map(|line| line.fastest().rust));
     let _ = writeln!(
         text,
         "| {call}, ns a {unit} | {} | {ours:.2} | {rust:.2} |",
@@ -103,7 +103,7 @@ fn codec(bench: &mut Bench, load: &Load, runs: &Runs<u64>, column: &Column) {
         shape(load, "encode"),
         units,
         encoded,
-        || kernels::encode(&flat),
+        || kernels::encode_by_bits(&flat),
         same_runs,
     );
     drop(ours);
@@ -123,7 +123,7 @@ fn values(bench: &mut Bench, load: &Load, runs: &Runs<u64>, column: &Column) {
         shape(load, "sum"),
         units,
         summed,
-        || kernels::sum(runs),
+        || kernels::sum_by_blocks(runs),
         |ours, rust| *ours == Some(*rust),
     );
     let filled = || column.fill(&session, passed(9, false));
@@ -140,7 +140,7 @@ fn values(bench: &mut Bench, load: &Load, runs: &Runs<u64>, column: &Column) {
         rust.as_ref().is_some_and(|runs| same_runs(ours, runs))
     });
     let less = || column.less_than(&session, passed(1 << 39, false));
-    let rust = || kernels::less_by_runs(runs, 1 << 39);
+    let rust = || kernels::less_by_ones(runs, 1 << 39);
     bench.line(shape(load, "compare"), units, less, rust, |ours, rust| {
         ours.read_truths().flat().same_rows(&rust.flat())
     });
@@ -162,7 +162,7 @@ fn selects(bench: &mut Bench, load: &Load, runs: &Runs<u64>, column: &Column) {
     let indices = indices(rows, 4, true);
     let places = index_column(&indices);
     let taken = || column.take(&session, &places);
-    let rust = || kernels::take(&runs.ends, &runs.values, &indices);
+    let rust = || kernels::take_by_ranks(&runs.ends, &runs.values, &indices);
     bench.line(
         shape(load, "take, a quarter in order"),
         units,
@@ -198,11 +198,11 @@ fn looks(bench: &mut Bench, load: &Load, runs: &Runs<u64>, column: &Column) {
     let rust = again(TIMES, || shared.slice(range.clone()));
     let same =
         |ours: &Column, rust: &SharedSlice<u64>| same_slice(ours, &rust.copied(), range.clone());
-    let name = "slice of half, beside shared buffers";
+    let name = "slice of half";
     bench.line(shape(load, name), (TIMES, "call"), sliced, rust, same);
     let cloned = again(TIMES, || column.try_clone());
     let rust = again(TIMES, || shared.clone());
     let same = |ours: &Column, rust: &SharedRuns<u64>| same_runs(ours, &rust.copied().0);
-    let name = "clone, beside shared buffers";
+    let name = "clone";
     bench.line(shape(load, name), (TIMES, "call"), cloned, rust, same);
 }

@@ -1,24 +1,31 @@
 //! Runs of decimals, booleans, texts, and runs whose values are runs.
-use super::selects::{index_column, indices, mask, mask_column, FILTERS, TAKES};
+use super::selects::{index_column, indices, mask, mask_column, FEW, FILTERS, TAKES};
 use super::{session, shape};
 use crate::bits::Bits;
 use crate::data::{Flat, Runs, Texts, TruthRuns, Truths, View};
 use crate::kernels::{
-    decode, decode_truths, decode_truths_by_ones, decode_truths_by_turns, filter, filter_truths,
-    take, take_truths, Kept,
+    decode, decode_truths, decode_truths_by_ones, decode_truths_by_turns, filter, filter_joined,
+    filter_truths, one_level, take, take_by_fours, take_by_ranks, take_in_one_pass, take_truths,
+    take_truths_by_fours, take_truths_by_ranks, Kept,
 };
 use crate::library::{Column, Item};
-use crate::line::Bench;
+use crate::line::{Bench, Form};
 use crate::load::Load;
 use std::sync::Arc;
 
-/// What calls are made on one kind of rows: of indices, and of a mask.
+type Takes<'a, F> = [(&'static str, &'a dyn Fn(&[u64]) -> F)];
+type Filters<'a, F> = [(&'static str, &'a dyn Fn(&Bits) -> F)];
+
+/// Has the forms of the Rust side of one kind of rows: decode, takes of indices (few at random; any; in order), and
+/// filters by a mask.
 struct Rust<'a, F> {
     kind: &'static str,
     column: &'a Column,
-    decode: &'a dyn Fn() -> F,
-    take: &'a dyn Fn(&[u64]) -> F,
-    filter: &'a dyn Fn(&Bits) -> F,
+    decode: &'a [Form<'a, F>],
+    few: &'a Takes<'a, F>,
+    take: &'a Takes<'a, F>,
+    ordered: &'a Takes<'a, F>,
+    filter: &'a Filters<'a, F>,
     same: &'a dyn Fn(&Column, &F) -> bool,
 }
 
@@ -37,37 +44,41 @@ pub fn lines(bench: &mut Bench, load: &Load) {
 
 fn each<F>(bench: &mut Bench, load: &Load, rust: Rust<F>) {
     let (session, column, rows) = (session(), rust.column, load.rows());
+    let shape = |call: &str| shape(load, call, rust.kind);
     let ours = || column.decode(&session);
-    bench.line(
-        shape(load, "decode", rust.kind),
-        (rows, "row"),
-        ours,
-        rust.decode,
-        rust.same,
-    );
+    bench.question(shape("decode"), (rows, "row"), ours, rust.decode, rust.same);
     for (name, every, ordered) in TAKES {
         let indices = indices(rows, every, ordered);
         let (places, units) = (index_column(&indices), (indices.len(), "index"));
+        let further = match (every, ordered) {
+            (_, true) => rust.ordered,
+            (FEW, false) => rust.few,
+            _ => &[],
+        };
+        let takes = rust.take.iter().chain(further);
+        let calls: Vec<_> = takes
+            .map(|(name, take)| (*name, || take(&indices)))
+            .collect();
+        let forms: Vec<Form<F>> = calls
+            .iter()
+            .map(|(name, call)| (*name, call as _))
+            .collect();
         let ours = || column.take(&session, &places);
-        bench.line(
-            shape(load, name, rust.kind),
-            units,
-            ours,
-            || (rust.take)(&indices),
-            rust.same,
-        );
+        bench.question(shape(name), units, ours, &forms, rust.same);
     }
     for (name, every) in FILTERS {
         let bits = mask(rows, every);
         let mask = mask_column(&bits);
+        let calls = rust.filter.iter();
+        let calls: Vec<_> = calls
+            .map(|(name, filter)| (*name, || filter(&bits)))
+            .collect();
+        let forms: Vec<Form<F>> = calls
+            .iter()
+            .map(|(name, call)| (*name, call as _))
+            .collect();
         let ours = || column.filter(&session, &mask);
-        bench.line(
-            shape(load, name, rust.kind),
-            (rows, "row"),
-            ours,
-            || (rust.filter)(&bits),
-            rust.same,
-        );
+        bench.question(shape(name), (rows, "row"), ours, &forms, rust.same);
     }
 }
 
@@ -87,18 +98,44 @@ impl<T: Item> Answer<Runs<T>, Flat<T>> {
     }
 }
 
-fn decimals(bench: &mut Bench, load: &Load) {
-    let runs = load.runs(|number| i128::from(number) << 30);
+type FlatAnswer<T> = Answer<Runs<T>, Flat<T>>;
+
+/// Items of any type in runs: what they keep is left as it falls.
+fn items<T: Copy + Default>(
+    bench: &mut Bench,
+    load: &Load,
+    (kind, column): (&'static str, &Column),
+    runs: &Runs<T>,
+    same: &dyn Fn(&Column, &FlatAnswer<T>) -> bool,
+) {
     let (ends, values) = (&runs.ends, &runs.values);
     let rust = Rust {
-        kind: "decimals",
-        column: &Column::of_runs(&runs),
-        decode: &|| Answer::Rows(decode(&runs)),
-        take: &|indices| Answer::Rows(take(ends, values, indices)),
-        filter: &|mask| Answer::Kept(filter(ends, values, mask)),
-        same: &|ours, rust: &Answer<Runs<i128>, Flat<i128>>| rust.same(ours),
+        kind,
+        column,
+        decode: &[("", &|| Answer::Rows(decode(runs)))],
+        few: &[("fours", &|places| {
+            Answer::Rows(take_by_fours(ends, values, places))
+        })],
+        take: &[
+            ("", &|places| Answer::Rows(take(ends, values, places))),
+            ("ranks", &|places| {
+                Answer::Rows(take_by_ranks(ends, values, places))
+            }),
+        ],
+        ordered: &[("one pass", &|places| {
+            Answer::Rows(take_in_one_pass(ends, values, places))
+        })],
+        filter: &[("", &|mask| Answer::Kept(filter(ends, values, mask)))],
+        same,
     };
     each(bench, load, rust);
+}
+
+fn decimals(bench: &mut Bench, load: &Load) {
+    let runs = load.runs(|number| i128::from(number) << 30);
+    let column = Column::of_runs(&runs);
+    let same = |ours: &Column, rust: &FlatAnswer<i128>| rust.same(ours);
+    items(bench, load, ("decimals", &column), &runs, &same);
 }
 
 fn truths(bench: &mut Bench, load: &Load) {
@@ -124,29 +161,26 @@ fn truths(bench: &mut Bench, load: &Load) {
     let rust = Rust {
         kind: "booleans",
         column: &column,
-        decode: &|| Answer::Rows(decode_truths(&runs)),
-        take: &|indices| Answer::Rows(take_truths(&runs, indices)),
-        filter: &|mask| Answer::Kept(filter_truths(&runs, mask)),
+        decode: &[
+            ("", &|| Answer::Rows(decode_truths(&runs))),
+            ("turns", &|| Answer::Rows(decode_truths_by_turns(&runs))),
+            ("ones", &|| Answer::Rows(decode_truths_by_ones(&runs))),
+        ],
+        few: &[("fours", &|places| {
+            Answer::Rows(take_truths_by_fours(&runs, places))
+        })],
+        take: &[
+            ("", &|places| Answer::Rows(take_truths(&runs, places))),
+            ("ranks", &|places| {
+                Answer::Rows(take_truths_by_ranks(&runs, places))
+            }),
+        ],
+        ordered: &[],
+        filter: &[("", &|mask| Answer::Kept(filter_truths(&runs, mask)))],
         same: &same,
     };
     each(bench, load, rust);
-    let (session, rows) = (session(), (load.rows(), "row"));
-    let ours = || column.decode(&session);
-    for (name, decode) in TRUTHS {
-        let (shape, rust) = (shape(load, name, "booleans"), || {
-            Answer::Rows(decode(&runs))
-        });
-        bench.line(shape, rows, ours, rust, same);
-    }
 }
-
-type DecodeTruths = fn(&TruthRuns) -> Truths;
-
-/// Faster forms, each a line of its own.
-const TRUTHS: [(&str, DecodeTruths); 2] = [
-    ("decode, beside turns,", decode_truths_by_turns),
-    ("decode, beside ones,", decode_truths_by_ones),
-];
 
 /// Texts of 12 to 20 bytes, one for each run.
 pub fn written(load: &Load) -> (Vec<i64>, Texts<Runs<View>>) {
@@ -192,8 +226,8 @@ pub fn written(load: &Load) -> (Vec<i64>, Texts<Runs<View>>) {
 fn texts(bench: &mut Bench, load: &Load) {
     let (offsets, texts) = written(load);
     let runs = &texts.views;
-    let (ends, values) = (&runs.ends, &runs.values);
-    let column = Column::runs(ends, &Column::texts(&offsets, &texts.bytes, &load.flags));
+    let column = Column::texts(&offsets, &texts.bytes, &load.flags);
+    let column = Column::runs(&runs.ends, &column);
     let same = |ours: &Column, rust: &Answer<Runs<View>, Flat<View>>| {
         let views = match rust {
             Answer::Rows(views) | Answer::Kept(Kept::Flat(views)) => views.clone(),
@@ -212,18 +246,11 @@ fn texts(bench: &mut Bench, load: &Load) {
             .flat(),
         )
     };
-    let rust = Rust {
-        kind: "texts",
-        column: &column,
-        decode: &|| Answer::Rows(decode(runs)),
-        take: &|indices| Answer::Rows(take(ends, values, indices)),
-        filter: &|mask| Answer::Kept(filter(ends, values, mask)),
-        same: &same,
-    };
-    each(bench, load, rust);
+    items(bench, load, ("texts", &column), runs, &same);
 }
 
-/// Runs of which three in a row, about, show one value, which is stored once. Rust writes the values out first.
+/// Runs of which three in a row, about, show one value, which is stored once. Rust writes the values out first, or makes
+/// one level of runs of the two.
 fn nested(bench: &mut Bench, load: &Load) {
     let inner = Load::new(load.ends.len(), 3, load.flags.is_some());
     let values = inner.runs(|number| number);
@@ -232,19 +259,37 @@ fn nested(bench: &mut Bench, load: &Load) {
         ends: load.ends.clone(),
         values: decode(&values),
     };
+    let one = || one_level(&load.ends, &values);
+    let taken = |places: &[u64], runs: Runs<u64>, take: Take<u64>| {
+        Answer::Rows(take(&runs.ends, &runs.values, places))
+    };
+    let kept =
+        |mask: &Bits, runs: Runs<u64>| Answer::Kept(filter_joined(&runs.ends, &runs.values, mask));
     let rust = Rust {
         kind: "nested runs",
         column: &column,
-        decode: &|| Answer::Rows(decode(&outer())),
-        take: &|indices| Answer::Rows(take(&load.ends, &decode(&values), indices)),
-        filter: &|mask| {
-            Answer::Kept(crate::kernels::filter_joined(
-                &load.ends,
-                &decode(&values),
-                mask,
-            ))
-        },
-        same: &|ours, rust: &Answer<Runs<u64>, Flat<u64>>| rust.same(ours),
+        decode: &[
+            ("", &|| Answer::Rows(decode(&outer()))),
+            ("one level", &|| Answer::Rows(decode(&one()))),
+        ],
+        few: &[("one level, fours", &|places| {
+            taken(places, one(), take_by_fours)
+        })],
+        take: &[
+            ("", &|places| taken(places, outer(), take)),
+            ("one level", &|places| taken(places, one(), take)),
+            ("one level, ranks", &|places| {
+                taken(places, one(), take_by_ranks)
+            }),
+        ],
+        ordered: &[],
+        filter: &[
+            ("", &|mask| kept(mask, outer())),
+            ("one level", &|mask| kept(mask, one())),
+        ],
+        same: &|ours, rust: &FlatAnswer<u64>| rust.same(ours),
     };
     each(bench, load, rust);
 }
+
+type Take<T> = fn(&[u32], &Flat<T>, &[u64]) -> Flat<T>;

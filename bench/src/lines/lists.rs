@@ -6,7 +6,7 @@ use crate::bits::Bits;
 use crate::data::{Flat, Runs};
 use crate::kernels::{self, Kept};
 use crate::library::{passed, Column, Item};
-use crate::line::{Bench, Shape};
+use crate::line::{Bench, Form, Shape};
 use crate::load::Load;
 use hivevigil::{Kind, Session};
 
@@ -49,7 +49,13 @@ fn line(bench: &mut Bench, flat: &Flat<u64>, given: &Given) {
     let places = index_column(&given.indices);
     let times = (1_000_000 / flat.items.len()).clamp(1, 1_000);
     let ours = || by_calls(&session, &column, &masks, &places);
-    let rust = || by_kernels(flat, given);
+    let plain = again(times, || {
+        by_kernels(flat, given, kernels::encode, kernels::take)
+    });
+    let faster = again(times, || {
+        by_kernels(flat, given, kernels::encode_by_bits, kernels::take_by_ranks)
+    });
+    let forms: [Form<(Flat<u64>, i128)>; 2] = [("", &plain), ("bits, ranks", &faster)];
     let shape = Shape {
         call: NAME.to_string(),
         kind: "u64",
@@ -60,7 +66,7 @@ fn line(bench: &mut Bench, flat: &Flat<u64>, given: &Given) {
         ours.0.read_flat::<u64>().same_rows(&rust.0) && ours.1 == rust.1
     };
     let units = (times, "call");
-    bench.line(shape, units, again(times, ours), again(times, rust), same);
+    bench.question(shape, units, again(times, ours), &forms, same);
 }
 
 /// encode, cast, filter, fill, filter, cast, decode, encode, take, sum.
@@ -83,8 +89,13 @@ fn by_calls(
     (column, sum)
 }
 
-fn by_kernels(flat: &Flat<u64>, given: &Given) -> (Flat<u64>, i128) {
-    let runs = kernels::encode(flat);
+fn by_kernels(
+    flat: &Flat<u64>,
+    given: &Given,
+    encode: fn(&Flat<u64>) -> Runs<u64>,
+    take: fn(&[u32], &Flat<u64>, &[u64]) -> Flat<u64>,
+) -> (Flat<u64>, i128) {
+    let runs = encode(flat);
     let runs = kernels::cast(&runs, fits, |item| item as i64).expect("each value fits");
     let runs = runs_of(kernels::filter_joined(
         &runs.ends,
@@ -99,8 +110,8 @@ fn by_kernels(flat: &Flat<u64>, given: &Given) -> (Flat<u64>, i128) {
     ));
     let runs = kernels::cast(&runs, |item| item >= 0, |item| item as u64).expect("each value fits");
     let flat = kernels::decode(&runs);
-    let runs = kernels::encode(&flat);
-    let taken = kernels::take(&runs.ends, &runs.values, &given.indices);
+    let runs = encode(&flat);
+    let taken = take(&runs.ends, &runs.values, &given.indices);
     let sum = taken.items.iter().map(|item| i128::from(*item)).sum();
     (taken, sum)
 }

@@ -2,11 +2,11 @@
 use super::{again, session};
 use crate::data::Runs;
 use crate::kernels::{
-    look_up, look_up_by_halves, run_of, slice, window, ArrayColumn, NumberType, RunArray,
-    SharedRuns, SharedSlice, Slice,
+    look_up, look_up_by_halves, run_of, window, ArrayColumn, NumberType, RunArray, SharedRuns,
+    SharedSlice, Slice,
 };
 use crate::library::{Column, Item, Windows};
-use crate::line::{Bench, Shape};
+use crate::line::{Bench, Form, Shape};
 use crate::load::{Load, Random};
 use std::ops::Range;
 
@@ -52,26 +52,16 @@ fn rows(bench: &mut Bench, runs: usize, nulls: bool) {
             .fold(0, |total, row| add(total, column.at(*row)))
     };
     let size = format!("{} runs", load.ends.len());
-    type Search = fn(&Runs<u64>, usize) -> Option<u64>;
-    let searches: [(&str, Search); 2] = [
-        ("scalar_at, beside partition_point", look_up),
-        ("scalar_at, beside halves", look_up_by_halves),
+    let found = |search: fn(&Runs<u64>, usize) -> Option<u64>| {
+        let row = |row: &usize| search(&runs, *row).map(i128::from);
+        rows.iter().fold(0, |total, at| add(total, row(at)))
+    };
+    let forms: [Form<i128>; 2] = [
+        ("partition_point", &|| found(look_up)),
+        ("halves", &|| found(look_up_by_halves)),
     ];
-    for (call, search) in searches {
-        let rust = || {
-            rows.iter().fold(0, |total, row| {
-                add(total, search(&runs, *row).map(i128::from))
-            })
-        };
-        let units = (rows.len(), "row");
-        bench.line(
-            shape(call, nulls, size.clone()),
-            units,
-            ours,
-            rust,
-            |ours, rust| ours == rust,
-        );
-    }
+    let shape = shape("scalar_at", nulls, size);
+    bench.question(shape, (rows.len(), "row"), ours, &forms, i128::eq);
 }
 
 /// A thousand rows at a time, read out of runs into memory of the caller's; and which run has a row.
@@ -113,78 +103,52 @@ fn windows(bench: &mut Bench) {
 
 const TIMES: usize = 1000;
 
+/// Shares its buffers, as a column of Rust's: one struct of pointers, or arrays on the heap.
+enum Shared {
+    Buffers(SharedSlice<u64>),
+    Arrays(Option<Box<ArrayColumn<u64>>>),
+}
+
+impl Shared {
+    fn same(&self, column: &Column, range: Range<usize>, nulls: bool) -> bool {
+        match self {
+            Shared::Buffers(slice) => same_slice(column, &slice.copied(), range),
+            Shared::Arrays(Some(array)) => same_array(column, array, range, nulls),
+            Shared::Arrays(None) => false,
+        }
+    }
+}
+
 fn ranges(bench: &mut Bench, nulls: bool) {
     let load = Load::new(bench.rows * 4, 16, nulls);
     let (session, runs) = (session(), load.runs(|number| number));
     let (column, shared) = (Column::of_runs(&runs), SharedRuns::of(runs.clone()));
-    let arrays = RunArray::of(runs.clone());
+    let arrays = RunArray::of(runs);
     let (rows, one) = (load.rows(), load.ends[load.ends.len() / 2] as usize);
     let ranges = [
-        ("half", rows / 4..rows / 4 * 3, 1),
-        ("100 rows", one..one + 100, TIMES),
-        ("1 run", one..one + 1, TIMES),
+        ("half", rows / 4..rows / 4 * 3),
+        ("100 rows", one..one + 100),
+        ("1 run", one..one + 1),
     ];
-    for (size, range, times) in ranges {
-        let cut = || column.slice(&session, range.start, range.end);
-        let same = |ours: &Column, rust: &Slice<u64>| same_slice(ours, rust, range.clone());
-        let (ours, rust) = (
-            again(times, cut),
-            again(times, || slice(&runs, range.clone())),
-        );
-        let shape = |call: &str| shape(call, nulls, size.to_string());
-        bench.line(shape("slice"), (times, "call"), ours, rust, same);
-        let same = |ours: &Column, rust: &SharedSlice<u64>| {
-            same_slice(ours, &rust.copied(), range.clone())
-        };
-        let (ours, rust) = (
-            again(TIMES, cut),
-            again(TIMES, || shared.slice(range.clone())),
-        );
-        let name = "slice, beside shared buffers";
-        bench.line(shape(name), (TIMES, "call"), ours, rust, same);
-        let same = |ours: &Column, rust: &Option<Box<ArrayColumn<u64>>>| {
-            rust.as_ref()
-                .is_some_and(|part| same_array(ours, part, range.clone(), nulls))
-        };
-        let (ours, rust) = (
-            again(TIMES, cut),
-            again(TIMES, || arrays.slice(range.clone())),
-        );
-        let name = "slice, beside arrays";
-        bench.line(shape(name), (TIMES, "call"), ours, rust, same);
+    for (size, range) in ranges {
+        let ours = again(TIMES, || column.slice(&session, range.start, range.end));
+        let same = |ours: &Column, rust: &Shared| rust.same(ours, range.clone(), nulls);
+        let buffers = again(TIMES, || Shared::Buffers(shared.slice(range.clone())));
+        let boxes = again(TIMES, || Shared::Arrays(arrays.slice(range.clone())));
+        let forms: [Form<Shared>; 2] = [("shared buffers", &buffers), ("arrays", &boxes)];
+        let shape = shape("slice", nulls, size.to_string());
+        bench.question(shape, (TIMES, "call"), ours, &forms, same);
     }
-    copies(bench, &column, &runs, (&shared, &arrays));
-}
-
-fn copies(
-    bench: &mut Bench,
-    column: &Column,
-    runs: &Runs<u64>,
-    (shared, arrays): (&SharedRuns<u64>, &RunArray<u64>),
-) {
-    let (size, nulls) = (
-        format!("{} runs", runs.ends.len()),
-        runs.values.flags.is_some(),
-    );
-    let (units, ours) = ((runs.ends.len(), "run"), || column.try_clone());
-    let shape = |call: &str| shape(call, nulls, size.clone());
-    let rust = || runs.clone();
-    bench.line(shape("clone"), units, ours, rust, super::same_runs);
-    let same = |ours: &Column, rust: &SharedRuns<u64>| super::same_runs(ours, &rust.copied().0);
-    let (ours, rust) = (again(TIMES, ours), again(TIMES, || shared.clone()));
-    let name = "clone, beside shared buffers";
-    bench.line(shape(name), (TIMES, "call"), ours, rust, same);
-    let same =
-        |ours: &Column, rust: &Box<ArrayColumn<u64>>| same_array(ours, rust, 0..runs.rows(), nulls);
     let ours = again(TIMES, || column.try_clone());
-    let rust = again(TIMES, || arrays.owner());
-    bench.line(
-        shape("clone, beside arrays"),
-        (TIMES, "call"),
-        ours,
-        rust,
-        same,
+    let same = |ours: &Column, rust: &Shared| rust.same(ours, 0..rows, nulls);
+    let owner = || Shared::Buffers(SharedSlice::Runs(shared.clone()));
+    let (buffers, boxes) = (
+        again(TIMES, owner),
+        again(TIMES, || Shared::Arrays(Some(arrays.owner()))),
     );
+    let forms: [Form<Shared>; 2] = [("shared buffers", &buffers), ("arrays", &boxes)];
+    let shape = shape("clone", nulls, format!("{} runs", load.ends.len()));
+    bench.question(shape, (TIMES, "call"), ours, &forms, same);
 }
 
 /// Do both have the rows of this range, and has the array their type?

@@ -2,11 +2,11 @@
 use super::{same_runs, session, shape, Number};
 use crate::data::{Flat, Runs, Truths};
 use crate::kernels::{
-    cast, cast_shared, fill, fill_shared, less_by_ones, less_by_runs, less_by_turns, take_from,
-    take_from_shared, SharedRuns,
+    cast_shared, fill_shared, less_by_ones, less_by_runs, less_by_turns, take_from_shared,
+    SharedRuns,
 };
 use crate::library::{passed, Column, Item};
-use crate::line::Bench;
+use crate::line::{Bench, Form};
 use crate::load::Load;
 
 pub fn lines<T: Number>(bench: &mut Bench, load: &Load) {
@@ -37,23 +37,17 @@ fn casts<T: Number>(bench: &mut Bench, load: &Load, column: &Column, runs: &Runs
         T::OTHER
     };
     let ours = || column.cast(&session, kind);
-    let rust = || cast(runs, T::fits, T::other).expect("each value fits");
-    bench.line(shape(load, "cast", T::NAME), units, ours, rust, same_runs);
     let shared = SharedRuns::of(runs.clone());
     let rust = || cast_shared(&shared, T::fits, T::other).expect("each value fits");
-    let name = "cast, beside shared ends";
-    bench.line(shape(load, name, T::NAME), units, ours, rust, same_shared);
+    bench.line(shape(load, "cast", T::NAME), units, ours, rust, same_shared);
 }
 
 fn fills<T: Number>(bench: &mut Bench, load: &Load, column: &Column, runs: &Runs<T>) {
     let (session, units, nine) = (session(), (load.ends.len(), "run"), passed(9, T::SIGNED));
     let ours = || column.fill(&session, nine);
-    let rust = || fill(runs, T::of(9));
-    bench.line(shape(load, "fill", T::NAME), units, ours, rust, same_runs);
     let shared = SharedRuns::of(runs.clone());
     let rust = || fill_shared(&shared, T::of(9));
-    let name = "fill, beside shared ends";
-    bench.line(shape(load, name, T::NAME), units, ours, rust, same_shared);
+    bench.line(shape(load, "fill", T::NAME), units, ours, rust, same_shared);
 }
 
 fn compare_with<T: Number>() -> T {
@@ -65,16 +59,12 @@ fn compare<T: Number>(bench: &mut Bench, load: &Load, column: &Column) {
     let right = compare_with::<T>();
     let ours = || column.less_than(&session, passed(right.wide(), T::SIGNED));
     let answers = |ours: &Column, rust: &Truths| ours.read_truths().flat().same_rows(&rust.flat());
-    type Less<T> = fn(&Runs<T>, T) -> Truths;
-    let forms: [(&str, Less<T>); 3] = [
-        ("compare", less_by_runs),
-        ("compare, beside turns", less_by_turns),
-        ("compare, beside ones", less_by_ones),
+    let forms: [Form<Truths>; 3] = [
+        ("", &|| less_by_runs(&runs, right)),
+        ("turns", &|| less_by_turns(&runs, right)),
+        ("ones", &|| less_by_ones(&runs, right)),
     ];
-    for (name, less) in forms {
-        let rust = || less(&runs, right);
-        bench.line(shape(load, name, T::NAME), rows, ours, rust, answers);
-    }
+    bench.question(shape(load, "compare", T::NAME), rows, ours, &forms, answers);
 }
 
 /// Codes below 100, each for a row of a dictionary of 100 rows.
@@ -90,16 +80,13 @@ fn codes<T: Number>(bench: &mut Bench, load: &Load) {
         || column.take_from(&session, &rows),
         |code: T| code.wide() as usize,
     );
-    let rust = || take_from(&codes, &dictionary.items, place).expect("each has a row");
+    let shared = SharedRuns::of(codes.clone());
+    let rust = || take_from_shared(&shared, &dictionary.items, place).expect("each has a row");
     bench.line(
         shape(load, "take_from", T::NAME),
         units,
         ours,
         rust,
-        same_runs,
+        same_shared,
     );
-    let shared = SharedRuns::of(codes.clone());
-    let rust = || take_from_shared(&shared, &dictionary.items, place).expect("each has a row");
-    let name = "take_from, beside shared ends";
-    bench.line(shape(load, name, T::NAME), units, ours, rust, same_shared);
 }

@@ -2,14 +2,13 @@
 use super::{same_runs, session, shape, Number};
 use crate::bits::Bits;
 use crate::data::{Flat, Runs, Truths};
-use crate::kernels::{filter_by_fours, filter_joined, take, Kept};
-use crate::kernels::{take_by_blocks, take_by_fours, take_by_ranks};
+use crate::kernels::{filter_joined, take, take_by_fours, take_by_ranks, take_in_one_pass, Kept};
 use crate::library::{Column, Item};
-use crate::line::Bench;
+use crate::line::{Bench, Form};
 use crate::load::{Load, Random};
 
 /// Rows for each index of a take of few.
-const FEW: usize = 40;
+pub const FEW: usize = 40;
 /// The names of takes, how many rows there are for each index, and whether indices are in order.
 pub const TAKES: [(&str, usize, bool); 4] = [
     ("take, a quarter at random", 4, false),
@@ -17,13 +16,11 @@ pub const TAKES: [(&str, usize, bool); 4] = [
     ("take, a fortieth at random", FEW, false),
     ("take, a fortieth in order", FEW, true),
 ];
-/// Rows of which a filter keeps one where it keeps few.
-const RARE: u64 = 1000;
 /// The names of filters, and of how many rows one is kept.
 pub const FILTERS: [(&str, u64); 3] = [
     ("filter, half", 2),
     ("filter, a tenth", 10),
-    ("filter, a thousandth", RARE),
+    ("filter, a thousandth", 1000),
 ];
 
 pub fn indices(rows: usize, every: usize, ordered: bool) -> Vec<u64> {
@@ -63,7 +60,14 @@ pub fn lines<T: Number>(bench: &mut Bench, load: &Load) {
     filters(bench, load, &column, &runs);
 }
 
-type Take<T> = fn(&[u32], &Flat<T>, &[u64]) -> Flat<T>;
+/// Picks the forms of a take of few or many indices, in order or not.
+fn faster<F>(forms: &[F; 4], every: usize, ordered: bool) -> &[F] {
+    match (every, ordered) {
+        (_, true) => &forms[1..],
+        (FEW, false) => &forms[..3],
+        _ => &forms[1..3],
+    }
+}
 
 fn takes<T: Number>(bench: &mut Bench, load: &Load, column: &Column, runs: &Runs<T>) {
     for (name, every, ordered) in TAKES {
@@ -74,19 +78,15 @@ fn takes<T: Number>(bench: &mut Bench, load: &Load, column: &Column, runs: &Runs
         let (places, units) = (index_column(&indices), (indices.len(), "index"));
         let ours = || column.take(&session, &places);
         let same = |ours: &Column, rust: &Flat<T>| ours.read_flat::<T>().same_rows(rust);
-        let rust = || take(&runs.ends, &runs.values, &indices);
-        bench.line(shape(load, name, T::NAME), units, ours, rust, same);
-        let faster: &[(&str, Take<T>)] = match (every, ordered) {
-            (FEW, false) => &[("fours", take_by_fours)],
-            (_, false) => &[("blocks", take_by_blocks), ("ranks", take_by_ranks)],
-            _ => &[],
-        };
-        for (idea, take) in faster {
-            let (name, rust) = (format!("{name}, beside {idea}"), || {
-                take(&runs.ends, &runs.values, &indices)
-            });
-            bench.line(shape(load, &name, T::NAME), units, ours, rust, same);
-        }
+        let (ends, values) = (&runs.ends, &runs.values);
+        let forms: [Form<Flat<T>>; 4] = [
+            ("fours", &|| take_by_fours(ends, values, &indices)),
+            ("", &|| take(ends, values, &indices)),
+            ("ranks", &|| take_by_ranks(ends, values, &indices)),
+            ("one pass", &|| take_in_one_pass(ends, values, &indices)),
+        ];
+        let forms = faster(&forms, every, ordered);
+        bench.question(shape(load, name, T::NAME), units, ours, forms, same);
     }
 }
 
@@ -100,11 +100,6 @@ fn filters<T: Number>(bench: &mut Bench, load: &Load, column: &Column, runs: &Ru
         let ours = || column.filter(&session, &places);
         let rust = || filter_joined(&runs.ends, &runs.values, &mask);
         bench.line(shape(load, name, T::NAME), units, ours, rust, same_kept);
-        if every == RARE {
-            let name = format!("{name}, beside fours");
-            let rust = || filter_by_fours(&runs.ends, &runs.values, &mask);
-            bench.line(shape(load, &name, T::NAME), units, ours, rust, same_kept);
-        }
     }
 }
 
