@@ -87,11 +87,12 @@ else
     skip "names of the header" "nm and readelf"
 fi
 
-for test in first errors layout answers refusals levels forms constants lists groups pairs sorts sums totals floats float_casts float_pairs decimals decimal_casts builders messages typed_messages arrow_arrays long_rows; do
+for test in first errors layout answers refusals kept_outputs levels forms constants lists groups pairs sorts sums totals floats float_casts float_pairs decimals decimal_casts builders messages typed_messages arrow_arrays long_rows; do
     run "c/$test.c" built "$cc" "$c_flags $level" "examples/c/$test.c"
 done
 wraps="-Wl,--wrap=malloc,--wrap=calloc,--wrap=realloc,--wrap=free"
 run "c/refused_memory.c" built "$cc" "$c_flags $level $wraps" examples/c/refused_memory.c
+run "c/formats.c" built "$cc" "$c_flags $level $wraps" examples/c/formats.c
 run "c/helpers.c" built "$cc" "$c_flags $level" examples/c/helpers.c
 if [ "$quick" ]; then
     has "$cxx" && run "cpp/demo.cpp" built "$cxx" "$cxx_flags -O0" examples/cpp/demo.cpp
@@ -105,7 +106,7 @@ run "c/many_runs.c" built "$cc" "$c_flags -O2 ${wraps%,*}" examples/c/many_runs.
 echo 'int main(void) { return 0; }' >"$work/empty.c"
 if $cc $watched "$work/empty.c" -o "$work/empty" 2>/dev/null && "$work/empty"; then
     run "vectors, the stored lines under sanitizers" sh examples/vectors/run.sh --sanitize
-    for test in errors answers refusals levels forms constants lists groups pairs sorts sums totals floats float_casts float_pairs decimals decimal_casts builders messages typed_messages arrow_arrays long_rows; do
+    for test in errors answers refusals kept_outputs levels forms constants lists groups pairs sorts sums totals floats float_casts float_pairs decimals decimal_casts builders messages typed_messages arrow_arrays long_rows; do
         run "c/$test.c under sanitizers" built "$cc" "$c_flags $watched" "examples/c/$test.c"
     done
     for test in demo numbers decimal_casts decimal_scales spans tables table_rows long_rows; do
@@ -193,10 +194,16 @@ tables_page() {
     [ "$(cat "$work/page.cpp.said")" = "$(printf 'north 903\nsouth 43')" ] &&
         [ "$(cat "$work/page.c.said")" = 'HV_OK: 903 43' ] && echo "docs/TABLES.md, in C++ and C"
 }
+table_cases_agree() {
+    $cxx $cxx_flags $1 "examples/cpp/$2.cpp" lib/libhivevigil.a -o "$work/table_cases" &&
+        timeout 60 "$work/table_cases" examples/corpus
+}
 if has "$cxx"; then
     run "headers alone, with every warning" headers_alone
     run "the page of tables, in C++ and C" tables_page
     for test in demo numbers decimal_casts decimal_scales spans tables table_rows long_rows; do run "cpp/$test.cpp" built "$cxx" "$cxx_flags -O2" "examples/cpp/$test.cpp"; done
+    # the cases of tables, which Rust's and Python's tests run too
+    for test in table_cases table_cases_of_c; do run "cpp/$test.cpp$arrow_how" table_cases_agree "$arrow_flags" $test; done
     run "cpp/spans.cpp in C++20" built "$cxx" "$cxx_flags -std=c++20 -O2" examples/cpp/spans.cpp
 else
     skip "cpp/demo.cpp" "$cxx"
@@ -270,12 +277,14 @@ fi
 
 if has "$python"; then
     run "errors, types, operators and forms stand once" "$python" tools/lists.py
+    run "corpus/table_answers.py" "$python" -B examples/corpus/table_answers.py
 else
     skip "that errors, types, operators and forms stand once" "$python"
 fi
 
 if has "$python" && "$python" -c 'import ctypes' 2>/dev/null; then
     run "python/demo.py" timeout 60 "$python" examples/python/demo.py
+    run "python/table_cases.py" timeout 60 "$python" examples/python/table_cases.py
     run "python/threads.py" timeout 60 "$python" examples/python/threads.py --rows 300000 --threads 4
 else
     skip "python/demo.py and threads.py" "$python"

@@ -3,6 +3,7 @@
 #ifndef HIVEVIGIL_FITS_HPP
 #define HIVEVIGIL_FITS_HPP
 #include "hivevigil_values.hpp"
+#include <cmath>
 
 namespace hv {
 
@@ -205,12 +206,10 @@ struct Comparison {
     Value right;
 };
 
-// `row by value` for rows of a type. A number that lies past the type, or between two of its numbers, is decided by a
-// number that the type has: each row is below 300 where each is at most 127, and above 0.505 where it is above 0.50.
-inline Comparison comparison(Operator by, const Value &value, hv_kind kind) {
-    const std::optional<Number> number = number_of(value);
-    if (!number || !(is_integer(kind) || kind.number == HV_DECIMAL)) return {by, value};
-    const AtScale at = at_scale(number->digits, number->scale, scale_of(kind));
+// `row by number` for rows of a type, of a number at its scale. One that lies past the type, or between two of its
+// numbers, is decided by a number that the type has: each row is below 300 where each is at most 127, and above 0.505
+// where it is above 0.50.
+inline Comparison comparison(Operator by, AtScale at, hv_kind kind) {
     const Range range = range_of(kind);
     const bool below = by == Operator::less || by == Operator::less_or_equal;
     const bool above = by == Operator::greater || by == Operator::greater_or_equal;
@@ -221,6 +220,21 @@ inline Comparison comparison(Operator by, const Value &value, hv_kind kind) {
     if (!is_past && !is_before && !at.rest) return {by, value_of(at.floor, kind)};
     const bool holds = by == Operator::not_equal || (is_past && below) || (is_before && above);
     return {holds ? Operator::less_or_equal : Operator::greater, value_of(range.greatest, kind)};
+}
+
+inline bool has_numbers(hv_kind kind) { return is_integer(kind) || kind.number == HV_DECIMAL; }
+
+inline Comparison comparison(Operator by, const Value &value, hv_kind kind) {
+    const std::optional<Number> number = number_of(value);
+    if (!number || !has_numbers(kind)) return {by, value};
+    return comparison(by, at_scale(number->digits, number->scale, scale_of(kind)), kind);
+}
+
+// The same of a double, by the exact number that it is; NaN is unequal to each row.
+inline Comparison comparison(Operator by, double number, hv_kind kind) {
+    const AtScale nowhere{0, true, 0};
+    if (!std::isnan(number)) return comparison(by, at_scale(number, scale_of(kind)), kind);
+    return comparison(by == Operator::not_equal ? by : Operator::equal, nowhere, kind);
 }
 
 } // namespace detail

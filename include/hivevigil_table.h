@@ -15,9 +15,7 @@
  * hivevigil_table_file.h. */
 #ifndef HIVEVIGIL_TABLE_H
 #define HIVEVIGIL_TABLE_H
-#include "hivevigil_arrow.h"
-#include "hivevigil_decimals.h"
-#include "hivevigil_helpers.h"
+#include "hivevigil_table_conditions.h"
 #include "hivevigil_table_errors.h"
 #ifdef __cplusplus
 extern "C" {
@@ -258,48 +256,9 @@ HV_ANSWER hv_table_filter(const hv_session *session, const hv_table *table, cons
     return hv_table_each_by(table, work, mask, out, error);
 }
 
-/* ---- Conditions ---- */
+/* ---- Conditions (hivevigil_table_conditions.h) ---- */
 
-/* What rows of a column are compared with: a value of their type, as hv_compare_value takes it, or, where `value` is
- * null, a double, by IEEE 754, which is for floats only (logical types "e", "f" and "g"), and the only one for them. */
-typedef struct hv_table_condition {
-    const char *column;
-    uint8_t operator_; /* HV_EQ to HV_LE: `row operator value` */
-    const hv_value *value;
-    const uint8_t *text;
-    size_t text_len;
-    double number;
-} hv_table_condition;
-
-static inline bool hv_table_is_float(const hv_column *column, const char *logical_type) {
-    const uint8_t number = hv_kind_of(column).number;
-    const char letter = number == HV_I16 ? 'e' : number == HV_I32 ? 'f' : number == HV_I64 ? 'g' : 0;
-    return letter && logical_type[0] == letter && !logical_type[1];
-}
-
-/* Floats of any width, next to a double. */
-static inline int32_t hv_table_compare_floats(const hv_column *floats, uint8_t operator_, double number,
-                                              hv_column *out, hv_error *error) {
-    hv_column doubles = HV_EMPTY;
-    uint64_t bits;
-    memcpy(&bits, &number, sizeof bits);
-    int32_t answer = hv_float_cast(floats, HV_I64, 0, &doubles, error);
-    if (!answer) answer = hv_float_compare(&doubles, operator_, bits, 1, out, error);
-    hv_free(&doubles);
-    return answer;
-}
-
-/* Row by row of a column whether the condition holds, null where the row is. */
-static inline int32_t hv_table_mask(const hv_session *session, const hv_column *column, const char *logical_type,
-                                    const hv_table_condition *condition, hv_column *out, hv_error *error) {
-    const bool is_double = !condition->value;
-    if (hv_table_is_float(column, logical_type) != is_double) return hv_arrow_refuse(HV_TYPE_MISMATCH, 0, 0, error);
-    if (is_double) return hv_table_compare_floats(column, condition->operator_, condition->number, out, error);
-    return hv_compare_value(session, column, condition->operator_, condition->value, condition->text,
-                            condition->text_len, out, error);
-}
-
-/* The rows at which a condition holds. 201; 12 for a value that is not of the column's type; 13 for lists; 23 for no
+/* The rows at which a condition holds. 201; 12 for a value that the rows are not compared with; 13 for lists; 23 for no
  * operator. */
 HV_ANSWER hv_table_filter_by(const hv_session *session, const hv_table *table, const hv_table_condition *condition,
                              hv_table *out, hv_error *error) {

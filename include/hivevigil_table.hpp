@@ -139,8 +139,8 @@ public:
     Table filter(const Column &mask) const;
     Table filter(const std::vector<bool> &mask) const { return filter(Column::truths(mask)); }
     // The rows at which `row by value` is true of the column of a name: any number next to integers, decimals and
-    // floats (a double only next to floats, as IEEE 754 says), a text, a bool, a Value. The sign is one of == = != < <=
-    // > >=.
+    // floats, as the exact numbers that they are (of which NaN is unequal to each), a text, a bool, a Value, which next
+    // to floats is null. The sign is one of == = != < <= > >=.
     template <class T> Table filter_by(const std::string &name, Operator by, const T &value) const;
     template <class T> Table filter_by(const std::string &name, const std::string &sign, const T &value) const;
     // The rows in order by these columns, of which the first counts most; rows that are equal in all of them stay in
@@ -290,9 +290,14 @@ inline Column compare_floats(const Column &column, FloatComparison asked) {
 // Row by row whether `row by value`, null where the row is.
 template <class T> Column compare_rows(const Column &column, const std::string &format, Operator by, const T &value) {
     const int width = width_of_floats(format);
+    if (column.kind().number == HV_LIST) throw Error(HV_UNSUPPORTED, {});
     if constexpr (std::is_floating_point_v<T>) {
+        const hv_kind kind = column.kind();
         if (is_float(column, format)) return compare_floats(column, float_comparison(by, double{value}, width));
-        throw Error(HV_TYPE_MISMATCH, {}, to_string(column.kind()) + " is not compared with a float");
+        if (!has_numbers(kind) || scale_of(kind) < 0 || scale_of(kind) > 38)
+            throw Error(HV_TYPE_MISMATCH, {}, to_string(kind) + " is not compared with a float");
+        const Comparison asked = comparison(by, double{value}, kind);
+        return column.compare(asked.by, asked.right);
     } else if constexpr (is_number<T>) {
         if (is_float(column, format)) return compare_floats(column, float_comparison(by, Wide{value}, width));
         return column.compare(by, value);
@@ -300,8 +305,10 @@ template <class T> Column compare_rows(const Column &column, const std::string &
         if (is_float(column, format)) throw Error(HV_TYPE_MISMATCH, {}, "a float is not compared with a text");
         return column.compare(by, value);
     } else {
-        if (is_float(column, format)) throw Error(HV_TYPE_MISMATCH, {}, "a float is compared with a number of C++");
-        return column.compare(by, Value(value));
+        const Value other(value);
+        if (is_float(column, format) && !std::holds_alternative<Null>(other))
+            throw Error(HV_TYPE_MISMATCH, {}, "a float is compared with a number of C++");
+        return column.compare(by, other);
     }
 }
 

@@ -270,14 +270,14 @@ HV_ANSWER hv_table_load(const char *path, hv_table *out, hv_error *error) {
 /* ---- May a row be there? ---- */
 
 /* Does a condition hold for one of the bounds, with this operator? */
-static inline int32_t hv_table_holds(const hv_session *session, const hv_column_footer *known, size_t row,
-                                     const hv_table_condition *condition, uint8_t operator_, bool *truth,
+static inline int32_t hv_table_holds(const hv_session *session, const hv_column *bounds, const char *logical_type,
+                                     size_t row, const hv_table_condition *condition, uint8_t operator_, bool *truth,
                                      hv_error *error) {
     hv_table_condition asked = *condition;
     hv_column one = HV_EMPTY, mask = HV_EMPTY, found = HV_EMPTY;
     asked.operator_ = operator_;
-    int32_t answer = hv_slice(session, &known->bounds, row, row + 1, &one, error);
-    if (!answer) answer = hv_table_mask(session, &one, known->logical_type, &asked, &mask, error);
+    int32_t answer = hv_slice(session, bounds, row, row + 1, &one, error);
+    if (!answer) answer = hv_table_mask(session, &one, logical_type, &asked, &mask, error);
     if (!answer) answer = hv_filter(session, &one, &mask, &found, error);
     *truth = hv_length(&found) != 0;
     hv_free(&one);
@@ -286,31 +286,40 @@ static inline int32_t hv_table_holds(const hv_session *session, const hv_column_
     return answer;
 }
 
+/* May a condition hold for a row between two? Where there are none, it does not. */
+static inline int32_t hv_table_may_hold(const hv_session *session, const hv_column *bounds, const char *logical_type,
+                                        const hv_table_condition *condition, uint8_t *truth, hv_error *error) {
+    const bool is_equal = condition->operator_ == HV_EQ;
+    bool holds[2] = {false, false};
+    hv_column mask = HV_EMPTY;
+    int32_t answer = hv_table_mask(session, bounds, logical_type, condition, &mask, error);
+    hv_free(&mask);
+    for (size_t row = 0; !answer && row < hv_length(bounds); row++) {
+        const uint8_t asked = !is_equal ? condition->operator_ : row ? (uint8_t)HV_GE : (uint8_t)HV_LE;
+        answer = hv_table_holds(session, bounds, logical_type, row, condition, asked, &holds[row], error);
+    }
+    if (!answer) *truth = is_equal ? holds[0] && holds[1] : holds[0] || holds[1];
+    return answer;
+}
+
 HV_ANSWER hv_table_may_have(const hv_session *session, const hv_table_footer *footer,
                             const hv_table_condition *condition, uint8_t *truth, hv_error *error) {
-    const bool is_equal = condition->operator_ == HV_EQ;
-    bool holds[2] = {true, true}, has_nan = false;
+    hv_column numbers = HV_EMPTY;
+    bool has_nan = false;
     size_t place = 0;
     int32_t answer = hv_table_find_footer(footer, condition->column, &place, error);
     if (answer) return answer;
     const hv_column_footer *const known = &footer->columns[place];
-    hv_column mask = HV_EMPTY;
+    const hv_column *bounds = &known->bounds;
     *truth = 1;
-    if (hv_is_empty(&known->bounds)) return HV_OK;
-    if (hv_table_is_float(&known->bounds, known->logical_type))
-        answer = hv_table_has_nan(&known->bounds, &has_nan, error);
-    if (!answer) answer = hv_table_mask(session, &known->bounds, known->logical_type, condition, &mask, error);
-    hv_free(&mask);
-    if (answer || has_nan) return answer; /* NaN is outside of the bounds of numbers */
-    if (hv_length(&known->bounds) == 0) {
-        *truth = 0;
-        return HV_OK;
-    }
-    for (size_t row = 0; !answer && row < 2; row++) {
-        const uint8_t asked = !is_equal ? condition->operator_ : row ? (uint8_t)HV_GE : (uint8_t)HV_LE;
-        answer = hv_table_holds(session, known, row, condition, asked, &holds[row], error);
-    }
-    *truth = is_equal ? holds[0] && holds[1] : holds[0] || holds[1];
+    if (hv_is_empty(bounds)) return HV_OK;
+    /* NaN is unequal to all, and no bound of the numbers next to it */
+    if (condition->operator_ != HV_NE && hv_table_is_float(bounds, known->logical_type))
+        answer = hv_table_has_nan(bounds, &has_nan, error);
+    if (!answer && has_nan) answer = hv_table_number_bounds(bounds, &numbers, error);
+    if (has_nan) bounds = &numbers;
+    if (!answer) answer = hv_table_may_hold(session, bounds, known->logical_type, condition, truth, error);
+    hv_free(&numbers);
     return answer;
 }
 

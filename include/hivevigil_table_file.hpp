@@ -10,6 +10,17 @@
 
 namespace hv {
 
+namespace detail {
+
+// Two floats that are bounds, in place of a NaN the infinity on its side.
+inline Column number_bounds(const Column &bounds) {
+    Column numbers;
+    ask([&](auto *error) { return hv_table_number_bounds(bounds.raw(), numbers.raw(), error); });
+    return numbers;
+}
+
+} // namespace detail
+
 // What the footer of a file says of a column.
 struct ColumnFooter {
     std::string name, logical_type;
@@ -24,12 +35,14 @@ struct ColumnFooter {
     // Whether `row by value` may be true of a row, as Table::filter_by has it: where not, the column need not be read.
     template <class T> bool may_have(Operator by, const T &value) const {
         if (!bounds) return true;
+        // NaN is unequal to all, and no bound of the numbers next to it
+        const bool is_of_numbers = by != Operator::not_equal && detail::has_nan(bounds, logical_type);
+        const Column within = is_of_numbers ? detail::number_bounds(bounds) : bounds.clone();
         const auto compared = [&](Operator asked) {
-            return detail::compare_rows(bounds, logical_type, asked, value).truths();
+            return detail::compare_rows(within, logical_type, asked, value).truths();
         };
         const std::vector<bool> found = compared(by); // refused where no row is compared with the value
-        if (detail::has_nan(bounds, logical_type)) return true;
-        if (bounds.empty()) return false;
+        if (within.empty()) return false;
         if (by == Operator::equal)
             return compared(Operator::less_or_equal)[0] && compared(Operator::greater_or_equal)[1];
         return found[0] || found[1];

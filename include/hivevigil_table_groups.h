@@ -349,15 +349,17 @@ static inline int32_t hv_table_ask(const hv_session *session, const hv_table_gro
     if (fold != HV_FOLD_SUM) return hv_table_choose(session, groups, column, fold, out, error);
     if (is_float) return hv_table_add_up_floats(session, groups, column, out, error);
     if (hv_kind_of(column).number == HV_DECIMAL) return hv_table_add_up(session, groups, column, out, error);
-    const bool is_date = hv_table_is_logical_type(format) && strncmp(format, "tD", 2) != 0;
-    if (is_date || !hv_table_is_integer(column)) return hv_table_unserved(HV_TABLE_WITHOUT_SUM, error);
+    const bool is_time = hv_table_is_logical_type(format) && format[0] == 't' && format[1] != 'D';
+    if (is_time || !hv_table_is_integer(column)) return hv_table_unserved(HV_TABLE_WITHOUT_SUM, error);
     return hv_table_fold(groups, column, HV_FOLD_SUM, out, error);
 }
 
-/* The logical type of an answer. */
+/* The logical type of an answer; a sum keeps only that of durations, and has none under formats that nobody serves. */
 static inline const char *hv_table_type_of_answer(const hv_column *column, const char *format, uint8_t fold) {
+    const bool is_duration = hv_table_is_logical_type(format) && strncmp(format, "tD", 2) == 0;
     if (fold == HV_FOLD_ROWS || fold == HV_FOLD_COUNT) return "";
-    return fold == HV_FOLD_SUM && hv_table_is_float(column, format) ? "g" : format;
+    if (fold != HV_FOLD_SUM || (is_duration && hv_kind_of(column).number == HV_I64)) return format;
+    return hv_table_is_float(column, format) ? "g" : "";
 }
 
 static inline int32_t hv_table_add_answer(const hv_session *session, const hv_table *table,

@@ -94,9 +94,11 @@ inline NamedColumn TableGroups::fold(const GroupAnswer &asked) const {
     if (asked.fold == Fold::rows) return {asked.name, sizes()};
     const NamedColumn &values = table.at(asked.column);
     Column answers = detail::about_column(asked.column, [&] { return answer(values, asked.fold); });
-    if (asked.fold == Fold::count) return {asked.name, std::move(answers)};
-    const bool is_sum_of_floats = asked.fold == Fold::sum && values.is_float();
-    return {asked.name, std::move(answers), is_sum_of_floats ? "g" : values.logical_type};
+    if (asked.fold != Fold::sum && asked.fold != Fold::count)
+        return {asked.name, std::move(answers), values.logical_type};
+    const uint8_t fold = static_cast<uint8_t>(asked.fold);
+    return {asked.name, std::move(answers),
+            hv_table_type_of_answer(values.column.raw(), values.logical_type.c_str(), fold)};
 }
 
 inline Table TableGroups::agg(const std::vector<GroupAnswer> &answers) const {

@@ -135,6 +135,27 @@ static inline int32_t hv_table_has_nan(const hv_column *floats, bool *truth, hv_
     return answer;
 }
 
+/* Two floats that are bounds, in place of a NaN the infinity on its side: up to there numbers may reach. No row where
+ * both are NaNs of one sign, between which no number is. */
+static inline int32_t hv_table_number_bounds(const hv_column *bounds, hv_column *out, hv_error *error) {
+    const int64_t infinity = (int64_t)hv_table_infinity(bounds);
+    const hv_kind kind = hv_kind_of(bounds);
+    hv_builder builder = HV_EMPTY;
+    hv_value ends[2];
+    memset(ends, 0, sizeof ends);
+    int32_t answer = hv_builder_new(&kind, &builder, error);
+    for (size_t row = 0; !answer && row < 2; row++) answer = hv_at(bounds, row, &ends[row], NULL, 0, error);
+    const bool is_any = !answer && ends[0].as_signed <= infinity && ends[1].as_signed >= -1 - infinity;
+    for (size_t row = 0; is_any && !answer && row < 2; row++) {
+        if (ends[row].as_signed > infinity) ends[row].as_signed = infinity;
+        if (ends[row].as_signed < -1 - infinity) ends[row].as_signed = -1 - infinity;
+        answer = hv_append_value(&builder, &ends[row], NULL, 0, 1, error);
+    }
+    if (!answer) answer = hv_finish(&builder, out, error);
+    hv_builder_free(&builder);
+    return answer;
+}
+
 /* ---- Common runs of several columns ---- */
 
 /* Stops of runs, which rise. */

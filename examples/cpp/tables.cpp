@@ -230,8 +230,8 @@ static void check_refusals() {
     check_refused(HV_BAD_NUMBER, "'~' is not an operator: == != < <= > >=", [&] { table.filter_by("at", "~", 1); });
     check_refused(HV_TYPE_MISMATCH, "column 'station': utf8 is not compared with an integer",
                   [&] { table.filter_by("station", "<", 1); });
-    check_refused(HV_TYPE_MISMATCH, "column 'level': i64? is not compared with a float",
-                  [&] { table.filter_by("level", "<", 1.5); });
+    check_refused(HV_TYPE_MISMATCH, "column 'station': utf8 is not compared with a float",
+                  [&] { table.filter_by("station", "<", 1.5); });
     check_refused(HV_TABLE_NO_COLUMN,
                   "no column has the name 'at': the names are 'station', 'level', 'price', 'share'",
                   [&] { table.append(table.drop({"at"})); });

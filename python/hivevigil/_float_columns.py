@@ -3,6 +3,7 @@ from __future__ import annotations
 
 import array
 import ctypes
+import math
 from fractions import Fraction
 from typing import TYPE_CHECKING, Any, Callable, Optional
 
@@ -193,6 +194,19 @@ def least_and_greatest(column: Column, skip_nan: bool) -> tuple[Optional[float],
 def has_nan(column: Column) -> bool:
     """Whether a row is a NaN."""
     return _floats.any_nan(end for end in least_and_greatest(column, False) if end is not None)
+
+
+def number_bounds(bounds: Column) -> Column:
+    """The least and the greatest float, in place of a NaN the infinity on its side, up to which numbers may reach; no row
+    where both are NaNs of one sign, between which no number is."""
+    ends = bounds.to_list()
+    if not _floats.any_nan(ends):
+        return bounds
+    are_above, are_nan = [math.copysign(1, end) > 0 for end in ends], [math.isnan(end) for end in ends]
+    if all(are_nan) and are_above[0] == are_above[1]:
+        return bounds.slice(0, 0)
+    ends = [side * math.inf if is_nan else end for side, is_nan, end in zip((-1, 1), are_nan, ends)]
+    return bounds.of(ends, f"{bounds._logical}{'?' * bounds.nullable}")
 
 
 def without_nan(column: Column) -> Column:

@@ -73,11 +73,12 @@ class ColumnFooter:
         be read."""
         if self.bounds is None:
             return True
-        found = self.bounds.compare(operator, value)
-        if _floats.is_float(self.bounds._logical) and _float_columns.has_nan(self.bounds):
-            return True  # a NaN is a bound past all numbers, and says nothing of these
-        if operator == "==" and len(self.bounds):
-            return bool(self.bounds.le(value)[0] and self.bounds.ge(value)[1])
+        bounds = self.bounds
+        if operator != "!=" and _floats.is_float(bounds._logical):  # NaN is unequal to all
+            bounds = _float_columns.number_bounds(bounds)
+        found = bounds.compare(operator, value)
+        if operator == "==" and len(bounds):
+            return bool(bounds.le(value)[0] and bounds.ge(value)[1])
         return True in found
 
     def _bound(self, place: int) -> Scalar:

@@ -105,13 +105,34 @@ impl Value {
 /// that lies past the type, or between two of its numbers, is decided by one that the type has: each row is below 300
 /// where each is at most 127, and above 0.505 where it is above 0.50.
 pub(crate) fn comparison(operator: Operator, value: Value, kind: Kind) -> (Operator, Value) {
+    match value.number().filter(|_| kind.is_numeric()) {
+        Some(number) => decided(operator, number.at_scale(kind.places()), kind),
+        None => (operator, value),
+    }
+}
+
+/// Finds the same of a float, by the exact number that it is; NaN is unequal to each row. `None` where rows of the type
+/// are not compared with floats: those that are not numbers, and decimals of a scale that is not 0 to 38.
+pub(crate) fn float_comparison(
+    operator: Operator,
+    float: f64,
+    kind: Kind,
+) -> Option<(Operator, Value)> {
+    let scale = u32::try_from(kind.places()).ok()?;
+    match kind.is_numeric() && scale <= 38 {
+        true if float.is_nan() && operator != Operator::NotEqual => {
+            Some(decided(Operator::Equal, AtScale::Above(0), kind))
+        }
+        true if float.is_nan() => Some(decided(operator, AtScale::Above(0), kind)),
+        true => Some(decided(operator, AtScale::of_float(float, scale), kind)),
+        false => None,
+    }
+}
+
+fn decided(operator: Operator, at: AtScale, kind: Kind) -> (Operator, Value) {
     use Operator::{Greater, GreaterOrEqual, Less, LessOrEqual, NotEqual};
-    let Some(number) = value.number().filter(|_| kind.is_numeric()) else {
-        return (operator, value);
-    };
     let below = matches!(operator, Less | LessOrEqual);
     let above = matches!(operator, Greater | GreaterOrEqual);
-    let at = number.at_scale(kind.places());
     let side = match at {
         AtScale::Outside(side) => side,
         AtScale::Exact(digits) | AtScale::Above(digits) if kind.range().contains(&digits) => {

@@ -187,7 +187,7 @@ fn what_a_column_does_not_serve_is_refused_by_its_name() -> Result<(), Error> {
         ErrorKind::TypeMismatch
     );
     assert_eq!(
-        refused_of("level", table.filter_by("level", Operator::Less, 0.5)),
+        refused_of("station", table.filter_by("station", Operator::Less, 0.5)),
         ErrorKind::TypeMismatch
     );
     assert_eq!(
@@ -204,7 +204,7 @@ fn what_a_column_does_not_serve_is_refused_by_its_name() -> Result<(), Error> {
     );
     let groups = table.group_by(["level"]).unwrap();
     assert_eq!(
-        refused_of("list", groups.count("list")),
+        refused_of("list", groups.first("list")),
         ErrorKind::Unsupported
     );
     assert_eq!(

@@ -1,5 +1,6 @@
 //! Rows compared with one value, and whether any of those within bounds may meet it.
 use super::floats::{doubles, Stored};
+use crate::fits::float_comparison;
 use crate::{Column, Error, ErrorKind, Operator, Value};
 
 /// Holds what rows of a table are compared with: a [`Value`], or a float.
@@ -14,7 +15,7 @@ use crate::{Column, Error, ErrorKind, Operator, Value};
 pub enum Threshold {
     /// Compares with an integer, a decimal, a boolean, a text or bytes.
     Value(Value),
-    /// Compares with a float, which serves columns of floats.
+    /// Compares with a float, which serves columns of floats, integers and decimals.
     Float(f64),
 }
 
@@ -40,11 +41,18 @@ impl Threshold {
     /// Says whether `row operator value` holds of each row, null where the row is.
     pub(super) fn compared(self, rows: Stored, operator: Operator) -> Result<Column, Error> {
         match (rows, self) {
+            (Stored::AsTheyAre(column), _) if column.kind().is_list() => {
+                Err(Error::of(ErrorKind::Unsupported))
+            }
             (Stored::AsTheyAre(column), Threshold::Value(value)) => {
                 column.compare_value(operator, value)
             }
-            (Stored::AsTheyAre(column), Threshold::Float(_)) => {
-                Err(Error::of(ErrorKind::TypeMismatch).not_compared(column.kind(), "a float"))
+            (Stored::AsTheyAre(column), Threshold::Float(float)) => {
+                let kind = column.kind();
+                match float_comparison(operator, float, kind) {
+                    Some((operator, value)) => column.compare_value(operator, value),
+                    None => Err(Error::of(ErrorKind::TypeMismatch).not_compared(kind, "a float")),
+                }
             }
             (Stored::Floats(keys), Threshold::Value(Value::Null)) => {
                 keys.compare_value(operator, Value::Null)

@@ -4,7 +4,7 @@ use super::floats::{doubles, Stored};
 use super::keys::Keys;
 use super::runs::{runs_of, shown_by_name, Shown, Stretches};
 use super::{refuse_twice, Entry, Table, TableError};
-use crate::{Column, Error, ErrorKind, Float, Floats, Fold, Kind, Value};
+use crate::{raw, Column, Error, ErrorKind, Float, Floats, Fold, Kind, Value};
 use std::cmp::Ordering;
 use std::ops::Range;
 
@@ -81,14 +81,14 @@ impl Groups<'_> {
     }
 
     /// Counts the rows of a column that are not null in each group, in `u64`, under the name of the column. Refused as
-    /// `NoSuchColumn`, as `RepeatedName` for a column of keys, and as `Unsupported` for lists, as all that follow.
+    /// `NoSuchColumn` and as `RepeatedName` for a column of keys, as all that follow, which refuse lists as `Unsupported`.
     pub fn count(&self, name: &str) -> Result<Table, TableError> {
         self.agg([(name, name, Fold::Count)])
     }
 
     /// Sums the rows that are not null: integers in 64 bits, decimals in 38 digits, floats exactly and rounded once, in
-    /// 64 bits; of logical types durations only. Refused as `CastOutOfRange` where a sum does not fit, and as
-    /// `Unsupported` for other rows.
+    /// 64 bits. Durations are summed as such, and integers under a format that nobody serves as integers. Refused as
+    /// `CastOutOfRange` where a sum does not fit, and as `Unsupported` for dates, other times, and all other rows.
     pub fn sum(&self, name: &str) -> Result<Table, TableError> {
         self.agg([(name, name, Fold::Sum)])
     }
@@ -139,12 +139,15 @@ impl Groups<'_> {
             Fold::Count => return Ok((folded(&zeros_of(column)?)?, None)),
             Fold::Sum if is_float => return self.float_sums(column),
             Fold::Sum if column.kind().is_decimal() => self.decimal_sums(column)?,
-            Fold::Sum if is_integer && is_summed(entry) => folded(column)?,
-            Fold::Sum if is_integer => {
-                let words =
-                    "dates, times of day and timestamps have no sum, and durations have one";
-                return Err(Error::said(ErrorKind::Unsupported, words));
-            }
+            Fold::Sum if is_integer => match times_of(entry) {
+                Some("tD") if column.kind().not_nullable() == Kind::I64 => folded(column)?,
+                Some("tD") | None => return Ok((folded(column)?, None)),
+                Some(_) => {
+                    let words =
+                        "dates, times of day and timestamps have no sum, and durations have one";
+                    return Err(Error::said(ErrorKind::Unsupported, words));
+                }
+            },
             Fold::Sum => {
                 let unsupported = Error::of(ErrorKind::Unsupported);
                 let kind = column.kind().not_nullable();
@@ -225,22 +228,33 @@ fn best(keys: &Keys, runs: Range<usize>, fold: Fold) -> Option<usize> {
     Some(valid.fold(first, better))
 }
 
-/// Returns integers that are null where the rows of a column are; refused as `Unsupported` for lists.
+/// Returns integers that are null where the rows of a column are.
 fn zeros_of(column: &Column) -> Result<Column, Error> {
     let of = |value: Value| Column::constant(Kind::U8.nullable(), value, column.len());
-    column
-        .is_valid()?
-        .choose(&of(Value::from(0))?, &of(Value::Null)?)
+    let valid = match column.kind().is_list() {
+        true => column
+            .decode()?
+            .part(|lists, out, fields| unsafe { raw::hv_list_validity(lists, out, fields) })?,
+        false => column.is_valid()?,
+    };
+    valid.choose(&of(Value::from(0))?, &of(Value::Null)?)
 }
 
-/// Returns whether the sum of the integers of a column means something: numbers, and durations.
-fn is_summed(entry: &Entry) -> bool {
-    let is_time = |format: &str| {
-        ["td", "tt", "ts"]
-            .iter()
-            .any(|time| format.starts_with(time))
+/// Returns which times a format of Arrow names: `td` for dates, `tt` for times of day, `ts` for timestamps, `tD` for
+/// durations, and `None` for all else.
+fn times_of(entry: &Entry) -> Option<&str> {
+    let format = entry.logical_type.as_deref()?;
+    let (times, unit) = (format.get(..2)?, format.get(2..)?);
+    let is_unit = |unit: &str| ["s", "m", "u", "n"].contains(&unit);
+    let is_served = match times {
+        "td" => ["D", "m"].contains(&unit),
+        "tt" | "tD" => is_unit(unit),
+        "ts" => unit
+            .split_once(':')
+            .map_or(false, |(unit, zone)| is_unit(unit) && !zone.contains('\0')),
+        _ => false,
     };
-    !entry.logical_type.as_deref().map_or(false, is_time)
+    is_served.then_some(times)
 }
 
 impl Table {
