@@ -3,7 +3,8 @@
 # that HIVEVIGIL_LIB names), and makes the page of bench/results/ of today, docs/PERFORMANCE.md and the sentence of
 # README.md of it: within a quarter of an hour, on one core that does nothing else.
 #     CORE=3 sh bench/publish.sh
-# ROUNDS=1 in the environment makes one round in place of three. What was measured is kept in bench/target/published.
+# It makes three rounds, or fewer where another would end after 840 seconds (SECONDS_AT_MOST=N in the environment: after
+# N). What was measured is kept in bench/target/published.
 # The status is 1 where an answer differs or the library is one without proof; then no page is written.
 set -eu
 top=$(cd "$(dirname "$0")/.." && pwd)
@@ -13,10 +14,12 @@ if [ -e "$library/UNPROVED" ]; then
     exit 1
 fi
 begin=$(date +%s)
+most=${SECONDS_AT_MOST:-840}
 measured=$top/bench/target/published
 mkdir -p "$measured"
 sh "$top/bench/run.sh" --sizes | tail -n +4 >"$measured/sizes.md"
-sh "$top/bench/run.sh" --rounds "${ROUNDS:-3}" >"$measured/tables.md"
 sh "$top/bench/run.sh" --growth | sed -n '/^|/p' >"$measured/growth.md"
+left=$((most - ($(date +%s) - begin)))
+sh "$top/bench/run.sh" --rounds 3 --turns 5 --seconds "$left" >"$measured/tables.md"
 python3 "$top/tools/bench_page.py" "$measured"
 echo "bench: published in $(($(date +%s) - begin)) s"

@@ -7,7 +7,7 @@
 #     sh bench/run.sh --sizes              bytes of messages relative to those of arrays
 #     sh bench/run.sh --smoke              every line over few rows, in seconds: do both sides answer the same?
 # --rows N, --turns N and --rounds N change the size (4000000, 7, 1: of rounds the middle one of each line counts);
-# --cold maps each large block anew. CORE=3 in the environment runs only on core 3.
+# --seconds N begins no round that would end later; --cold maps each large block anew. CORE=3 in the environment runs only on core 3.
 # Needs cargo. The status is 1 where an answer differs, whatever was taken.
 set -eu
 top=$(cd "$(dirname "$0")/.." && pwd)

@@ -171,10 +171,11 @@ def new_page(tables: str, sizes: str, growth: str) -> str:
     day, machine = tables.split("\n", 1)[0].split(", ", 1)
     library = tables.split("\n")[1]
     when = f"{date.fromisoformat(day):%-d %B %Y}"
+    rounds = next(line for line in tables.split("\n") if " rounds of " in line)
     memory = next(line for line in tables.split("\n") if line.startswith("Memory that a call takes"))
     return f"""# Results of {when}
 
-{fill(f"{machine} {library} On one core, {'as bench/publish.sh measures them'}.")}
+{fill(f"{machine} {library} On one core, {rounds}")}
 
 Tables as `bench/run.sh` prints them; `docs/PERFORMANCE.md` has the summary, and `bench/README.md` says what a line is
 and what a form ("beside words") is. 4,000,000 rows, ends u32; in the columns with null one run in ten is null. A cell

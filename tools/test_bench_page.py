@@ -56,6 +56,9 @@ MEASURED = "\n".join(
         "2026-11-30, A processor, rustc 1.95.0.",
         "The library: version 1.9.0, commit abc, proved.",
         "",
+        "3 rounds of 5 turns.",
+        "630 questions: ours / the fastest Rust form 1.00, 100 above 1.15.",
+        "",
         FORMS,
         "",
         table(
@@ -121,6 +124,7 @@ class BenchPage(unittest.TestCase):
     def test_a_new_page_has_what_was_measured(self) -> None:
         page = new_page(MEASURED, "| Sizes |", "| Growth |")
         self.assertTrue(page.startswith("# Results of 30 November 2026\n\nA processor, rustc 1.95.0. The library"))
+        self.assertIn("On one core, 3 rounds of 5 turns.", page)
         self.assertEqual(questions(page), questions(FORMS))
         made = summary(page, "2026-11-30.md", {})
         self.assertIn("| **Questions over many rows** | ", made)

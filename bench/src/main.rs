@@ -19,14 +19,17 @@ pub(crate) use hivevigil::{Fields, Kind, Session};
 use kernels::black_box;
 use line::Bench;
 use std::process::ExitCode;
+use std::time::{Duration, Instant};
 
 const USAGE: &str =
-    "bench [--rows N] [--turns N] [--rounds N] [--only NAME,NAME] [--cold] [--growth] [--sizes] [--smoke]";
+    "bench [--rows N] [--turns N] [--rounds N] [--seconds N] [--only NAME,NAME] [--cold] [--growth] [--sizes] [--smoke]";
 
 /// What is asked for on the command line.
 struct Asked {
     bench: Bench,
     rounds: usize,
+    /// No round is begun that would end later, if it took as long as the one before.
+    seconds: u64,
     cold: bool,
     growth: bool,
     sizes: bool,
@@ -45,6 +48,7 @@ fn asked() -> Option<Asked> {
     let mut asked = Asked {
         bench,
         rounds: 1,
+        seconds: u64::MAX,
         cold: false,
         growth: false,
         sizes: false,
@@ -58,6 +62,7 @@ fn asked() -> Option<Asked> {
                 asked.bench.turns = words.next()?.parse().ok().filter(|turns| *turns > 0)?
             }
             "--rounds" => asked.rounds = words.next()?.parse().ok()?,
+            "--seconds" => asked.seconds = words.next()?.parse().ok()?,
             "--only" => asked.bench.only = words.next()?.split(',').map(String::from).collect(),
             "--cold" => asked.cold = true,
             "--growth" => asked.growth = true,
@@ -76,6 +81,21 @@ fn first_call() -> Option<String> {
         ["--first", call, side, rows] => lines::first(call, side, rows.parse().ok()?),
         _ => None,
     }
+}
+
+/// Measures all lines, at most as many times as asked for, and once at least; answers with how many times.
+fn all_rounds(bench: &mut Bench, rounds: usize, time: Duration) -> usize {
+    let begin = Instant::now();
+    for round in 1..=rounds {
+        let start = begin.elapsed();
+        lines::all(bench);
+        bench.compares = false;
+        let stop = begin.elapsed();
+        if stop + (stop - start) > time {
+            return round;
+        }
+    }
+    rounds
 }
 
 fn main() -> ExitCode {
@@ -104,11 +124,9 @@ fn main() -> ExitCode {
     } else if asked.growth {
         print!("{}", lines::growth(bench));
     } else {
-        for round in 0..asked.rounds {
-            bench.compares = round == 0;
-            lines::all(bench);
-        }
+        let rounds = all_rounds(bench, asked.rounds, Duration::from_secs(asked.seconds));
         bench.lines = line::middle_rounds(&bench.lines);
+        println!("{rounds} rounds of {} turns.", bench.turns);
         print!("{}", report::tables(bench));
     }
     for (shape, form) in &bench.differ {
