@@ -17,9 +17,12 @@ begin=$(date +%s)
 most=${SECONDS_AT_MOST:-840}
 measured=$top/bench/target/published
 mkdir -p "$measured"
-sh "$top/bench/run.sh" --sizes | tail -n +4 >"$measured/sizes.md"
-sh "$top/bench/run.sh" --growth | sed -n '/^|/p' >"$measured/growth.md"
+for table in sizes growth; do
+    sh "$top/bench/run.sh" "--$table" >"$measured/$table.out"
+    grep '^|' "$measured/$table.out" >"$measured/$table.md"
+done
 left=$((most - ($(date +%s) - begin)))
+[ "$left" -gt 0 ] || left=0
 sh "$top/bench/run.sh" --rounds 3 --turns 5 --seconds "$left" >"$measured/tables.md"
 python3 "$top/tools/bench_page.py" "$measured"
 echo "bench: published in $(($(date +%s) - begin)) s"
