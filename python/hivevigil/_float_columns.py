@@ -199,7 +199,7 @@ def has_nan(column: Column) -> bool:
 def number_bounds(bounds: Column) -> Column:
     """The least and the greatest float, in place of a NaN the infinity on its side, up to which numbers may reach; no row
     where both are NaNs of one sign, between which no number is."""
-    ends = bounds.to_list()
+    ends: Any = bounds.to_list()
     if not _floats.any_nan(ends):
         return bounds
     are_above, are_nan = [math.copysign(1, end) > 0 for end in ends], [math.isnan(end) for end in ends]
