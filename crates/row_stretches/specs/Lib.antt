@@ -1,0 +1,3 @@
+pub mod Stretches
+pub mod Masks
+pub mod Pieces
