@@ -1,5 +1,2 @@
 pub mod Laws
 pub mod Chunks
-pub mod Batches
-pub mod BatchForms
-pub mod BatchAppend

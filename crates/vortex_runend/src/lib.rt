@@ -2,13 +2,11 @@
 #![tactic(auto)]
 
 pub mod arrays;
-mod batch;
 pub mod compress;
 pub mod compute;
 pub mod laws;
 mod strategies;
 
-pub use batch::{BatchError, ColumnBatch};
 pub use column_fields::RunEndMetadata;
 pub use column_ops::{ColumnOps, FlatOrder};
 pub use runend_aggregate::{SignedSum, SumAnswer, SumValue, UnsignedSum};
@@ -27,3 +25,5 @@ pub use runend_column::{
 pub use runend_commands::{
     Answer, Command, KERNELS, default_thresholds, execute, execute_one, initialize,
 };
+pub use tables::{Table, TableError};
+pub use typed_columns::TypedColumn;

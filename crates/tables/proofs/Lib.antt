@@ -1,0 +1,9 @@
+pub mod NameLists
+pub mod Worked
+pub mod TableRows
+pub mod Selections
+pub mod IndexFaults
+pub mod Positions
+pub mod SelectedRows
+pub mod Appends
+pub mod Puts

@@ -1,0 +1,8 @@
+-- No two names so far are equal.
+use Rattle.std.proofs.Common.{map}
+use Rattle.std.specs.String.{string_bytes}
+use Rattle.tables.specs.Tables.{AreDistinct}
+use Rattle.tables.proofs.names.first_repeated.Given as goal
+
+abbrev pub invariant-loop-place : goal.invariant-loop-place
+invariant-loop-place g l = AreDistinct (map string_bytes l.names) l.place

@@ -1,0 +1,5 @@
+pub mod Tables
+pub mod TableFaults
+pub mod Appended
+pub mod Selected
+pub mod Put

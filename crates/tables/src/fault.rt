@@ -1,0 +1,66 @@
+//! Why names and columns make no table, or a table is not worked on.
+ghost use Rattle.std.specs.Prelude.{◌≡◌};
+ghost use Rattle.tables.specs.declared.fault.TableError.TheVariants.{Refused};
+
+use column_core::VortexError;
+use thiserror::Error;
+
+/// Says why names and columns make no table, or why a table is not worked on. Columns and names are counted from 0.
+#[derive(Clone, Copy, Debug, Drop, PartialEq, Eq, Error)]
+pub enum TableError {
+    /// Says why a column is refused, or that a growth of memory was.
+    #[error("refused")]
+    Refused(VortexError),
+    /// Has how many names and columns there are, where the numbers differ.
+    #[error("NameCount")]
+    NameCount {
+        names: usize,
+        columns: usize,
+    },
+    /// Has the first column that has another number of rows than the table, and both numbers.
+    #[error("RowCount")]
+    RowCount {
+        column: usize,
+        rows: usize,
+        wanted: usize,
+    },
+    /// Has the first name that an earlier one is equal to, after that one.
+    #[error("RepeatedName")]
+    RepeatedName {
+        earlier: usize,
+        name: usize,
+    },
+    /// Has the first of the given names that no column has.
+    #[error("UnknownName")]
+    UnknownName {
+        name: usize,
+    },
+    /// Has how many names and new names there are, where the numbers differ.
+    #[error("NewNameCount")]
+    NewNameCount {
+        names: usize,
+        new_names: usize,
+    },
+    /// Says that the names of the other table are not those of the table, in the same order.
+    #[error("OtherNames")]
+    OtherNames,
+    /// Has the first column whose type or format the other table's column of its place does not have.
+    #[error("OtherType")]
+    OtherType {
+        column: usize,
+    },
+    /// Has the first column whose new name an earlier column has, after that one.
+    #[error("RepeatedNewName")]
+    RepeatedNewName {
+        earlier: usize,
+        column: usize,
+    },
+}
+
+impl From<VortexError> for TableError {
+    ghost from_gives = { λ error given. given ≡ Refused error };
+
+    fn from(error: VortexError) -> TableError {
+        TableError::Refused(error)
+    }
+}

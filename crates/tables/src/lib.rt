@@ -1,0 +1,16 @@
+//! Tables: named columns of one number of rows, each with the format of Arrow that says what its rows mean.
+#![tactic(auto)]
+
+mod appended;
+mod columns;
+mod comparisons;
+mod fault;
+mod joined;
+mod names;
+mod put;
+mod refusals;
+mod table;
+mod taken;
+
+pub use fault::TableError;
+pub use table::Table;

@@ -1,4 +1,0 @@
-use Rattle.vortex_runend.proofs.batch.ColumnBatch.try_new.Goals as goal
-
-pub returns-in-Some-clause-refused : goal.returns-in-Some-clause-refused
-returns-in-Some-clause-refused g c = rw (c.deref.ensures.value, c.deref-2.ensures.value) at c.in-Some.ensures

@@ -1,8 +1,0 @@
--- No two names so far are equal.
-use Rattle.std.proofs.Common.{map}
-use Rattle.std.specs.String.{string_bytes}
-use Rattle.vortex_runend.specs.Batches.{AreDistinct}
-use Rattle.vortex_runend.proofs.batch.names.first_repeated.Given as goal
-
-abbrev pub invariant-loop-place : goal.invariant-loop-place
-invariant-loop-place g l = AreDistinct (map string_bytes l.names) l.place
