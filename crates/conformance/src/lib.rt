@@ -3,17 +3,11 @@
 #![tactic(auto)]
 
 #[cfg(test)]
-mod batch_append;
-#[cfg(test)]
-mod batch_forms;
-#[cfg(test)]
-mod batch_parts;
-#[cfg(test)]
-mod batches;
-#[cfg(test)]
 mod columns;
 #[cfg(test)]
 mod decoders;
+#[cfg(test)]
+mod filters;
 #[cfg(test)]
 mod functions;
 #[cfg(test)]
@@ -29,8 +23,16 @@ mod parts;
 #[cfg(test)]
 mod refusals;
 #[cfg(test)]
+mod run_tables;
+#[cfg(test)]
 mod shown;
 #[cfg(test)]
-mod tables;
+mod table_append;
+#[cfg(test)]
+mod table_parts;
+#[cfg(test)]
+mod table_put;
+#[cfg(test)]
+mod table_rows;
 #[cfg(test)]
 mod usage;
