@@ -61,11 +61,11 @@ extern "C" {
 /* The version of this header, and the number of its binary interface. hv_version returns the version of the library, as
  * major * 1000000 + minor * 1000 + patch, and hv_abi its interface: a program runs with a library of its own HV_ABI,
  * and finds there every call of a header that is not newer than the library. */
-#define HV_VERSION_MAJOR 1
-#define HV_VERSION_MINOR 10
+#define HV_VERSION_MAJOR 2
+#define HV_VERSION_MINOR 0
 #define HV_VERSION_PATCH 0
 #define HV_VERSION (HV_VERSION_MAJOR * 1000000 + HV_VERSION_MINOR * 1000 + HV_VERSION_PATCH)
-#define HV_ABI 1
+#define HV_ABI 2
 uint32_t hv_version(void);
 uint32_t hv_abi(void);
 
@@ -289,17 +289,23 @@ HV_ANSWER hv_fill(const hv_session *session, const hv_column *column, const hv_v
                   size_t text_len, hv_column *out, hv_error *error);
 
 /* What is answered of the two rows at each place: whether a comparison holds (HV_EQ to HV_LE); the sum, difference or
- * product of two integers of one type, in that type; two booleans connected; one of two integers, decimals or booleans
- * of one type: the left one, or the right one where that is null, the lesser, the greater. Null where either row is
- * null, but `false and null` is false, `true or null` is true, and HV_COALESCE takes the row that is not null. */
+ * product of two integers of one type, in that type, or of two decimals, exactly; two booleans connected; one of two
+ * integers, decimals or booleans of one type: the left one, or the right one where that is null, the lesser, the
+ * greater. Null where either row is null, but `false and null` is false, `true or null` is true, and HV_COALESCE takes
+ * the row that is not null. */
 enum { HV_ADD = 6, HV_SUBTRACT, HV_MULTIPLY, HV_AND, HV_OR, HV_COALESCE, HV_LESSER, HV_GREATER };
 /* The rows of two columns worked place by place, at the cost of the runs of both and not of the rows: a constant where
  * both are constants that have a row, else runs, as few as possible. HV_UNSUPPORTED for lists, for HV_ADD to
- * HV_MULTIPLY unless both are of integers, for HV_AND and HV_OR unless both are of booleans, for HV_COALESCE to
- * HV_GREATER unless each is of integers, decimals or booleans; then HV_TYPE_MISMATCH for two types that differ in more
- * than null, then HV_COLUMN_LENGTH (left, right) for another number of rows, then HV_CAST_OUT_OF_RANGE (row) for the
- * first row whose answer the type does not have; HV_BAD_NUMBER for no operator. The session of hv_compare has no part
- * in it: only the form of its answer differs. */
+ * HV_MULTIPLY unless both are of integers or both of decimals, for HV_AND and HV_OR unless both are of booleans, for
+ * HV_COALESCE to HV_GREATER unless each is of integers, decimals or booleans; then HV_TYPE_MISMATCH for two types that
+ * differ in more than null, then HV_COLUMN_LENGTH (left, right) for another number of rows, then HV_CAST_OUT_OF_RANGE
+ * (row) for the first row whose answer the type does not have; HV_BAD_NUMBER for no operator. The session of hv_compare
+ * has no part in it: only the form of its answer differs.
+ *
+ * Sums and differences of decimals are at the scale of both columns, in one digit more than the greater precision;
+ * products at the sum of the scales, in one digit more than both precisions together; in 38 digits at most. Here the
+ * two types may differ: HV_TYPE_MISMATCH is for sums of two scales, which hivevigil_decimals.h brings to one, and for a
+ * product whose scale is not from -128 to 127; HV_CAST_OUT_OF_RANGE for the first row whose answer has more digits. */
 HV_ANSWER hv_combine(const hv_column *left, uint8_t operator_, const hv_column *right, hv_column *out, hv_error *error);
 
 /* The other boolean of each row, null for null, HV_UNSUPPORTED unless the rows are booleans; whether each row is null,
@@ -410,16 +416,6 @@ HV_ANSWER hv_decimal_cast(const hv_column *column, uint8_t precision, int8_t sca
  * HV_CAST_OUT_OF_RANGE (row, why) for the first row that is not such an integer: why is 1 where it has a fraction, and
  * 0 where the type does not have it; HV_BAD_NUMBER for another type, HV_OUT_OF_MEMORY */
 HV_ANSWER hv_decimal_to_integers(const hv_column *decimals, uint8_t to, hv_column *out, hv_error *error);
-
-/* The decimals at each place of two columns added, subtracted or multiplied (HV_ADD, HV_SUBTRACT, HV_MULTIPLY),
- * exactly, null where either is null, in the form and at the cost of hv_combine. Sums and differences are at the scale
- * of both columns, in one digit more than the greater precision; products at the sum of the scales, in one digit more
- * than both precisions together; in 38 digits at most. HV_UNSUPPORTED unless both are of decimals; then
- * HV_TYPE_MISMATCH for sums of two scales, which hivevigil_decimals.h brings to one, and for a product whose scale is
- * not from -128 to 127; then HV_COLUMN_LENGTH (left, right); then HV_CAST_OUT_OF_RANGE (row) for the first row whose
- * answer has more digits; HV_BAD_NUMBER for another operator. */
-HV_ANSWER hv_decimal_combine(const hv_column *left, uint8_t operator_, const hv_column *right, hv_column *out,
-                             hv_error *error);
 
 /* ---- Floats ----
  * Floats of 16, 32 and 64 bits are columns of their keys, in i16, i32 and i64: a key is the place of a float in the
@@ -583,40 +579,22 @@ HV_CALL size_t hv_builder_runs(const hv_builder *builder);  /* as many as the en
 HV_CALL void hv_builder_free(hv_builder *builder);
 
 /* A column as bytes, in any form, to keep or to send: a message of the Protocol Buffers encoding (docs/column.proto),
- * in the form that the column has, with its window; for flat texts and bytes the rows, which are read into one buffer.
- * Equal forms have equal bytes. HV_UNSUPPORTED exactly for more than 16 levels of runs, where lists that runs were
- * decoded to, whose offsets, sizes or validity are in runs, count as two. */
-/* How many bytes the message has, by a pass over lengths that takes no memory. */
+ * in the form that the column has, with its window and its format; for flat texts and bytes the rows, which are read
+ * into one buffer. Equal forms under equal formats have equal bytes. HV_UNSUPPORTED exactly for more than 16 levels of
+ * runs, where lists that runs were decoded to, whose offsets, sizes or validity are in runs, count as two. */
+/* How many bytes the message has, by a pass over lengths that takes no memory; HV_OUT_OF_MEMORY only for 2^64 bytes or
+ * more. */
 HV_ANSWER hv_write_size(const hv_column *column, size_t *size, hv_error *error);
 /* Writes the message to the front of `bytes`, which takes no memory, and its number of bytes to *size; HV_COLUMN_LENGTH
- * (needed, bytes_len) where it does not fit. HV_OUT_OF_MEMORY only for 2^64 bytes or more. */
+ * (needed, bytes_len) where it does not fit. The bytes after it stay as they were. HV_OUT_OF_MEMORY only for 2^64 bytes
+ * or more. */
 HV_ANSWER hv_write(const hv_column *column, uint8_t *bytes, size_t bytes_len, size_t *size, hv_error *error);
-/* The column that was written so; HV_BAD_METADATA exactly for bytes that are the message of no column, so
- * HV_OUT_OF_MEMORY only for a message. */
-HV_ANSWER hv_read_column(const uint8_t *bytes, size_t bytes_len, hv_column *out, hv_error *error);
-/* Are the bytes the message of a column? 1, or 0. Takes no memory, and refuses nothing: for bytes of a stranger before
- * any of them is read. */
-HV_ANSWER hv_is_message(const uint8_t *bytes, size_t bytes_len, uint8_t *truth, hv_error *error);
-
-/* The same for a column with a logical type, which says what its numbers mean, as dates, times or floats: the message
- * keeps its name, the format string of Arrow's C data interface, such as "tss:UTC". The name is `format_len` bytes of
- * UTF-8, with no 0 at the end; it is not tested further. An empty name says that the column has no logical type: the
- * message is that of hv_write. Any other message is refused by hv_read_column and hv_is_message. */
-/* How many bytes the message has, without taking memory; HV_TYPE_MISMATCH for a name that is not UTF-8, then as
- * hv_write_size. */
-HV_ANSWER hv_typed_size(const hv_column *column, const uint8_t *format, size_t format_len, size_t *size, hv_error *error);
-/* Writes the message as hv_write does, without taking memory; HV_TYPE_MISMATCH for a name that is not UTF-8, then as
- * hv_write. */
-HV_ANSWER hv_write_typed(const hv_column *column, const uint8_t *format, size_t format_len, uint8_t *bytes,
-                         size_t bytes_len, size_t *size, hv_error *error);
-/* The column of a message of hv_write_typed or hv_write. The name of its logical type is in the message, *format_len
- * bytes from bytes + *format_at on; both are 0 where it has none. HV_BAD_METADATA exactly for bytes that are the
+/* The column that was written so, in its form and under its format; HV_BAD_METADATA exactly for bytes that are the
  * message of no column, so HV_OUT_OF_MEMORY only for a message. */
-HV_ANSWER hv_read_typed(const uint8_t *bytes, size_t bytes_len, hv_column *out, size_t *format_at, size_t *format_len,
-                        hv_error *error);
-/* Are the bytes the message of a column, with or without a logical type? 1, or 0. Takes no memory, and refuses
- * nothing. */
-HV_ANSWER hv_is_typed_message(const uint8_t *bytes, size_t bytes_len, uint8_t *truth, hv_error *error);
+HV_ANSWER hv_read_column(const uint8_t *bytes, size_t bytes_len, hv_column *out, hv_error *error);
+/* Are the bytes the message of a column, with or without a format? 1, or 0. Takes no memory, and refuses nothing: for
+ * bytes of a stranger before any of them is read. */
+HV_ANSWER hv_is_message(const uint8_t *bytes, size_t bytes_len, uint8_t *truth, hv_error *error);
 
 /* ---- What the rows mean ----
  * A column may have a format: the format string of Arrow's C data interface that says what its rows mean, such as "g"
@@ -624,13 +602,16 @@ HV_ANSWER hv_is_typed_message(const uint8_t *bytes, size_t bytes_len, uint8_t *t
  * hv_encode, hv_decode, hv_encode_rows, hv_slice, hv_take, hv_filter, hv_fill, hv_reverse, hv_sort and hv_values keep
  * the format of the column, hv_runs and hv_deserialize that of the values, and hv_take_from that of the dictionary;
  * hv_if_else keeps one that both columns have, hv_fold_by that of the keys and, for the least, greatest, first and last
- * row, that of the values, and hv_value_counts that of the values. Every other call makes columns without a format. No
- * call asks what a format says: rows are compared, added and written as they are stored. */
-/* The column under this format; an empty one says that it has none. HV_TYPE_MISMATCH for one that is not UTF-8. */
+ * row, that of the values, and hv_value_counts that of the values. A message keeps the format, and hv_read_column makes
+ * the column under it. Every other call makes columns without a format. No call asks what a format says: rows are
+ * compared, added and written as they are stored. */
+/* The column under this format; an empty one says that it has none. HV_TYPE_MISMATCH exactly for one that is not UTF-8,
+ * so HV_OUT_OF_MEMORY only for one that is. */
 HV_ANSWER hv_with_type(const hv_column *column, const uint8_t *format, size_t format_len, hv_column *out,
                        hv_error *error);
 /* Writes the format to the front of `format`, which takes no memory, and its number of bytes to *size: 0 where the
- * column has none. HV_COLUMN_LENGTH (needed, format_len) where it does not fit. */
+ * column has none. HV_COLUMN_LENGTH (needed, format_len) where it does not fit. The bytes after it stay as they
+ * were. */
 HV_ANSWER hv_type(const hv_column *column, uint8_t *format, size_t format_len, size_t *size, hv_error *error);
 
 /* Frees the column, if there is one; the handle is empty afterwards. */

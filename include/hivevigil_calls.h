@@ -340,11 +340,6 @@ HV_ANSWER hv_decimal_to_integers(const hv_column *decimals, uint8_t to, hv_colum
     hv_error ignored;
     return (hv_decimal_to_integers)(hv_lent(decimals), to, out, HV_FIELDS);
 }
-HV_ANSWER hv_decimal_combine(const hv_column *left, uint8_t operator_, const hv_column *right, hv_column *out,
-                             hv_error *error) {
-    hv_error ignored;
-    return (hv_decimal_combine)(hv_lent(left), operator_, hv_lent(right), out, HV_FIELDS);
-}
 
 /* Floats */
 HV_ANSWER hv_float_encode(const hv_column *bits, uint8_t is_canonical, hv_column *out, hv_error *error) {
@@ -586,30 +581,6 @@ HV_ANSWER hv_is_message(const uint8_t *bytes, size_t bytes_len, uint8_t *truth, 
     hv_error ignored;
     HV_ITEMS(const uint8_t, bytes, bytes_len);
     return (hv_is_message)(bytes, bytes_len, truth, HV_FIELDS);
-}
-HV_ANSWER hv_typed_size(const hv_column *column, const uint8_t *format, size_t format_len, size_t *size,
-                        hv_error *error) {
-    hv_error ignored;
-    HV_ITEMS(const uint8_t, format, format_len);
-    return (hv_typed_size)(hv_lent(column), format, format_len, size, HV_FIELDS);
-}
-HV_ANSWER hv_write_typed(const hv_column *column, const uint8_t *format, size_t format_len, uint8_t *bytes,
-                         size_t bytes_len, size_t *size, hv_error *error) {
-    hv_error ignored;
-    HV_ITEMS(const uint8_t, format, format_len);
-    HV_ITEMS(uint8_t, bytes, bytes_len);
-    return (hv_write_typed)(hv_lent(column), format, format_len, bytes, bytes_len, size, HV_FIELDS);
-}
-HV_ANSWER hv_read_typed(const uint8_t *bytes, size_t bytes_len, hv_column *out, size_t *format_at, size_t *format_len,
-                        hv_error *error) {
-    hv_error ignored;
-    HV_ITEMS(const uint8_t, bytes, bytes_len);
-    return (hv_read_typed)(bytes, bytes_len, out, format_at, format_len, HV_FIELDS);
-}
-HV_ANSWER hv_is_typed_message(const uint8_t *bytes, size_t bytes_len, uint8_t *truth, hv_error *error) {
-    hv_error ignored;
-    HV_ITEMS(const uint8_t, bytes, bytes_len);
-    return (hv_is_typed_message)(bytes, bytes_len, truth, HV_FIELDS);
 }
 
 /* What the rows mean */

@@ -125,8 +125,6 @@ HV_EXPORT size_t hv_bytes_used(hv_column *column);
 HV_EXPORT int32_t hv_decimal_sum(hv_column *column, hv_pair *sum, uint8_t *is_empty, hv_error *error);
 HV_EXPORT int32_t hv_decimal_cast(hv_column *column, uint8_t precision, int8_t scale, hv_column *out, hv_error *error);
 HV_EXPORT int32_t hv_decimal_to_integers(hv_column *decimals, uint8_t to, hv_column *out, hv_error *error);
-HV_EXPORT int32_t hv_decimal_combine(hv_column *left, uint8_t operator_, hv_column *right, hv_column *out,
-                                     hv_error *error);
 
 /* Floats */
 HV_EXPORT int32_t hv_float_encode(hv_column *bits, uint8_t is_canonical, hv_column *out, hv_error *error);
@@ -198,13 +196,6 @@ HV_EXPORT int32_t hv_write_size(hv_column *column, size_t *size, hv_error *error
 HV_EXPORT int32_t hv_write(hv_column *column, uint8_t *bytes, size_t bytes_len, size_t *size, hv_error *error);
 HV_EXPORT int32_t hv_read_column(const uint8_t *bytes, size_t bytes_len, hv_column *out, hv_error *error);
 HV_EXPORT int32_t hv_is_message(const uint8_t *bytes, size_t bytes_len, uint8_t *truth, hv_error *error);
-HV_EXPORT int32_t hv_typed_size(hv_column *column, const uint8_t *format, size_t format_len, size_t *size,
-                                hv_error *error);
-HV_EXPORT int32_t hv_write_typed(hv_column *column, const uint8_t *format, size_t format_len, uint8_t *bytes,
-                                 size_t bytes_len, size_t *size, hv_error *error);
-HV_EXPORT int32_t hv_read_typed(const uint8_t *bytes, size_t bytes_len, hv_column *out, size_t *format_at,
-                                size_t *format_len, hv_error *error);
-HV_EXPORT int32_t hv_is_typed_message(const uint8_t *bytes, size_t bytes_len, uint8_t *truth, hv_error *error);
 
 /* What the rows mean */
 HV_EXPORT int32_t hv_with_type(hv_column *column, const uint8_t *format, size_t format_len, hv_column *out,
@@ -269,7 +260,6 @@ HV_EXPORT void hv_free(hv_column *column);
 #define hv_decimal_sum(...) hv_call_decimal_sum(__VA_ARGS__)
 #define hv_decimal_cast(...) hv_call_decimal_cast(__VA_ARGS__)
 #define hv_decimal_to_integers(...) hv_call_decimal_to_integers(__VA_ARGS__)
-#define hv_decimal_combine(...) hv_call_decimal_combine(__VA_ARGS__)
 #define hv_float_encode(...) hv_call_float_encode(__VA_ARGS__)
 #define hv_float_decode(...) hv_call_float_decode(__VA_ARGS__)
 #define hv_float_compare(...) hv_call_float_compare(__VA_ARGS__)
@@ -321,10 +311,6 @@ HV_EXPORT void hv_free(hv_column *column);
 #define hv_write(...) hv_call_write(__VA_ARGS__)
 #define hv_read_column(...) hv_call_read_column(__VA_ARGS__)
 #define hv_is_message(...) hv_call_is_message(__VA_ARGS__)
-#define hv_typed_size(...) hv_call_typed_size(__VA_ARGS__)
-#define hv_write_typed(...) hv_call_write_typed(__VA_ARGS__)
-#define hv_read_typed(...) hv_call_read_typed(__VA_ARGS__)
-#define hv_is_typed_message(...) hv_call_is_typed_message(__VA_ARGS__)
 #define hv_with_type(...) hv_call_with_type(__VA_ARGS__)
 #define hv_type(...) hv_call_type(__VA_ARGS__)
 #define hv_free(...) hv_call_free(__VA_ARGS__)

@@ -112,7 +112,6 @@ CALLS: dict[str, tuple[list[Any], Any]] = {
     "hv_decimal_sum": ([POINTER(Handle), POINTER(Pair), POINTER(c_uint8), POINTER(Fields)], c_int32),
     "hv_decimal_cast": ([POINTER(Handle), c_uint8, c_int8, POINTER(Handle), POINTER(Fields)], c_int32),
     "hv_decimal_to_integers": ([POINTER(Handle), c_uint8, POINTER(Handle), POINTER(Fields)], c_int32),
-    "hv_decimal_combine": ([POINTER(Handle), c_uint8, POINTER(Handle), POINTER(Handle), POINTER(Fields)], c_int32),
     "hv_float_encode": ([POINTER(Handle), c_uint8, POINTER(Handle), POINTER(Fields)], c_int32),
     "hv_float_decode": ([POINTER(Handle), POINTER(Handle), POINTER(Fields)], c_int32),
     "hv_float_compare": ([POINTER(Handle), c_uint8, c_uint64, c_uint8, POINTER(Handle), POINTER(Fields)], c_int32),
@@ -177,14 +176,6 @@ CALLS: dict[str, tuple[list[Any], Any]] = {
     "hv_write": ([POINTER(Handle), c_char_p, c_size_t, POINTER(c_size_t), POINTER(Fields)], c_int32),
     "hv_read_column": ([c_char_p, c_size_t, POINTER(Handle), POINTER(Fields)], c_int32),
     "hv_is_message": ([c_char_p, c_size_t, POINTER(c_uint8), POINTER(Fields)], c_int32),
-    "hv_typed_size": ([POINTER(Handle), c_char_p, c_size_t, POINTER(c_size_t), POINTER(Fields)], c_int32),
-    "hv_write_typed": ([
-        POINTER(Handle), c_char_p, c_size_t, c_char_p, c_size_t, POINTER(c_size_t), POINTER(Fields),
-    ], c_int32),
-    "hv_read_typed": ([
-        c_char_p, c_size_t, POINTER(Handle), POINTER(c_size_t), POINTER(c_size_t), POINTER(Fields),
-    ], c_int32),
-    "hv_is_typed_message": ([c_char_p, c_size_t, POINTER(c_uint8), POINTER(Fields)], c_int32),
     "hv_with_type": ([POINTER(Handle), c_char_p, c_size_t, POINTER(Handle), POINTER(Fields)], c_int32),
     "hv_type": ([POINTER(Handle), POINTER(c_uint8), c_size_t, POINTER(c_size_t), POINTER(Fields)], c_int32),
     "hv_free": ([POINTER(Handle)], None),

@@ -405,13 +405,6 @@ extern "C" {
         out: *mut Handle,
         error: *mut Fields,
     ) -> i32;
-    pub fn hv_decimal_combine(
-        left: *mut Handle,
-        operator: u8,
-        right: *mut Handle,
-        out: *mut Handle,
-        error: *mut Fields,
-    ) -> i32;
     pub fn hv_float_encode(
         bits: *mut Handle,
         is_canonical: u8,
@@ -665,36 +658,6 @@ extern "C" {
         error: *mut Fields,
     ) -> i32;
     pub fn hv_is_message(
-        bytes: *const u8,
-        bytes_len: usize,
-        truth: *mut u8,
-        error: *mut Fields,
-    ) -> i32;
-    pub fn hv_typed_size(
-        column: *mut Handle,
-        format: *const u8,
-        format_len: usize,
-        size: *mut usize,
-        error: *mut Fields,
-    ) -> i32;
-    pub fn hv_write_typed(
-        column: *mut Handle,
-        format: *const u8,
-        format_len: usize,
-        bytes: *mut u8,
-        bytes_len: usize,
-        size: *mut usize,
-        error: *mut Fields,
-    ) -> i32;
-    pub fn hv_read_typed(
-        bytes: *const u8,
-        bytes_len: usize,
-        out: *mut Handle,
-        format_at: *mut usize,
-        format_len: *mut usize,
-        error: *mut Fields,
-    ) -> i32;
-    pub fn hv_is_typed_message(
         bytes: *const u8,
         bytes_len: usize,
         truth: *mut u8,

@@ -1,5 +1,6 @@
 -- What is written to the front of a caller's bytes stands there.
-use Rattle.std.proofs.Common.{◌≡◌, ◌∷◌, [], ◌∙◌, ℕ, List, zero, suc, length, take, refl, sym, ap}
+use Rattle.std.proofs.Common.{◌≡◌, ◌∷◌, [], ◌∙◌, ℕ, List, zero, suc, length, take, refl, sym, ap, arith}
+use Rattle.std.proofs.lemmas.List.{take_all}
 use Rattle.c_columns.specs.Front.{front_written}
 use Rattle.c_columns.specs.declared.front.Front.{Front}
 
@@ -24,3 +25,7 @@ pub at_front : (front : Front) (name size : ℕ) (bytes room : List ℕ) → fro
 at_front front name size bytes room h s is =
     let written : take front.count front.room.now ≡ bytes = ap rest h in
     ap (λ (n : ℕ). take n room) s ∙ ap (take (length bytes)) is ∙ ap (λ (t : List ℕ). take (length t) front.room.now) (sym written) ∙ take_same front.count front.room.now ∙ written
+
+-- all of them are written
+pub all_written : (front : Front) (name : ℕ) (bytes room : List ℕ) → front_written front ≡ name ∷ bytes → length room ≡ length bytes → room ≡ front.room.now → room ≡ bytes
+all_written front name bytes room h s is = sym (take_all (length room) room (omega arith)) ∙ at_front front name (length room) bytes room h s is

@@ -6,7 +6,6 @@ mod Cuts
 pub mod Endings
 pub mod Extremes
 pub mod FlatParts
-mod TextFormats
 pub mod Forms
 pub mod Fronts
 pub mod Held
@@ -27,5 +26,4 @@ pub mod Told
 pub mod TrueCounts
 pub mod TwoColumns
 pub mod MessageEndings
-pub mod TypedEndings
 mod NoRuns

@@ -20,5 +20,4 @@ pub mod RunReads
 pub mod Sessions
 pub mod Totals
 pub mod TwoColumns
-pub mod TypedMessages
 pub mod Values

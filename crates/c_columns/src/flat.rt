@@ -38,7 +38,16 @@ pub fn boxed_like(
     ensures column { IfOk result (λ made. made.value.array ≡ array) }
     ensures typed { IfOk result (λ made. format_of made.value ≡ format_of like.now) }
 {
-    let column = TypedColumn::with_format(alloc, array, like.format.as_str())?;
+    boxed_under(alloc, array, like.format.as_str())
+}
+
+/// Puts a column on the heap, with a copy of this format. Refused only for memory.
+pub fn boxed_under(alloc: Global, array: ArrayRef<Global>, format: &str) -> VortexResult<Boxed>
+    ensures only { IsOkUnless result VortexError.OutOfMemory }
+    ensures column { IfOk result (λ made. made.value.array ≡ array) }
+    ensures typed { IfOk result (λ made. format_of made.value ≡ format.now) }
+{
+    let column = TypedColumn::with_format(alloc, array, format)?;
     Ok(Box::new(alloc, column)?)
 }
 

@@ -32,6 +32,5 @@ pub mod texts;
 pub mod totals;
 mod true_counts;
 pub mod two_columns;
-pub mod typed_messages;
 pub mod windows;
 mod words;

@@ -1,5 +1,5 @@
 //! One value of a row, as C reads and writes it.
-ghost use Rattle.std.specs.Prelude.{◌≡◌, ◌<◌, ◌≤◌, ◌⊎◌, ◌↔◌, length, take, IfOk, IfErr, MatchResult, OnOk, Some, OnErr};
+ghost use Rattle.std.specs.Prelude.{◌≡◌, ◌<◌, ◌≤◌, ◌⊎◌, ◌↔◌, drop, length, take, IfOk, IfErr, MatchResult, OnOk, Some, OnErr};
 ghost use Rattle.std.specs.Str.{IsUtf8};
 ghost use Rattle.column_base.specs.declared.dtype.DType.{DType};
 ghost use Rattle.column_core.specs.Value.{Text};
@@ -84,10 +84,11 @@ pub fn null() -> RowValue
     row_value(0, 0, 0, 0)
 }
 
-/// Copies bytes to the front of `room`, and answers how many they are. Refused as `ColumnLength`, with that
-/// number and the room, where there is no room for all.
+/// Copies bytes to the front of `room`, and returns how many they are; those after them stay. Refused as
+/// `ColumnLength`, with that number and the room, where there is no room for all.
 pub fn put_bytes(bytes: &[u8], room: &mut [u8]) -> VortexResult<u64>
     ensures put { IfOk result (λ size. (size ≡ length bytes.now) × (take size room.new ≡ bytes.now)) }
+    ensures after { IfOk result (λ size. drop size room.new ≡ drop size room.old) }
     ensures fits { IfOk result (λ _. length bytes.now ≤ length room.old) }
     ensures refused { IfErr result
         (λ error. (error ≡ VortexError.ColumnLength (length bytes.now) (length room.old))

@@ -5,7 +5,7 @@ pub mod FloatEndings
 pub mod FloatPairEndings
 pub mod OrderEndings
 pub mod DecimalEndings
-pub mod DecimalPairEndings
+mod Calculations
 pub mod PartEndings
 pub mod CastEndings
 pub mod TotalEndings

@@ -1,14 +1,18 @@
 //! The answers for the rows of two columns, on the heap.
 ghost use Rattle.std.specs.Prelude.{◌≡◌, [], Err, Some, IfErr, IfOk};
+ghost use Rattle.runend_array.specs.Array.{dtype_of};
 ghost use Rattle.typed_columns.specs.Typed.{format_of};
-ghost use Rattle.c_kernels.specs.Combined.{pair_fault, row_without, AreCombined, IsPairRefusal};
+ghost use Rattle.c_kernels.specs.Combined.{are_decimals, calculate_fault, pair_fault, row_without, AreCalculated, AreCombined, IsFirstLarge, IsPairRefusal};
 
 use crate::operators::PairOperator;
 use c_columns::flat::{Boxed, boxed};
 use c_columns::sessions::plain_context;
-use column_core::VortexError;
-use runend_array::ArrayRef;
-use runend_pairs::{ZipError, boolean, coalesce, compare, greatest_of, least_of, numeric};
+use column_core::{DType, VortexError};
+use runend_array::{ArrayRef, ExecutionCtx};
+use runend_pairs::{
+    NumericOperator, ZipError, boolean, coalesce, compare, decimal_numeric, greatest_of, least_of,
+    numeric,
+};
 use std::alloc::Global;
 
 /// Returns what the operator answers of the two rows at each place: a constant where both columns are constants that
@@ -51,7 +55,7 @@ fn answers_of(
             Ok(truths)
         }
         PairOperator::Calculate(operator) => {
-            let numbers = numeric(left, operator, right, &mut ctx)?;
+            let numbers = calculate(left, operator, right, &mut ctx)?;
             Ok(numbers)
         }
         PairOperator::Connect(operator) => {
@@ -70,5 +74,38 @@ fn answers_of(
             let rows = greatest_of(left, right, &mut ctx)?;
             Ok(rows)
         }
+    }
+}
+
+// Adds, subtracts or multiplies two columns of decimals, and any others as columns of integers.
+fn calculate(
+    left: &ArrayRef<Global>,
+    operator: NumericOperator,
+    right: &ArrayRef<Global>,
+    ctx: &mut ExecutionCtx<Global>,
+) -> Result<ArrayRef<Global>, ZipError>
+    ensures made { IfOk result (λ made.
+        AreCalculated operator (are_decimals (dtype_of left.now) (dtype_of right.now)) left.now right.now made) }
+    ensures refused { IfErr result (IsPairRefusal
+        (calculate_fault operator (are_decimals (dtype_of left.now) (dtype_of right.now)) left.now right.now)
+        (IsFirstLarge operator (are_decimals (dtype_of left.now) (dtype_of right.now)) left.now right.now)) }
+    ensures first { (error : VortexError) →
+        calculate_fault operator (are_decimals (dtype_of left.now) (dtype_of right.now)) left.now right.now ≡ Some error
+        → result ≡ Err (ZipError.Refused error) }
+{
+    if are_decimals(left.dtype(), right.dtype()) {
+        decimal_numeric(left, operator, right, ctx)
+    } else {
+        numeric(left, operator, right, ctx)
+    }
+}
+
+// Are both types of decimals?
+fn are_decimals(left: DType, right: DType) -> bool
+    ensures { result ≡ are_decimals left right }
+{
+    match (left, right) {
+        (DType::Decimal(_, _), DType::Decimal(_, _)) => true,
+        _ => false,
     }
 }

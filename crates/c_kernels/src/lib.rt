@@ -10,7 +10,6 @@ mod counted;
 mod decimal_calls;
 mod decimal_cast_calls;
 mod decimal_casts;
-mod decimal_pairs;
 mod equal;
 mod float_answers;
 mod float_calls;
@@ -38,7 +37,6 @@ pub use counted::{BoxedCounts, count_values};
 pub use decimal_calls::decimal_sum_in_handle;
 pub use decimal_cast_calls::{cast_decimals_handle, cast_wholes_handle};
 pub use decimal_casts::{decimals_cast, wholes_cast};
-pub use decimal_pairs::combine_decimals;
 pub use equal::{are_equal, equal_handles};
 pub use float_calls::{
     compare_handle, decode_handle, encode_handle, float_in_handle, min_max_in_handle, sum_in_handle,

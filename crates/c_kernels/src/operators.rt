@@ -10,7 +10,7 @@ use runend_pairs::{BooleanOperator, NumericOperator};
 pub enum PairOperator {
     /// Compares the rows of two columns of one kind: booleans.
     Compare(CompareOperator),
-    /// Calculates with integers of one native type: integers of that type.
+    /// Calculates with integers of one native type, which gives integers of that type, or with decimals.
     Calculate(NumericOperator),
     /// Connects booleans, where null is unknown.
     Connect(BooleanOperator),

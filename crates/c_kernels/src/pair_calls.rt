@@ -16,8 +16,8 @@ use std::alloc::Global;
 
 /// Puts what the operator of this number answers of the two rows at each place into a handle, and returns 0. Else
 /// returns the number of an error, and leaves that handle: 23 for a number that names no operator, then 22 for an empty
-/// handle, and then as `combine` is refused, with 14 and the row in the first field for an integer that the type does
-/// not have.
+/// handle, and then as `combine` is refused, with 14 and the row in the first field for an integer or a decimal that
+/// the type of the answers does not have.
 pub fn combine_handles(
     alloc: Global,
     left: &mut Handle,

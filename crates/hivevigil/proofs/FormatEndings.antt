@@ -1,7 +1,8 @@
 -- How the calls on formats end, and which formats commands leave that are made of a scalar.
-use Rattle.std.proofs.Common.{◌≡◌, ◌≢◌, ◌∙◌, ap, refl, sym, subst, pos, ℤ, ℕ, List, []}
+use Rattle.std.proofs.Common.{◌≡◌, ◌≢◌, ◌∙◌, ap, inl, inr, refl, sym, subst, pos, ℤ, ℕ, List, []}
 use Rattle.std.specs.Prelude.{Option, Some, None, Result, Ok, Err, IfErr, IfOk}
 use Rattle.std.specs.Global.{Global}
+use Rattle.std.specs.Str.{IsUtf8}
 use Rattle.column_base.specs.declared.error.VortexError.{VortexError}
 use Rattle.column_base.specs.Error.{number_of}
 use Rattle.column_ops.specs.declared.operator.CompareOperator.{CompareOperator}
@@ -11,7 +12,7 @@ use Rattle.typed_columns.specs.Typed.{format_of}
 use Rattle.typed_columns.specs.declared.typed_column.TypedColumn.{TypedColumn}
 use Rattle.c_columns.specs.Calls.{IsPassedBuilt, compare_with_passed, fill_with_passed}
 use Rattle.c_columns.specs.Ending.{HasFields, LeavesGiven, WhereBoth}
-use Rattle.c_columns.specs.Formats.{EndsOnFormat, IsFormatAtFront, format_after, format_fault, format_given}
+use Rattle.c_columns.specs.Formats.{EndsOnFormat, EndsOnTyping, IsFormatAtFront, TypingFault, format_after, format_fault, format_given}
 use Rattle.c_columns.specs.Handle.{format_in}
 use Rattle.c_columns.specs.ReadFaults.{EndsOnlyBy, IsRefusedOnlyBy}
 use Rattle.c_columns.specs.declared.error_fields.ErrorFields.{ErrorFields}
@@ -20,6 +21,20 @@ use Rattle.c_columns.specs.declared.sessions.Session.{Session}
 
 abbrev Held : Type 0
 Held = Option (TypedColumn Global)
+
+abbrev Rows : Type 0
+Rows = Option (ArrayRef Global)
+
+-- the call that sets a format
+pub typing_empty : (format : List ℕ) (c : Rows) (code : ℤ) (fields : ErrorFields) → c ≡ None → code ≡ pos 22 → EndsOnTyping format c code fields
+typing_empty format c code fields none is = subst (λ (h : Rows). EndsOnTyping format h code fields) (sym none) is
+
+pub typing_done : (format : List ℕ) (c : Rows) (a : ArrayRef Global) (code : ℤ) (fields : ErrorFields) → c ≡ Some a → IsUtf8 format → code ≡ pos 0 → EndsOnTyping format c code fields
+typing_done format c a code fields some text is = subst (λ (h : Rows). EndsOnTyping format h code fields) (sym some) (inl (is, text))
+
+pub typing_refused : (format : List ℕ) (c : Rows) (a : ArrayRef Global) (error : VortexError) (code : ℤ) (fields : ErrorFields)
+    → c ≡ Some a → TypingFault format error → code ≡ pos (number_of error) → HasFields error fields → EndsOnTyping format c code fields
+typing_refused format c a error code fields some why is told = subst (λ (h : Rows). EndsOnTyping format h code fields) (sym some) (inr (error, why, (is, told)))
 
 -- the handle is empty
 pub format_empty : (room : ℕ) (c : Held) (code : ℤ) (fields : ErrorFields) → c ≡ None → code ≡ pos 22 → EndsOnFormat room c code fields

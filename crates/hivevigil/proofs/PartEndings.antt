@@ -11,7 +11,6 @@ use Rattle.column_core.specs.Refusal.{IsErrorFor}
 use Rattle.runend_array.specs.Array.{column_of}
 use Rattle.runend_array.specs.declared.array_ref.ArrayRef.{ArrayRef}
 use Rattle.c_columns.specs.Ending.{EndsAs, EndsOnHeld, EndsOnHeldUnless, EndsOnParts, EndsOnRuns, EndsUnless, HasFields, IsShortOr}
-use Rattle.c_columns.specs.Messages.{EndsOnSize, SizeFault}
 use Rattle.c_columns.specs.RunParts.{no_runs_fault}
 use Rattle.c_columns.specs.declared.error_fields.ErrorFields.{ErrorFields}
 use Rattle.c_columns.proofs.Endings.{ends_done, ends_refused}
@@ -96,17 +95,6 @@ pub held_unless_ends : {T X : Type 0} (outcome : Result T VortexError) (value : 
     → IfErr outcome (λ why. (code ≡ pos (number_of why)) × (code ≢ pos 0) × (out ≡ old) × HasFields why fields) → EndsOnHeldUnless Fault c code fields
 held_unless_ends (Ok made) value Fault c out old a code fields some served refused ok err = held_unless_done Fault c a code fields some served ok.0
 held_unless_ends (Err error) value Fault c out old a code fields some served refused ok err = held_unless_refused Fault c a error code fields some refused err.0 err.3
-
--- how many bytes a message has
-pub size_empty : (c : Held) (code : ℤ) (fields : ErrorFields) → c ≡ None → code ≡ pos 22 → EndsOnSize c code fields
-size_empty c code fields none is = subst (λ (h : Held). EndsOnSize h code fields) (sym none) is
-
-pub size_done : (c : Held) (a : ArrayRef Global) (code : ℤ) (fields : ErrorFields) → c ≡ Some a → ((error : VortexError) → ¬ SizeFault a error) → code ≡ pos 0 → EndsOnSize c code fields
-size_done c a code fields some none is = subst (λ (h : Held). EndsOnSize h code fields) (sym some) (inl (is, none))
-
-pub size_refused : (c : Held) (a : ArrayRef Global) (error : VortexError) (code : ℤ) (fields : ErrorFields)
-    → c ≡ Some a → SizeFault a error → code ≡ pos (number_of error) → HasFields error fields → EndsOnSize c code fields
-size_refused c a error code fields some why is told = subst (λ (h : Held). EndsOnSize h code fields) (sym some) (inr (error, why, (is, told)))
 
 -- faults of ends and values
 abbrev PartFaults : Type 1

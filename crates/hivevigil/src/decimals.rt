@@ -1,19 +1,16 @@
 //! Calls on columns of decimals of up to 38 digits.
 ghost use Rattle.std.specs.Prelude.{◌≡◌, ◌≢◌, [], IsSomeAnd, MatchOption, pos};
 ghost use Rattle.runend_decimals.specs.Rows.{decimals_fault};
-ghost use Rattle.c_columns.specs.Ending.{WhereAll, WhereBoth};
+ghost use Rattle.c_columns.specs.Ending.{WhereBoth};
 ghost use Rattle.c_columns.specs.Handle.{array_in, format_in};
 ghost use Rattle.c_columns.specs.Kinds.{ptype_by};
 ghost use Rattle.c_kernels.specs.DecimalCasts.{exact_fault, AreDecimals, AreWholes, EndsOnRescale, FailsAsDecimals, FailsAsWholes, IsPrecision};
-ghost use Rattle.c_kernels.specs.DecimalPairs.{numeric_numbered, AreDecimalsCombined, EndsOnDecimalPairs};
 ghost use Rattle.c_kernels.specs.Decimals.{EndsOnDecimals, IsDecimalSum};
 
 use c_columns::error_fields::ErrorFields;
 use c_columns::handle::Handle;
 use c_columns::pairs::Pair;
-use c_kernels::{
-    cast_decimals_handle, cast_wholes_handle, combine_decimals, decimal_sum_in_handle,
-};
+use c_kernels::{cast_decimals_handle, cast_wholes_handle, decimal_sum_in_handle};
 use column_core::DecimalDType;
 use std::alloc::Global;
 
@@ -83,31 +80,4 @@ pub extern "C" fn hv_decimal_to_integers(
         (FailsAsWholes ptype) (array_in decimals.old.column) result error.new) }
 {
     cast_wholes_handle(alloc, decimals, to, out, error)
-}
-
-/// Makes the sum, difference or product of the decimals at each place, as the operator of this number says, in runs, as
-/// few as possible, or in a constant. Refused as `Unsupported` unless both columns are of decimals, then as
-/// `TypeMismatch` where their scales do not go together, then as `ColumnLength`; with 14 and the row for an answer of
-/// more digits than the type of the answers has. Returns 23 for a number of another operator or of none.
-#[unsafe(no_mangle)]
-pub extern "C" fn hv_decimal_combine(
-    alloc: Global,
-    left: &mut Handle,
-    operator: u8,
-    right: &mut Handle,
-    out: &mut Handle,
-    error: &mut ErrorFields,
-) -> i32
-    ensures same { left.new.column ≡ left.old.column }
-    ensures same_right { right.new.column ≡ right.old.column }
-    ensures made { result ≡ pos 0 → IsSomeAnd (numeric_numbered operator)
-        (λ operator. WhereAll (AreDecimalsCombined operator) (array_in left.old.column) (array_in right.old.column)
-        (array_in out.new.column)) }
-    ensures untyped { result ≡ pos 0 → format_in out.new.column ≡ [] }
-    ensures kept { result ≢ pos 0 → out.new.column ≡ out.old.column }
-    ensures ended { MatchOption (numeric_numbered operator) (result ≡ pos 23)
-        (λ operator. EndsOnDecimalPairs operator (array_in left.old.column)
-        (array_in right.old.column) result error.new) }
-{
-    combine_decimals(alloc, left, operator, right, out, error)
 }

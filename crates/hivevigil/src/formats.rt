@@ -1,10 +1,9 @@
 //! Calls that set and read the format of Arrow that says what the rows of a column mean.
-ghost use Rattle.std.specs.Prelude.{◌≡◌, ◌≢◌, length, pos};
-ghost use Rattle.c_columns.specs.Ending.{EndsOnHeldUnless, WhereBoth};
-ghost use Rattle.c_columns.specs.Formats.{EndsOnFormat, IsFormatAtFront};
+ghost use Rattle.std.specs.Prelude.{◌≡◌, ◌≢◌, drop, length, pos};
+ghost use Rattle.c_columns.specs.Ending.{WhereBoth};
+ghost use Rattle.c_columns.specs.Formats.{EndsOnFormat, EndsOnTyping, IsFormatAtFront};
 ghost use Rattle.c_columns.specs.Handle.{array_in, format_in};
 ghost use Rattle.c_columns.specs.Makers.{IsCopyOf};
-ghost use Rattle.c_columns.specs.TypedMessages.{IsNoName};
 
 use c_columns::commands::answer;
 use c_columns::error_fields::{ErrorFields, NO_COLUMN, write_answer};
@@ -14,7 +13,7 @@ use std::alloc::Global;
 
 /// Makes a copy of a column under this format; an empty one says that it has none. Any text is kept, also one that
 /// names no type. Refused as `TypeMismatch` exactly where it is not UTF-8, else as `OutOfMemory` only.
-#[tactic(auto, using(crate::proofs::PartEndings::held_unless_empty, crate::proofs::PartEndings::held_unless_done, crate::proofs::PartEndings::held_unless_refused))]
+#[tactic(auto, using(crate::proofs::FormatEndings::typing_empty, crate::proofs::FormatEndings::typing_done, crate::proofs::FormatEndings::typing_refused))]
 #[unsafe(no_mangle)]
 pub extern "C" fn hv_with_type(
     alloc: Global,
@@ -27,7 +26,7 @@ pub extern "C" fn hv_with_type(
     ensures made { result ≡ pos 0 → WhereBoth IsCopyOf (array_in column.old.column) (array_in out.new.column) }
     ensures typed { result ≡ pos 0 → format_in out.new.column ≡ format.now }
     ensures kept { result ≢ pos 0 → out.new.column ≡ out.old.column }
-    ensures ended { EndsOnHeldUnless (λ c. IsNoName format.now) (array_in column.old.column) result error.new }
+    ensures ended { EndsOnTyping format.now (array_in column.old.column) result error.new }
 {
     let Some(held) = column.take(alloc) else {
         return NO_COLUMN;
@@ -38,7 +37,8 @@ pub extern "C" fn hv_with_type(
 }
 
 /// Writes the format of a column: its bytes go to the front of `format`, and `size` says how many they are, 0 where the
-/// column has none. Takes no memory. Answers 11, with their number and the room, exactly where they have no room there.
+/// column has none; those after them stay. Takes no memory. Answers 11, with their number and the room, exactly where
+/// they have no room there.
 #[tactic(auto, using(crate::proofs::FormatEndings::format_empty, crate::proofs::FormatEndings::format_ends, crate::proofs::FormatEndings::format_written))]
 #[unsafe(no_mangle)]
 pub extern "C" fn hv_type(
@@ -50,6 +50,7 @@ pub extern "C" fn hv_type(
 ) -> i32
     ensures same { column.new.column ≡ column.old.column }
     ensures told { result ≡ pos 0 → IsFormatAtFront (format_in column.old.column) size.new format.new }
+    ensures after { result ≡ pos 0 → drop size.new format.new ≡ drop size.new format.old }
     ensures kept { result ≢ pos 0 → format.new ≡ format.old }
     ensures kept_size { result ≢ pos 0 → size.new ≡ size.old }
     ensures ended { EndsOnFormat (length format.old) column.old.column result error.new }

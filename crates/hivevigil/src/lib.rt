@@ -24,6 +24,5 @@ mod sizes;
 mod sorts;
 mod sums;
 mod texts;
-mod typed_messages;
 mod versions;
 mod windows;

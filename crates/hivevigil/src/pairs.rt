@@ -20,8 +20,8 @@ use std::alloc::Global;
 
 /// Makes what the operator of this number answers of the two rows at each place, in runs, as few as possible, or in a
 /// constant. Refused as `Unsupported` for columns that the operator does not serve, then as `TypeMismatch` for two
-/// types, then as `ColumnLength`; with 14 and the row for an integer that the type does not have. Returns 23 for a
-/// number of no operator.
+/// types, or for decimals whose scales do not go together, then as `ColumnLength`; with 14 and the row for an integer
+/// or a decimal that the type of the answers does not have. Returns 23 for a number of no operator.
 #[unsafe(no_mangle)]
 pub extern "C" fn hv_combine(
     alloc: Global,
