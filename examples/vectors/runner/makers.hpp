@@ -347,11 +347,14 @@ inline Call read_encoding(const Words &words, const Workspace &workspace) {
 inline Call read_from(const Words &words, const Workspace &) {
     require(!words.empty() && (words[0] == "bytes" || words[0] == "typed_bytes"));
     const std::string bytes = read_bytes(words_from(words, 1));
-    if (words[0] == "bytes") return [=] { return done(read_message(bytes)); };
-    return making([=](hv_column *out, hv_error *error) {
-        size_t format_at = 0, format_size = 0;
-        return hv_read_typed(data_of(bytes), bytes.size(), out, &format_at, &format_size, error);
-    });
+    const bool is_typed = words[0] == "typed_bytes";
+    return [=] {
+        const Shared column = read_message(bytes);
+        const bool has_format = !format_of(*column, bytes.size()).empty();
+        // The call reads messages of both versions; a line of `bytes` has those without a format only.
+        if (has_format && !is_typed) throw Refused(HV_BAD_METADATA);
+        return done(has_format ? under(*column, "") : column);
+    };
 }
 
 } // namespace vectors

@@ -215,5 +215,21 @@ inline Shared read_message(const std::string &bytes) {
     });
 }
 
+// The column under another format. The columns of lines have none.
+inline Shared under(const Column &column, const std::string &format) {
+    const Memory::Aside aside;
+    return made([&](hv_column *out, hv_error *error) {
+        return hv_with_type(column.get(), data_of(format), format.size(), out, error);
+    });
+}
+
+// The format of a column, of at most so many bytes.
+inline std::string format_of(const Column &column, size_t most) {
+    std::string format(most, 0);
+    size_t size = 0;
+    ask([&](hv_error *error) { return hv_type(column.get(), data_of(format), most, &size, error); });
+    return format.substr(0, size);
+}
+
 } // namespace vectors
 #endif

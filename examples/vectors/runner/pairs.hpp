@@ -26,6 +26,8 @@ inline bool is_arithmetic(uint8_t operator_) { return operator_ >= HV_ADD && ope
 inline Call read_pair(const Words &words, const Workspace &workspace) {
     const uint8_t operator_ = pair_operator(words[1]).value();
     const Shared left = workspace.find(words[0]), right = workspace.find(words[2]);
+    if (is_arithmetic(operator_) && left->kind().number == HV_DECIMAL && right->kind().number == HV_DECIMAL)
+        throw NotServed("decimals added, subtracted or multiplied as integers", true);
     return making(
         [=](hv_column *out, hv_error *error) { return hv_combine(left->get(), operator_, right->get(), out, error); },
         is_arithmetic(operator_));
@@ -67,12 +69,15 @@ inline Call read_if_else(const Words &words, const Workspace &workspace) {
 
 using PairCall = int32_t (*)(const hv_column *, uint8_t, const hv_column *, hv_column *, hv_error *);
 
-// Arithmetic of floats, which are divided too, or of decimals.
+// Arithmetic of floats, which are divided too, or of decimals. The call for decimals serves integers too, which these
+// lines refuse.
 template <PairCall call, bool is_float> Call read_arithmetic(const Words &words, const Workspace &workspace) {
     require(words.size() == 3);
     const uint8_t operator_ = pair_operator(words[1]).value_or(HV_DIVIDE);
     require(is_arithmetic(operator_) || (is_float && words[1] == "/"));
     const Shared left = workspace.find(words[0]), right = workspace.find(words[2]);
+    if (!is_float && is_integer(left->kind()) && is_integer(right->kind()))
+        throw NotServed("integers added, subtracted or multiplied as decimals", true);
     return making(
         [=](hv_column *out, hv_error *error) { return call(left->get(), operator_, right->get(), out, error); },
         !is_float);
@@ -225,7 +230,7 @@ inline const std::map<std::string, Maker> &makers() {
         {"compare_numbers", read_float_compare<true>},
         {"compare_total", read_float_compare<false>},
         {"float_numeric", read_arithmetic<hv_call_float_combine, true>},
-        {"decimal_numeric", read_arithmetic<hv_call_decimal_combine, false>},
+        {"decimal_numeric", read_arithmetic<hv_call_combine, false>},
         {"rescale", read_decimal_cast<true>},
         {"decimals_of", read_decimal_cast<false>},
         {"integers_of", read_to_integers<hv_call_decimal_to_integers, true>},

@@ -87,18 +87,7 @@ inline Command read_typed_bytes(const Words &words, const Workspace &) {
     const std::optional<std::string> quoted = between(words[1], "\"", '"');
     require(quoted.has_value());
     const std::string format = text_of_quoted(*quoted);
-    return [format](const Column &column) {
-        size_t size = 0;
-        ask([&](hv_error *error) {
-            return hv_typed_size(column.get(), data_of(format), format.size(), &size, error);
-        });
-        std::string bytes(size, 0);
-        ask([&](hv_error *error) {
-            return hv_write_typed(column.get(), data_of(format), format.size(), data_of(bytes), bytes.size(), &size,
-                                  error);
-        });
-        return said(byte_words(bytes));
-    };
+    return [format](const Column &column) { return said(byte_words(message_of(*under(column, format)))); };
 }
 
 // ---- Floats and decimals ----
@@ -238,11 +227,8 @@ private:
 
 // What a message says of a logical type.
 inline Answer logical_type(const std::string &bytes) {
-    size_t at = 0, size = 0;
-    made([&](hv_column *out, hv_error *error) {
-        return hv_read_typed(data_of(bytes), bytes.size(), out, &at, &size, error);
-    });
-    return said(word_of_text(bytes.substr(at, size)));
+    const Shared column = read_message(bytes);
+    return said(word_of_text(format_of(*column, bytes.size())));
 }
 
 // The words after `read`.
