@@ -30,6 +30,7 @@ CALL(hv_compare_scalar, "`hv_compare_scalar`", PLAIN,
 CALL(hv_fill, "`hv_fill`", PLAIN, hv_fill(SESSION, COLUMN, &in->value, TEXT, OUT))
 CALL(hv_combine, "`hv_combine`", PLAIN, hv_combine(COLUMN, HV_LT, &in->other, OUT))
 CALL(hv_combine, "`hv_combine`", NUMBERS, hv_combine(COLUMN, HV_ADD, &in->other, OUT))
+CALL(hv_combine, "`hv_combine`", DECIMALS, hv_combine(COLUMN, HV_MULTIPLY, &in->other, OUT))
 CALL(hv_combine, "`hv_combine`", BOOLEANS, hv_combine(COLUMN, HV_AND, &in->other, OUT))
 CALL(hv_combine, "`hv_combine`", NUMBERS | DECIMALS, hv_combine(COLUMN, HV_COALESCE, &in->other, OUT))
 CALL(hv_not, "`hv_not`", BOOLEANS, hv_not(COLUMN, OUT))
@@ -66,12 +67,10 @@ CALL(hv_offset, SIZES, ALL, (in->size = hv_offset(COLUMN), 0))
 CALL(hv_bytes_used, SIZES, ALL, (in->size = hv_bytes_used(COLUMN), 0))
 
 CALL(hv_decimal_sum, "`hv_decimal_sum`", DECIMALS, hv_decimal_sum(COLUMN, in->pairs, &in->flag, &in->error))
-CALL(hv_decimal_cast, "`hv_decimal_cast`, `hv_decimal_to_integers`, `hv_decimal_combine`", NUMBERS | DECIMALS,
+CALL(hv_decimal_cast, "`hv_decimal_cast`, `hv_decimal_to_integers`", NUMBERS | DECIMALS,
      hv_decimal_cast(COLUMN, 20, 4, OUT))
-CALL(hv_decimal_to_integers, "`hv_decimal_cast`, `hv_decimal_to_integers`, `hv_decimal_combine`", DECIMALS,
+CALL(hv_decimal_to_integers, "`hv_decimal_cast`, `hv_decimal_to_integers`", DECIMALS,
      hv_decimal_to_integers(COLUMN, HV_I32, OUT))
-CALL(hv_decimal_combine, "`hv_decimal_cast`, `hv_decimal_to_integers`, `hv_decimal_combine`", DECIMALS,
-     hv_decimal_combine(COLUMN, HV_MULTIPLY, &in->other, OUT))
 CALL(hv_float_encode, "`hv_float_encode`", INTEGERS, hv_float_encode(&in->bits, 1, OUT))
 CALL(hv_float_decode, "`hv_float_decode`", FLOATS | CONSTANTS, hv_float_decode(COLUMN, OUT))
 CALL(hv_float_compare, "`hv_float_compare`", FLOATS | CONSTANTS, hv_float_compare(COLUMN, HV_LT, 0, 1, OUT))
@@ -139,12 +138,11 @@ CALL(hv_write_size, MESSAGES, ALL, hv_write_size(COLUMN, &in->size, &in->error))
 CALL(hv_write, MESSAGES, ALL, hv_write(COLUMN, in->bytes, ROOM, &in->size, &in->error))
 CALL(hv_read_column, MESSAGES, ALL, hv_read_column(in->message, in->message_size, OUT))
 CALL(hv_is_message, MESSAGES, ALL, hv_is_message(in->message, in->message_size, &in->flag, &in->error))
-#define TYPED "`hv_typed_size`, `hv_write_typed`, `hv_read_typed`, `hv_is_typed_message`"
-CALL(hv_typed_size, TYPED, ALL, hv_typed_size(COLUMN, (const uint8_t *)"tdD", 3, &in->size, &in->error))
-CALL(hv_write_typed, TYPED, ALL,
-     hv_write_typed(COLUMN, (const uint8_t *)"tdD", 3, in->bytes, ROOM, &in->size, &in->error))
-CALL(hv_read_typed, TYPED, ALL, hv_read_typed(in->typed, in->typed_size, &in->out, &in->size, &in->stop, &in->error))
-CALL(hv_is_typed_message, TYPED, ALL, hv_is_typed_message(in->typed, in->typed_size, &in->flag, &in->error))
+#define TYPED "`hv_write_size`, `hv_write`, `hv_read_column`, `hv_is_message`, under a format"
+CALL(hv_write_size, TYPED, ALL, hv_write_size(&in->dates, &in->size, &in->error))
+CALL(hv_write, TYPED, ALL, hv_write(&in->dates, in->bytes, ROOM, &in->size, &in->error))
+CALL(hv_read_column, TYPED, ALL, hv_read_column(in->dates_message, in->dates_size, OUT))
+CALL(hv_is_message, TYPED, ALL, hv_is_message(in->dates_message, in->dates_size, &in->flag, &in->error))
 #define FORMATS "`hv_with_type`, `hv_type`"
 CALL(hv_with_type, FORMATS, ALL, hv_with_type(COLUMN, (const uint8_t *)"tdD", 3, OUT))
 CALL(hv_type, FORMATS, ALL, hv_type(COLUMN, in->bytes, ROOM, &in->size, &in->error))

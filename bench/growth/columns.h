@@ -30,6 +30,7 @@ typedef struct inputs {
     unsigned kind;
     hv_session session;
     hv_column column, other;  /* of the kind, the second with runs that end elsewhere */
+    hv_column dates;          /* `column`, under the format of dates */
     hv_column mask, places, codes, bits, few; /* in runs, the last of five rows */
     hv_column five, all;                      /* the same five indices, flat, and a constant that is true */
     hv_column ends, values;   /* the parts of `column`, where it is in runs */
@@ -40,9 +41,9 @@ typedef struct inputs {
     hv_kind type, cast_to;
     hv_error error;
     hv_total total;
-    size_t size, start, stop, start_of_run, message_size, typed_size;
+    size_t size, start, stop, start_of_run, message_size, dates_size;
     uint64_t number, other_number;
-    uint8_t flag, text[ROOM], bytes[ROOM], message[ROOM], typed[ROOM];
+    uint8_t flag, text[ROOM], bytes[ROOM], message[ROOM], dates_message[ROOM];
 } inputs;
 
 /* Ends the process where an input cannot be made: a fault of this program. */
@@ -162,6 +163,7 @@ static inline void make_inputs(inputs *in, unsigned kind, size_t rows) {
     make_others(in);
     if (kind & PLAIN) MADE(hv_at(&in->column, 0, &in->value, in->text, ROOM, NULL));
     MADE(hv_write(&in->column, in->message, ROOM, &in->message_size, NULL));
-    MADE(hv_write_typed(&in->column, (const uint8_t *)"tdD", 3, in->typed, ROOM, &in->typed_size, NULL));
+    MADE(hv_with_type(&in->column, (const uint8_t *)"tdD", 3, &in->dates, NULL));
+    MADE(hv_write(&in->dates, in->dates_message, ROOM, &in->dates_size, NULL));
 }
 #endif

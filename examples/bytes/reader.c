@@ -103,48 +103,45 @@ static void print_rows(const hv_column *column, size_t rows) {
     }
 }
 
-static void print_written(const hv_column *column, const uint8_t *format, size_t format_len) {
+static void print_written(const hv_column *column) {
     hv_error error;
     size_t size, written;
-    expect(hv_typed_size(column, format, format_len, &size, &error), 0, "hv_typed_size");
+    expect(hv_write_size(column, &size, &error), 0, "hv_write_size");
     uint8_t *bytes = some(malloc(size));
-    expect(hv_write_typed(column, format, format_len, bytes, size, &written, &error), 0, "hv_write_typed");
+    expect(hv_write(column, bytes, size, &written, &error), 0, "hv_write");
     expect(written == size, 1, "the size");
     printf(" = ");
     print_digits(bytes, size);
     free(bytes);
 }
 
-/* The calls of columns without a logical type read the same, where the message has none, and refuse any other. */
-static void expect_untyped(const uint8_t *bytes, size_t len, bool is_due) {
-    hv_column column = HV_EMPTY;
+/* The format, which a message of this length has room for. */
+static void print_format(const hv_column *column, size_t len) {
     hv_error error;
-    uint8_t is_message;
-    expect(hv_read_column(bytes, len, &column, &error), is_due ? HV_OK : HV_BAD_METADATA, "hv_read_column");
-    expect(hv_is_message(bytes, len, &is_message, &error), 0, "hv_is_message");
-    expect(is_message, is_due, "hv_is_message, in its truth,");
-    hv_free(&column);
+    size_t size;
+    uint8_t *format = some(malloc(len));
+    expect(hv_type(column, format, len, &size, &error), 0, "hv_type");
+    if (size) printf(" of '"), print_digits(format, size);
+    free(format);
 }
 
 static void answer(const uint8_t *bytes, size_t len) {
     hv_column column = HV_EMPTY;
     hv_error error;
     uint8_t is_message;
-    size_t at = 0, format_len = 0;
-    int32_t read = hv_read_typed(bytes, len, &column, &at, &format_len, &error);
-    expect(hv_is_typed_message(bytes, len, &is_message, &error), 0, "hv_is_typed_message");
-    expect(is_message, read == 0, "hv_is_typed_message, in its truth,");
-    expect_untyped(bytes, len, read == 0 && format_len == 0);
+    int32_t read = hv_read_column(bytes, len, &column, &error);
+    expect(hv_is_message(bytes, len, &is_message, &error), 0, "hv_is_message");
+    expect(is_message, read == 0, "hv_is_message, in its truth,");
     if (read != 0) {
-        expect(read, HV_BAD_METADATA, "hv_read_typed");
+        expect(read, HV_BAD_METADATA, "hv_read_column");
         puts("refused");
         return;
     }
     size_t rows = hv_length(&column);
     printf("%zu rows:", rows);
     print_rows(&column, rows < SHOWN ? rows : SHOWN);
-    if (format_len) printf(" of '"), print_digits(bytes + at, format_len);
-    print_written(&column, bytes + at, format_len);
+    print_format(&column, len);
+    print_written(&column);
     putchar('\n');
     hv_free(&column);
 }

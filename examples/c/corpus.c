@@ -319,26 +319,21 @@ static bool make(hv_column *out) {
 
 static void expect_bytes(const hv_column *column, const char *type, const uint8_t *bytes, size_t len) {
     static uint8_t written[LINE];
-    const uint8_t *const name = (const uint8_t *)type;
-    const size_t name_len = strlen(type);
     size_t size = 0, needed = 0;
-    CHECK(!hv_typed_size(column, name, name_len, &needed, &error) && needed == len);
-    CHECK(!hv_write_typed(column, name, name_len, written, sizeof written, &size, &error) && size == len);
-    CHECK(!memcmp(written, bytes, len));
-    if (name_len) return;
-    CHECK(!hv_write_size(column, &needed, &error) && needed == len);
-    CHECK(!hv_write(column, written, sizeof written, &size, &error) && size == len && !memcmp(written, bytes, len));
+    hv_column typed = HV_EMPTY;
+    CHECK(!hv_with_type(column, (const uint8_t *)type, strlen(type), &typed, &error));
+    CHECK(!hv_write_size(&typed, &needed, &error) && needed == len);
+    CHECK(!hv_write(&typed, written, sizeof written, &size, &error) && size == len && !memcmp(written, bytes, len));
+    hv_free(&typed);
 }
 
-/* What is read has this logical type; without one it is what the calls of no types read too. */
+/* What is read has this logical type as its format. */
 static void read_bytes(const uint8_t *bytes, size_t len, const char *type, hv_column *out) {
-    hv_column typed = HV_EMPTY;
-    size_t at, count;
-    CHECK(!hv_read_typed(bytes, len, &typed, &at, &count, &error));
-    CHECK(count == strlen(type) && !memcmp(bytes + at, type, count));
-    CHECK(hv_read_column(bytes, len, out, &error) == (count ? HV_BAD_METADATA : HV_OK));
-    if (count) hv_put(out, &typed);
-    hv_free(&typed);
+    static uint8_t format[LINE];
+    size_t count;
+    CHECK(!hv_read_column(bytes, len, out, &error));
+    CHECK(!hv_type(out, format, sizeof format, &count, &error));
+    CHECK(count == strlen(type) && !memcmp(format, type, count));
 }
 
 /* Is the column made by calls too? */

@@ -252,7 +252,7 @@ static void check_compared(const hv_column *a, const rows *left, const hv_column
 
 /* ---- Worked and picked ---- */
 
-/* Sums, differences and picks of columns of one type, which hv_decimal_combine and hv_combine serve. */
+/* Sums, differences and picks of columns of one type, which hv_combine serves. */
 static void check_worked(const rows *left, const rows *right, hv_column *made) {
     static const uint8_t operators[] = {HV_ADD, HV_SUBTRACT, HV_COALESCE, HV_LESSER, HV_GREATER};
     const uint8_t by = operators[next() % 5];
@@ -260,8 +260,7 @@ static void check_worked(const rows *left, const rows *right, hv_column *made) {
     size_t row;
     hv_column found = HV_EMPTY;
     align_rows(left, right, &lefts, &rights, &row);
-    const int32_t answer = by < HV_COALESCE ? hv_decimal_combine(&made[0], by, &made[1], &found, &error)
-                                            : hv_combine(&made[0], by, &made[1], &found, &error);
+    const int32_t answer = hv_combine(&made[0], by, &made[1], &found, &error);
     for (row = 0; row < left->count; row++) {
         const wide a = lefts.numbers[row], b = rights.numbers[row];
         const bool are_valid = lefts.valid[row] && rights.valid[row];

@@ -267,11 +267,6 @@ static void check_rows_given(const hv_column *found, uint8_t by, const rows *lef
     }
 }
 
-static int32_t worked(const hv_column *left, uint8_t by, const hv_column *right, hv_column *out) {
-    if (by >= HV_COALESCE) return hv_combine(left, by, right, out, &error);
-    return hv_decimal_combine(left, by, right, out, &error);
-}
-
 /* How many digits answers may have. */
 static int digits_of(uint8_t by, int one, int other) {
     const int greater = one > other ? one : other;
@@ -294,10 +289,10 @@ static bool check_pair(void) {
     size_t due_runs, runs = 1;
     const size_t row = first_without(by, &left, &right, past, &due_runs);
     const bool is_had = row == count;
-    if (!is_had) CHECK_REFUSED(worked(&a, by, &b, &found), HV_CAST_OUT_OF_RANGE, row, 0, 0);
+    if (!is_had) CHECK_REFUSED(hv_combine(&a, by, &b, &found, &error), HV_CAST_OUT_OF_RANGE, row, 0, 0);
     else {
         const bool are_constants = hv_form(&a) == FORM_CONSTANT && hv_form(&b) == FORM_CONSTANT;
-        CHECK(!worked(&a, by, &b, &found));
+        CHECK(!hv_combine(&a, by, &b, &found, &error));
         check_rows_given(&found, by, &left, &right, past);
         const hv_kind kind = hv_kind_of(&found);
         CHECK(kind.number == HV_DECIMAL && kind.nullable == 1 && kind.precision == digits);
@@ -342,34 +337,35 @@ static hv_column one_row(wide number, uint8_t precision, int8_t scale) {
 static void check_pairs_refused(void) {
     const int64_t numbers[2] = {4, 5};
     hv_column cents = one_row(GREATEST, 38, 2), mills = one_row(1, 38, 3), far = one_row(1, 38, 126), found = HV_EMPTY;
-    hv_column wrong = HV_EMPTY, two = HV_EMPTY, near = one_row(-1, 38, -128), small = one_row(9, 1, 2);
-    hv_column large = one_row(-GREATEST, 38, 0);
+    hv_column wrong = HV_EMPTY, two = HV_EMPTY, two_again = HV_EMPTY, near = one_row(-1, 38, -128);
+    hv_column small = one_row(9, 1, 2), large = one_row(-GREATEST, 38, 0);
     const hv_pair pairs[2] = {{1, 0}, {2, 0}};
     CHECK(!hv_i64(numbers, 2, NOT_NULLABLE, &wrong, &error));
-    CHECK(!hv_decimals(pairs, 2, 38, 2, NOT_NULLABLE, &two, &error));
-    CHECK_REFUSED(hv_decimal_combine(&cents, HV_ADD, &mills, &found, &error), HV_TYPE_MISMATCH, 0, 0, 0);
-    CHECK_REFUSED(hv_decimal_combine(&mills, HV_SUBTRACT, &two, &found, &error), HV_TYPE_MISMATCH, 0, 0, 0);
-    CHECK_REFUSED(hv_decimal_combine(&far, HV_MULTIPLY, &two, &found, &error), HV_TYPE_MISMATCH, 0, 0, 0);
-    CHECK_REFUSED(hv_decimal_combine(&two, HV_ADD, &cents, &found, &error), HV_COLUMN_LENGTH, 2, 1, 0);
-    CHECK_REFUSED(hv_decimal_combine(&two, HV_ADD, &wrong, &found, &error), HV_UNSUPPORTED, 0, 0, 0);
-    CHECK_REFUSED(hv_decimal_combine(&wrong, HV_MULTIPLY, &cents, &found, &error), HV_UNSUPPORTED, 0, 0, 0);
-    CHECK_REFUSED(hv_decimal_combine(&cents, HV_ADD, &small, &found, &error), HV_CAST_OUT_OF_RANGE, 0, 0, 0);
-    CHECK_REFUSED(hv_decimal_combine(&cents, HV_MULTIPLY, &large, &found, &error), HV_CAST_OUT_OF_RANGE, 0, 0, 0);
-    for (int number = 0; number < 256; number++)
-        if (number < HV_ADD || number > HV_MULTIPLY)
-            CHECK(hv_decimal_combine(&cents, (uint8_t)number, &small, &found, &error) == HV_BAD_NUMBER);
+    CHECK(!hv_decimals(pairs, 2, 38, 2, NOT_NULLABLE, &two, &error) && !hv_clone(&two, &two_again, &error));
+    CHECK_REFUSED(hv_combine(&cents, HV_ADD, &mills, &found, &error), HV_TYPE_MISMATCH, 0, 0, 0);
+    CHECK_REFUSED(hv_combine(&mills, HV_SUBTRACT, &two, &found, &error), HV_TYPE_MISMATCH, 0, 0, 0);
+    CHECK_REFUSED(hv_combine(&far, HV_MULTIPLY, &two, &found, &error), HV_TYPE_MISMATCH, 0, 0, 0);
+    CHECK_REFUSED(hv_combine(&two, HV_ADD, &cents, &found, &error), HV_COLUMN_LENGTH, 2, 1, 0);
+    CHECK_REFUSED(hv_combine(&two, HV_ADD, &wrong, &found, &error), HV_UNSUPPORTED, 0, 0, 0);
+    CHECK_REFUSED(hv_combine(&wrong, HV_MULTIPLY, &cents, &found, &error), HV_UNSUPPORTED, 0, 0, 0);
+    CHECK_REFUSED(hv_combine(&cents, HV_ADD, &small, &found, &error), HV_CAST_OUT_OF_RANGE, 0, 0, 0);
+    CHECK_REFUSED(hv_combine(&cents, HV_MULTIPLY, &large, &found, &error), HV_CAST_OUT_OF_RANGE, 0, 0, 0);
+    CHECK_REFUSED(hv_combine(&two, HV_AND, &two_again, &found, &error), HV_UNSUPPORTED, 0, 0, 0);
+    CHECK_REFUSED(hv_combine(&two, HV_OR, &two_again, &found, &error), HV_UNSUPPORTED, 0, 0, 0);
+    for (int number = HV_GREATER + 1; number < 256; number++)
+        CHECK(hv_combine(&two, (uint8_t)number, &two_again, &found, &error) == HV_BAD_NUMBER);
     CHECK_REFUSED(hv_combine(&cents, HV_LESSER, &mills, &found, &error), HV_TYPE_MISMATCH, 0, 0, 0);
     CHECK_REFUSED(hv_combine(&cents, HV_COALESCE, &small, &found, &error), HV_TYPE_MISMATCH, 0, 0, 0);
     CHECK_REFUSED(hv_combine(&wrong, HV_GREATER, &two, &found, &error), HV_TYPE_MISMATCH, 0, 0, 0);
     CHECK_REFUSED(hv_combine(&two, HV_GREATER, &cents, &found, &error), HV_COLUMN_LENGTH, 2, 1, 0);
     hv_column none = HV_EMPTY;
-    CHECK(hv_decimal_combine(&none, HV_ADD, &cents, &found, &error) == HV_NO_COLUMN);
-    CHECK(hv_decimal_combine(&cents, HV_ADD, &none, &found, NULL) == HV_NO_COLUMN && hv_form(&found) == FORM_NONE);
-    CHECK(!hv_decimal_combine(&far, HV_MULTIPLY, &near, &found, &error) && hv_kind_of(&found).scale == -2);
-    CHECK(!hv_decimal_combine(&cents, HV_SUBTRACT, &small, &found, &error) && hv_kind_of(&found).nullable == 0);
+    CHECK(hv_combine(&none, HV_ADD, &cents, &found, &error) == HV_NO_COLUMN);
+    CHECK(hv_combine(&cents, HV_ADD, &none, &found, NULL) == HV_NO_COLUMN && hv_form(&found) == FORM_NONE);
+    CHECK(!hv_combine(&far, HV_MULTIPLY, &near, &found, &error) && hv_kind_of(&found).scale == -2);
+    CHECK(!hv_combine(&cents, HV_SUBTRACT, &small, &found, &error) && hv_kind_of(&found).nullable == 0);
     CHECK(hv_kind_of(&found).precision == 38);
     hv_free(&cents), hv_free(&mills), hv_free(&far), hv_free(&near), hv_free(&small), hv_free(&two);
-    hv_free(&wrong), hv_free(&large), hv_free(&found);
+    hv_free(&wrong), hv_free(&large), hv_free(&two_again), hv_free(&found);
 }
 
 int main(void) {

@@ -23,8 +23,8 @@ static lent pair = {HV_EMPTY, "tdm"}, minutes = {HV_EMPTY, "tDm"}, keys_again = 
 static lent *const all[] = {&times,  &again, &lengths, &plain,  &runs,  &keys, &bits,    &mask,
                             &places, &ends,  &texts,   &prices, &lists, &pair, &minutes, &keys_again};
 static char rows_before[COUNT(all)][8192];
-static uint8_t message[4096], record[64];
-static size_t message_len, record_len;
+static uint8_t message[4096], plain_message[4096], record[64];
+static size_t message_len, plain_len, record_len;
 
 static const char *format_of(const hv_column *column) {
     static char text[64];
@@ -80,7 +80,8 @@ static void make_lent(void) {
     }
     CHECK(!hv_runs(&ends.column, &pair.column, 0, 9, &out, &error));
     CHECK(!hv_serialize(&out, record, sizeof record, &record_len, &error));
-    CHECK(!hv_write_typed(&times.column, (const uint8_t *)"tsu:UTC", 7, message, sizeof message, &message_len, &error));
+    CHECK(!hv_write(&times.column, message, sizeof message, &message_len, &error));
+    CHECK(!hv_write(&plain.column, plain_message, sizeof plain_message, &plain_len, &error));
 }
 
 static void check_lent(const char *call) {
@@ -154,10 +155,9 @@ CALL(make_runs, hv_runs(&ends.column, &pair.column, 0, 9, &out, &error))
 CALL(of_record, hv_deserialize(&i64_or_null, 9, record, record_len, &ends.column, &pair.column, &out, &error))
 CALL(make_lists, hv_lists(&times.column, (const uint64_t[]){3}, 1, (const uint64_t[]){4}, 1, NO_NULLS, &out, &error))
 
-static int32_t read_typed(void) {
-    size_t at, len;
-    return hv_read_typed(message, message_len, &out, &at, &len, &error);
-}
+CALL(read_message, hv_read_column(message, message_len, &out, &error))
+CALL(read_plain, hv_read_column(plain_message, plain_len, &out, &error))
+
 static int32_t build(bool ends_builder) {
     hv_builder builder = HV_EMPTY;
     int32_t answer = hv_builder_new(&i64_or_null, &builder, &error);
@@ -193,8 +193,8 @@ static const made table[] = {
     MADE(float_cast, "", NULL), MADE(float_of_integers, "", NULL), MADE(float_add, "", NULL),
     MADE(decimal_cast, "", NULL), MADE(decimal_of_integers, "", NULL), MADE(elements, "", NULL),
     MADE(offsets_of_lists, "", NULL), MADE(sizes_of_lists, "", NULL), MADE(flags_of_lists, "", NULL),
-    MADE(make_lists, "", NULL), MADE(constant, "", NULL), MADE(read_typed, "", NULL), MADE(encoding, "", NULL),
-    MADE(finish, "", NULL),
+    MADE(make_lists, "", NULL), MADE(constant, "", NULL), MADE(read_message, "tsu:UTC", NULL),
+    MADE(read_plain, "", NULL), MADE(encoding, "", NULL), MADE(finish, "", NULL),
 };
 
 /* Both columns hold 42 under a format of their own before each call, and after a refusal. */
@@ -252,7 +252,7 @@ static void check_reading(void) {
         memset(room, 'x', sizeof room);
         requests = 0;
         CHECK(!hv_type(&times.column, room, len, &size, &error) && size == 7 && memcmp(room, "tsu:UTC", 7) == 0);
-        CHECK(requests == 0);
+        CHECK(requests == 0 && memcmp(room + 7, "xxxxxxxxx", sizeof room - 7) == 0);
     }
     size_t size = 99;
     CHECK(!hv_type(&plain.column, NULL, 0, &size, &error) && size == 0);
@@ -270,7 +270,9 @@ static void check_setting(void) {
     reset(&out);
     for (size_t i = 0; i < COUNT(wrong); i++) {
         const uint8_t *text = (const uint8_t *)wrong[i].bytes;
+        requests = 0;
         CHECK_REFUSED(hv_with_type(&times.column, text, wrong[i].len, &out, &error), HV_TYPE_MISMATCH, 0, 0, 0);
+        CHECK(requests == 0);
         CHECK(hv_with_type(&empty, text, wrong[i].len, &out, &error) == HV_NO_COLUMN);
         check_kept("hv_with_type", &out);
     }

@@ -182,13 +182,13 @@ static void make_column(size_t levels, hv_column *out) {
 static size_t make_message(uint8_t *message) {
     static const char *const types[] = {"g", "tss:UTC", "tsu:Europe/Z\xc3\xbcrich", "\xf0\x9f\x90\x9d"};
     const char *type = below(3) ? "" : types[below(COUNT(types))];
-    hv_column column = HV_EMPTY;
+    hv_column column = HV_EMPTY, typed = HV_EMPTY;
     size_t size, written;
     make_column(below(LEVELS), &column);
-    CHECK(!hv_typed_size(&column, (const uint8_t *)type, strlen(type), &size, &error) && size <= MESSAGE / 2);
-    CHECK(!hv_write_typed(&column, (const uint8_t *)type, strlen(type), message, MESSAGE, &written, &error));
-    CHECK(written == size);
-    hv_free(&column);
+    CHECK(!hv_with_type(&column, (const uint8_t *)type, strlen(type), &typed, &error));
+    CHECK(!hv_write_size(&typed, &size, &error) && size <= MESSAGE / 2);
+    CHECK(!hv_write(&typed, message, MESSAGE, &written, &error) && written == size);
+    hv_free(&column), hv_free(&typed);
     return size;
 }
 
@@ -245,42 +245,26 @@ static void read_lists(hv_column *column) {
     hv_free(&first), hv_free(&lists), hv_free(&elements), hv_free(&offsets), hv_free(&sizes), hv_free(&flags);
 }
 
-/* The calls that know no logical types read just what has none, and hold no more. */
-static void check_untyped(const uint8_t *message, size_t len, bool is_due) {
-    hv_column out = HV_EMPTY;
-    uint8_t truth;
-    size_t before = held;
-    most_held = held;
-    CHECK(hv_read_column(message, len, &out, &error) == (is_due ? HV_OK : HV_BAD_METADATA));
-    CHECK(most_held - before <= 24 * len + 4096);
-    hv_free(&out);
-    most_held = held;
-    CHECK(!hv_is_message(message, len, &truth, &error) && truth == is_due && most_held == held && held == before);
-}
-
 /* whether it was read */
 static bool check_answer(const uint8_t *bytes, size_t len, hv_column *kept) {
     uint8_t *message = __real_malloc(len); /* of just this length, for the sanitizer */
     CHECK(message != NULL);
     memcpy(message, bytes, len);
     hv_column out = HV_EMPTY;
-    size_t before = held, size, at = 0, name = 0;
+    size_t before = held, size;
     most_held = held;
-    int32_t answer = hv_read_typed(message, len, &out, &at, &name, &error);
+    int32_t answer = hv_read_column(message, len, &out, &error);
     CHECK(answer == 0 || answer == HV_BAD_METADATA);
     CHECK(most_held - before <= 24 * len + 4096);
     uint8_t is_message;
     most_held = held;
-    CHECK(!hv_is_typed_message(message, len, &is_message, &error) && is_message == (answer == 0) && most_held == held);
-    check_untyped(message, len, answer == 0 && name == 0);
+    CHECK(!hv_is_message(message, len, &is_message, &error) && is_message == (answer == 0) && most_held == held);
     if (answer != 0) {
-        CHECK(held == before && at == 0 && name == 0);
-        CHECK_REFUSED(hv_read_typed(message, len, kept, &at, &name, &error), HV_BAD_METADATA, 0, 0, 0);
+        CHECK(held == before);
+        CHECK_REFUSED(hv_read_column(message, len, kept, &error), HV_BAD_METADATA, 0, 0, 0);
     } else {
         static uint8_t again[MESSAGE];
-        CHECK(at <= len && name <= len - at);
-        CHECK(!hv_write_typed(&out, message + at, name, again, sizeof again, &size, &error));
-        CHECK(size == len && memcmp(again, message, len) == 0);
+        CHECK(!hv_write(&out, again, sizeof again, &size, &error) && size == len && memcmp(again, message, len) == 0);
         if (hv_kind_of(&out).number == HV_LIST) read_lists(&out);
         else read_rows(&out);
         hv_free(&out);

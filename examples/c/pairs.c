@@ -333,7 +333,8 @@ static void check_kinds(void) {
     CHECK(!hv_decimals(some, 3, 9, 2, NOT_NULLABLE, &a, &error) && !hv_decimals(others, 3, 9, 2, NOT_NULLABLE, &b, &error));
     CHECK(!hv_combine(&a, HV_LE, &b, &answers, &error));
     CHECK_ROWS(&answers, "true true false");
-    CHECK_REFUSED(hv_combine(&a, HV_MULTIPLY, &b, &answers, &error), HV_UNSUPPORTED, 0, 0, 0);
+    CHECK_REFUSED(hv_combine(&a, HV_AND, &b, &answers, &error), HV_UNSUPPORTED, 0, 0, 0);
+    CHECK_REFUSED(hv_combine(&a, HV_MULTIPLY, &b, &answers, &error), HV_CAST_OUT_OF_RANGE, 1, 0, 0);
     hv_free(&a);
     hv_free(&b);
 }

@@ -295,8 +295,8 @@ static void check_empty_handles(void) {
     NO_COLUMN(hv_ends(&empty, &out, &error));
     NO_COLUMN(hv_values(&empty, &out, &error));
     NO_COLUMN(hv_serialize(&empty, bytes, 8, &size, &error));
-    NO_COLUMN(hv_typed_size(&empty, record, 2, &size, &error));
-    NO_COLUMN(hv_write_typed(&empty, record, 2, bytes, 8, &size, &error));
+    NO_COLUMN(hv_write_size(&empty, &size, &error));
+    NO_COLUMN(hv_write(&empty, bytes, 8, &size, &error));
     NO_COLUMN(hv_with_type(&empty, record, 2, &out, &error));
     NO_COLUMN(hv_type(&empty, bytes, 8, &size, &error));
     NO_COLUMN(hv_deserialize(&kind, 0, record, 2, &empty, &numbers, &out, &error));
@@ -412,11 +412,7 @@ static void check_missing_room(void) {
     MISSING(hv_read_ends_u64(&runs, 0, NULL, 3, &error), 3);
     MISSING(hv_serialize(&runs, NULL, 2, &size, &error), 2);
     MISSING(hv_write(&runs, NULL, 99, &size, &error), 99);
-    MISSING(hv_typed_size(&runs, NULL, 3, &size, &error), 3);
-    MISSING(hv_write_typed(&runs, NULL, 3, text, 99, &size, &error), 3);
-    MISSING(hv_write_typed(&runs, (const uint8_t *)"g", 1, NULL, 99, &size, &error), 99);
-    MISSING(hv_read_typed(NULL, 9, &out, &size, &stop, &error), 9);
-    MISSING(hv_is_typed_message(NULL, 9, text, &error), 9);
+    MISSING(hv_is_message(NULL, 9, text, &error), 9);
     MISSING(hv_with_type(&runs, NULL, 3, &out, &error), 3);
     MISSING(hv_type(&runs, NULL, 9, &size, &error), 9);
 }

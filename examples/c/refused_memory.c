@@ -12,10 +12,11 @@ static hv_column flat = HV_EMPTY, runs = HV_EMPTY, part = HV_EMPTY, texts = HV_E
                  decimals = HV_EMPTY, whole_decimals = HV_EMPTY, decimal_runs = HV_EMPTY;
 static hv_column ends = HV_EMPTY, values = HV_EMPTY, places = HV_EMPTY, constant = HV_EMPTY, large_texts = HV_EMPTY;
 static hv_column whole_floats = HV_EMPTY, truth_runs = HV_EMPTY, place_runs = HV_EMPTY, text_runs = HV_EMPTY;
-static hv_column lists = HV_EMPTY, list_runs = HV_EMPTY, decoded_lists = HV_EMPTY;
+static hv_column lists = HV_EMPTY, list_runs = HV_EMPTY, decoded_lists = HV_EMPTY, part_of_durations = HV_EMPTY;
 static hv_column *const lent[] = {&flat, &runs,   &part,   &texts,    &truths,     &decimals,
                                   &ends, &values, &places, &constant, &large_texts, &truth_runs, &place_runs, &text_runs,
-                                  &whole_floats, &whole_decimals, &lists, &list_runs, &decoded_lists, &decimal_runs};
+                                  &whole_floats, &whole_decimals, &lists, &list_runs, &decoded_lists, &decimal_runs,
+                                  &part_of_durations};
 static char rows_before[COUNT(lent)][8192];
 /* constants of 2^60 rows, and a mask of as many in two runs; their rows are not shown */
 #define MANY (UINT64_C(1) << 60)
@@ -32,9 +33,9 @@ static int64_t large_offsets[ROWS + 1];
 static uint8_t letters[BYTES];
 static uint8_t kept_message[1024], decimals_message[64]; /* of `part`, and of `decimals` */
 static uint8_t lists_message[2048], decoded_message[2048]; /* of `list_runs`, and of `decoded_lists` */
-static uint8_t typed_message[1024]; /* of `part`, as durations in seconds */
+static uint8_t typed_message[1024]; /* of `part_of_durations`: `part`, as durations in seconds */
 static const uint8_t *const durations = (const uint8_t *)"tDs";
-static size_t message_size, decimals_size, lists_size, decoded_size, typed_size, type_at, type_len;
+static size_t message_size, decimals_size, lists_size, decoded_size, typed_size;
 static const uint16_t some_places[5] = {1, 3, 60, 79, 0};
 static const uint8_t texts_message[] = {8, 1, 16, 12, 24, 1, 32, 2, 40, 2, 98, 2, 1, 3, 106, 4, 'a', 'b', 'c', 'd'};
 static const uint8_t text_message[] = {8, 1, 16, 11, 24, 3, 32, 9, 40, 1, 58, 4, 'a', 'b', 'c', 'd'};
@@ -111,7 +112,8 @@ static void make_lent(void) {
     make_list_columns();
     make_many();
     CHECK(!hv_write(&part, kept_message, sizeof kept_message, &message_size, &error));
-    CHECK(!hv_write_typed(&part, durations, 3, typed_message, sizeof typed_message, &typed_size, &error));
+    CHECK(!hv_with_type(&part, durations, 3, &part_of_durations, &error));
+    CHECK(!hv_write(&part_of_durations, typed_message, sizeof typed_message, &typed_size, &error));
     CHECK(!hv_write(&decimals, decimals_message, sizeof decimals_message, &decimals_size, &error));
     CHECK(!hv_arrow_export(&session, &texts, "texts", &texts_schema, &texts_array, &error));
     CHECK(!hv_arrow_export_dictionary(&session, &places, &texts, "codes", &codes_schema, &codes_array, &error));
@@ -214,7 +216,7 @@ STEP(sum_decimals, hv_decimal_sum(&decimals, &decimal_sum, &truth, &error))
 STEP(cast_decimals, hv_decimal_cast(&decimals, 12, 4, &out, &error))
 STEP(cast_to_decimals, hv_decimal_cast(&part, 12, 4, &out, &error))
 STEP(cast_decimals_to_integers, hv_decimal_to_integers(&whole_decimals, HV_I16, &out, &error))
-STEP(multiply_decimals, hv_decimal_combine(&decimals, HV_MULTIPLY, &decimal_runs, &out, &error))
+STEP(multiply_decimals, hv_combine(&decimals, HV_MULTIPLY, &decimal_runs, &out, &error))
 STEP(is_constant, hv_is_constant(&session, &runs, &truth, &error))
 STEP(is_sorted, hv_is_sorted(&session, &runs, 0, &truth, &error))
 STEP(extreme, hv_extreme(&session, &runs, 1, &value, text, sizeof text, &error))
@@ -273,13 +275,12 @@ STEP(lists_of_message, hv_read_column(lists_message, lists_size, &out, &error))
 STEP(write_decoded_lists, hv_write(&decoded_lists, message, sizeof message, &size, &error))
 STEP(is_message, hv_is_message(decoded_message, decoded_size, &truth, &error))
 STEP(decoded_lists_of_message, hv_read_column(decoded_message, decoded_size, &out, &error))
-STEP(size_of_typed, hv_typed_size(&part, durations, 3, &size, &error))
-STEP(write_typed, hv_write_typed(&part, durations, 3, message, sizeof message, &size, &error))
-STEP(column_of_typed, hv_read_typed(typed_message, typed_size, &out, &type_at, &type_len, &error))
-STEP(untyped_column, hv_read_typed(kept_message, message_size, &out, &type_at, &type_len, &error))
-STEP(is_typed_message, hv_is_typed_message(typed_message, typed_size, &truth, &error))
+STEP(size_of_typed, hv_write_size(&part_of_durations, &size, &error))
+STEP(write_typed, hv_write(&part_of_durations, message, sizeof message, &size, &error))
+STEP(column_of_typed, hv_read_column(typed_message, typed_size, &out, &error))
+STEP(is_typed_message, hv_is_message(typed_message, typed_size, &truth, &error))
 STEP(give_format, hv_with_type(&part, durations, 3, &out, &error))
-STEP(read_format, hv_type(&part, message, sizeof message, &size, &error))
+STEP(read_format, hv_type(&part_of_durations, message, sizeof message, &size, &error))
 STEP(export_flat, hv_arrow_export(&session, &flat, "flat", &schema, &array, &error))
 STEP(export_runs, hv_arrow_export(&session, &part, "runs", &schema, &array, &error))
 STEP(export_constant, hv_arrow_export(&session, &constant, "constant", &schema, &array, &error))
@@ -462,7 +463,7 @@ static const step steps[] = {
     NAMED(write_decimals), NAMED(decimals_of_message), NAMED(write_constant), NAMED(constant_of_message),
     NAMED(write_texts), NAMED(texts_of_message), NAMED(size_of_lists), NAMED(write_lists), NAMED(lists_of_message),
     NAMED(write_decoded_lists), NAMED(is_message), NAMED(decoded_lists_of_message),
-    NAMED(size_of_typed), NAMED(write_typed), NAMED(column_of_typed), NAMED(untyped_column), NAMED(is_typed_message),
+    NAMED(size_of_typed), NAMED(write_typed), NAMED(column_of_typed), NAMED(is_typed_message),
     NAMED(give_format), NAMED(read_format),
     NAMED(export_flat), NAMED(export_runs), NAMED(export_constant),
     NAMED(export_texts), NAMED(export_truths), NAMED(export_dictionary), NAMED(import_texts),

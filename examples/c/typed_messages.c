@@ -1,13 +1,13 @@
-/* Columns with a logical type as bytes, and back. What a message has to be is put together here from the page on bytes:
- * version 2, the name of the type, and the message of the column. */
+/* Columns under a format as bytes, and back. What a message has to be is put together here from the page on bytes:
+ * version 2, the format, and the message of the column. */
 #include "check.h"
 
 static hv_session session;
 static hv_error error;
 
-enum { ROOM = 512, FRONT = 16 }; /* bytes: of a message, and of what is before the name or the column's message */
+enum { ROOM = 512, FRONT = 16 }; /* bytes: of a message, and of what is before the format or the column's message */
 
-/* A name, which may have a 0 in it. */
+/* A format, which may have a 0 in it. */
 typedef struct name {
     const uint8_t *bytes;
     size_t len;
@@ -38,11 +38,24 @@ static bool is_filled(const uint8_t *bytes, size_t len) {
     return true;
 }
 
-static bool is_typed(const uint8_t *bytes, size_t len) {
+static bool is_message(const uint8_t *bytes, size_t len) {
     uint8_t truth;
     FILL(truth);
-    CHECK(!hv_is_typed_message(bytes, len, &truth, &error) && truth <= 1);
+    CHECK(!hv_is_message(bytes, len, &truth, &error) && truth <= 1);
     return truth;
+}
+
+static hv_column under(const hv_column *column, name format) {
+    hv_column typed = HV_EMPTY;
+    CHECK(!hv_with_type(column, format.bytes, format.len, &typed, &error));
+    return typed;
+}
+
+static void check_format(const hv_column *column, name format) {
+    uint8_t room[ROOM];
+    size_t size;
+    CHECK(!hv_type(column, room, sizeof room, &size, &error) && size == format.len);
+    CHECK(!size || memcmp(room, format.bytes, size) == 0);
 }
 
 static size_t put_size(uint8_t *to, size_t number) {
@@ -52,13 +65,12 @@ static size_t put_size(uint8_t *to, size_t number) {
     return used;
 }
 
-/* The message that is due, and how many bytes are before the name. */
-static size_t put_due(uint8_t *to, name format, const uint8_t *stored, size_t stored_len, size_t *start) {
+/* The message that is due. */
+static size_t put_due(uint8_t *to, name format, const uint8_t *stored, size_t stored_len) {
     size_t used = 4;
-    *start = 0;
     if (format.len == 0) return memcpy(to, stored, stored_len), stored_len;
     memcpy(to, "\x08\x02\xb2\x01", 4);
-    used += put_size(to + used, format.len), *start = used;
+    used += put_size(to + used, format.len);
     memcpy(to + used, format.bytes, format.len), used += format.len;
     memcpy(to + used, "\xba\x01", 2), used += 2;
     used += put_size(to + used, stored_len);
@@ -66,44 +78,44 @@ static size_t put_due(uint8_t *to, name format, const uint8_t *stored, size_t st
     return used + stored_len;
 }
 
-/* What is read of a message has this name and, written without one, the bytes of the column. */
-static void check_read(const uint8_t *message, size_t len, size_t start, name format, const uint8_t *stored,
-                       size_t stored_len) {
+/* What is read of a message has this format and, written without one, the bytes of the column. */
+static void check_read(const uint8_t *message, size_t len, name format, const uint8_t *stored, size_t stored_len) {
     uint8_t again[ROOM];
-    size_t at, count, size;
+    size_t size;
     hv_column read = HV_EMPTY;
-    FILL(at), FILL(count);
-    CHECK(is_typed(message, len) && !hv_read_typed(message, len, &read, &at, &count, &error));
-    CHECK(at == start && count == format.len && (!count || memcmp(message + at, format.bytes, count) == 0));
-    CHECK(!hv_write(&read, again, sizeof again, &size, &error) && size == stored_len && !memcmp(again, stored, size));
-    hv_free(&read);
+    CHECK(is_message(message, len) && !hv_read_column(message, len, &read, &error));
+    check_format(&read, format);
+    hv_column plain = under(&read, NO_NAME);
+    CHECK(!hv_write(&plain, again, sizeof again, &size, &error) && size == stored_len && !memcmp(again, stored, size));
+    hv_free(&read), hv_free(&plain);
 }
 
-/* The message of a column with this name, which is refused where one byte too few is there, and leaves them. */
+/* The message of a column under this format, which is refused where one byte too few is there, and leaves them. */
 static void check_message(const hv_column *column, name format) {
     uint8_t stored[ROOM], due[ROOM], written[ROOM + 1];
-    size_t stored_len, start, size;
-    CHECK(!hv_write(column, stored, sizeof stored, &stored_len, &error) && stored_len + format.len + FRONT <= ROOM);
-    const size_t len = put_due(due, format, stored, stored_len, &start);
+    size_t stored_len, size;
+    hv_column plain = under(column, NO_NAME), typed = under(column, format);
+    CHECK(!hv_write(&plain, stored, sizeof stored, &stored_len, &error) && stored_len + format.len + FRONT <= ROOM);
+    const size_t len = put_due(due, format, stored, stored_len);
     FILL(size);
-    CHECK(!hv_typed_size(column, format.bytes, format.len, &size, &error) && size == len);
+    CHECK(!hv_write_size(&typed, &size, &error) && size == len);
     FILL(size), FILL(written);
-    CHECK(!hv_write_typed(column, format.bytes, format.len, written, len, &size, &error) && size == len);
+    CHECK(!hv_write(&typed, written, len, &size, &error) && size == len);
     CHECK(memcmp(written, due, len) == 0 && is_filled(written + len, sizeof written - len));
+    FILL(size), FILL(written);
+    CHECK(!hv_write(&typed, written, sizeof written, &size, &error) && size == len && memcmp(written, due, len) == 0);
+    CHECK(is_filled(written + len, sizeof written - len));
     for (size_t room = 0; room < len; room++) {
         FILL(written);
-        CHECK_REFUSED(hv_write_typed(column, format.bytes, format.len, written, room, &size, &error), 11, len, room, 0);
+        CHECK_REFUSED(hv_write(&typed, written, room, &size, &error), 11, len, room, 0);
         CHECK(is_filled(written, sizeof written));
     }
-    check_read(due, len, start, format, stored, stored_len);
-    uint8_t is_plain;
-    hv_column plain = HV_EMPTY;
-    CHECK(!hv_is_message(due, len, &is_plain, &error) && is_plain == (format.len == 0));
-    CHECK(hv_read_column(due, len, &plain, &error) == (format.len ? HV_BAD_METADATA : HV_OK));
-    hv_free(&plain);
+    check_format(&typed, format);
+    check_read(due, len, format, stored, stored_len);
+    hv_free(&plain), hv_free(&typed);
 }
 
-/* with names of one byte, of a zone, of a 0, of other letters, and of a length in two bytes, and without one */
+/* under formats of one byte, of a zone, of a 0, of other letters, and of a length in two bytes, and without one */
 static void check_names(hv_column *column) {
     const name names[] = {NO_NAME, NAME(""), NAME("g"), NAME("tsu:Europe/Berlin"), NAME("\0"), NAME("\xf0\x9f\x90\x9d"),
                           {(const uint8_t *)letters_200, 127}, {(const uint8_t *)letters_200, 128}, NAME(letters_200)};
@@ -165,15 +177,18 @@ static void check_times(void) {
     const int64_t times[3] = {100, 160, 0};
     hv_column column = HV_EMPTY, read = HV_EMPTY;
     uint8_t written[ROOM];
-    size_t size, at, len;
+    size_t size;
     CHECK(!hv_i64(times, 3, NULLS_BY(bits, 0), &column, &error));
-    CHECK(!hv_write_typed(&column, (const uint8_t *)"tss:UTC", 7, written, sizeof written, &size, &error));
+    hv_column typed = under(&column, NAME("tss:UTC"));
+    CHECK(!hv_write(&typed, written, sizeof written, &size, &error));
     CHECK(size == sizeof times_message && memcmp(written, times_message, size) == 0);
-    CHECK(!hv_read_typed(times_message, sizeof times_message, &read, &at, &len, &error) && at == 5 && len == 7);
+    CHECK(!hv_read_column(times_message, sizeof times_message, &read, &error));
+    check_format(&read, NAME("tss:UTC"));
     CHECK_ROWS(&read, "100 160 null");
-    CHECK(!hv_read_typed(times_stored, sizeof times_stored, &read, &at, &len, &error) && at == 0 && len == 0);
+    CHECK(!hv_read_column(times_stored, sizeof times_stored, &read, &error));
+    check_format(&read, NO_NAME);
     CHECK_ROWS(&read, "100 160 null");
-    hv_free(&column), hv_free(&read);
+    hv_free(&column), hv_free(&typed), hv_free(&read);
 }
 
 static void check_floats(void) {
@@ -183,52 +198,54 @@ static void check_floats(void) {
     hv_column column = HV_EMPTY, of_bits = HV_EMPTY, read = HV_EMPTY;
     uint8_t written[ROOM];
     uint64_t count, sum;
-    size_t size, at, len;
+    size_t size;
     CHECK(!hv_constant(&keys, &key, NO_TEXT, (size_t)1 << 60, &column, &error));
-    CHECK(!hv_write_typed(&column, (const uint8_t *)"g", 1, written, sizeof written, &size, &error));
+    hv_column typed = under(&column, NAME("g"));
+    CHECK(!hv_write(&typed, written, sizeof written, &size, &error));
     CHECK(size == sizeof float_message && memcmp(written, float_message, size) == 0);
-    CHECK(!hv_read_typed(float_message, sizeof float_message, &read, &at, &len, &error) && at == 5 && len == 1);
+    CHECK(!hv_read_column(float_message, sizeof float_message, &read, &error));
+    check_format(&read, NAME("g"));
     CHECK(!hv_float_sum(&read, &count, &sum, &error) && count == (uint64_t)1 << 60);
     CHECK(sum == UINT64_C(0x43b8) << 48); /* 1.5 * 2^60 */
     /* 1.5, -0.0 and a NaN that signals keep their bits */
     CHECK(!hv_u64(bits, 3, NOT_NULLABLE, &of_bits, &error) && !hv_float_encode(&of_bits, 0, &column, &error));
-    CHECK(!hv_write_typed(&column, (const uint8_t *)"g", 1, written, sizeof written, &size, &error));
-    CHECK(!hv_read_typed(written, size, &read, &at, &len, &error) && !hv_float_decode(&read, &of_bits, &error));
+    CHECK(!hv_with_type(&column, (const uint8_t *)"g", 1, &typed, &error));
+    CHECK(!hv_write(&typed, written, sizeof written, &size, &error));
+    CHECK(!hv_read_column(written, size, &read, &error) && !hv_float_decode(&read, &of_bits, &error));
     CHECK_ROWS(&of_bits, "4609434218613702656 9223372036854775808 9218868437227405313");
     check_names(&column);
-    hv_free(&of_bits), hv_free(&read);
+    hv_free(&of_bits), hv_free(&typed), hv_free(&read);
 }
 
-/* What is cut short, goes on, or is none leaves what the handle and the two numbers hold. */
+/* What is cut short, goes on, or is none leaves what the handle holds, and its format. */
 static void check_none(const uint8_t *bytes, size_t len) {
     uint8_t *message = malloc(len ? len : 1); /* of just this length, for the sanitizer */
     const uint8_t one[1] = {42};
-    hv_column out = HV_EMPTY;
-    size_t at = 41, count = 43;
-    CHECK(message && !hv_u8(one, 1, NOT_NULLABLE, &out, &error));
+    hv_column plain = HV_EMPTY;
+    CHECK(message && !hv_u8(one, 1, NOT_NULLABLE, &plain, &error));
+    hv_column out = under(&plain, NAME("of a column before"));
     memcpy(message, bytes, len);
-    CHECK_REFUSED(hv_read_typed(message, len, &out, &at, &count, &error), HV_BAD_METADATA, 0, 0, 0);
-    CHECK(at == 41 && count == 43 && !is_typed(message, len));
+    CHECK_REFUSED(hv_read_column(message, len, &out, &error), HV_BAD_METADATA, 0, 0, 0);
+    CHECK(!is_message(message, len));
     CHECK_ROWS(&out, "42");
-    free(message), hv_free(&out);
+    check_format(&out, NAME("of a column before"));
+    free(message), hv_free(&plain), hv_free(&out);
 }
 
 /* What is read of changed bytes is written as these very bytes again; whether it was. */
 static bool check_changed(const uint8_t *bytes, size_t len) {
     uint8_t again[ROOM];
-    size_t at, count, size;
+    size_t size;
     hv_column out = HV_EMPTY;
-    int32_t answer = hv_read_typed(bytes, len, &out, &at, &count, &error);
-    CHECK((answer == HV_OK || answer == HV_BAD_METADATA) && is_typed(bytes, len) == (answer == HV_OK));
+    int32_t answer = hv_read_column(bytes, len, &out, &error);
+    CHECK((answer == HV_OK || answer == HV_BAD_METADATA) && is_message(bytes, len) == (answer == HV_OK));
     if (answer) return check_none(bytes, len), false;
-    CHECK(at <= len && count <= len - at);
-    CHECK(!hv_write_typed(&out, bytes + at, count, again, sizeof again, &size, &error));
-    CHECK(size == len && memcmp(again, bytes, len) == 0);
+    CHECK(!hv_write(&out, again, sizeof again, &size, &error) && size == len && memcmp(again, bytes, len) == 0);
     hv_free(&out);
     return true;
 }
 
-/* each prefix, one byte more, and each bit that is another; the name and the rows are the only bytes that may be any */
+/* each prefix, one byte more, and each bit that is another; the format and the rows are the only bytes that may be any */
 static void check_damaged(const uint8_t *message, size_t len, size_t least_read) {
     uint8_t damaged[ROOM];
     size_t read = 0;
@@ -253,10 +270,10 @@ static void check_damaged(const uint8_t *message, size_t len, size_t least_read)
 /* Messages that are put together as no writer does, after the one that they are made of. */
 static void check_no_messages(void) {
     static const uint8_t stored[] = {NULLS}, message[] = {0x08, 2, OF_G, STORED};
-    check_read(message, sizeof message, 5, NAME("g"), stored, sizeof stored);
+    check_read(message, sizeof message, NAME("g"), stored, sizeof stored);
     CHECK_NONE(0x08, 2);
     CHECK_NONE(0x08, 2, OF_G);
-    CHECK_NONE(0x08, 2, 0xb2, 1, 0, STORED); /* an empty name */
+    CHECK_NONE(0x08, 2, 0xb2, 1, 0, STORED); /* an empty format */
     CHECK_NONE(0x08, 2, STORED);             /* none */
     CHECK_NONE(0x08, 2, 0xb2, 1, 1, 0xff, STORED);
     CHECK_NONE(0x08, 2, 0xb2, 1, 2, 0xc3, 'g', STORED);
@@ -283,40 +300,47 @@ static void check_no_messages(void) {
     CHECK_NONE(0x08, 2, NULLS);
     CHECK_NONE(0x08, 2, 0x10, 12, 0x18, 3, 0x20, 2, 0x28, 3, 0x3a, 0);
     CHECK_NONE(NULLS, OF_G);
-    /* a column with a type as the storage of another, as the values of runs, and as the elements of lists */
+    /* a column with a format as the storage of another, as the values of runs, and as the elements of lists */
     CHECK_NONE(0x08, 2, OF_G, 0xba, 1, 21, 0x08, 2, OF_G, STORED);
     CHECK_NONE(0x08, 1, 0x10, 12, 0x18, 2, 0x20, 2, 0x40, 0, 0x48, 1, 0x52, 2, 1, 1, 0x5a, 21, 0x08, 2, OF_G, STORED);
     CHECK_NONE(0x08, 1, 0x10, 13, 0x18, 4, 0x20, 0, 0x28, 1, 0x8a, 1, 19, 0x08, 2, OF_G, 0xba, 1, 10,
                0x08, 1, 0x10, 1, 0x18, 1, 0x28, 1, 0x3a, 0);
 }
 
-/* What is refused of a column and a name that is not UTF-8: first an empty handle, then the name, then the column. */
+/* No format is made of bytes that are not UTF-8, whatever the column is; an empty handle comes first. */
 static void check_refused_names(const hv_column *deep, const hv_column *column) {
     const name broken[] = {NAME("\xff"), NAME("ts\xc3"), NAME("\xed\xa0\x80"), NAME("\xc0\x80"), NAME("a\x80")};
     const hv_column none = HV_EMPTY;
-    uint8_t room[ROOM];
-    size_t size;
-    FILL(size), FILL(room);
+    hv_column out = HV_EMPTY;
     for (size_t i = 0; i < COUNT(broken); i++) {
         const uint8_t *text = broken[i].bytes;
         const size_t len = broken[i].len;
-        CHECK_REFUSED(hv_typed_size(column, text, len, &size, &error), HV_TYPE_MISMATCH, 0, 0, 0);
-        CHECK_REFUSED(hv_write_typed(column, text, len, room, sizeof room, &size, &error), HV_TYPE_MISMATCH, 0, 0, 0);
-        CHECK_REFUSED(hv_write_typed(column, text, len, room, 1, &size, &error), HV_TYPE_MISMATCH, 0, 0, 0);
-        CHECK_REFUSED(hv_typed_size(deep, text, len, &size, &error), HV_TYPE_MISMATCH, 0, 0, 0);
-        CHECK_REFUSED(hv_write_typed(deep, text, len, room, 1, &size, &error), HV_TYPE_MISMATCH, 0, 0, 0);
-        CHECK(hv_typed_size(&none, text, len, &size, &error) == HV_NO_COLUMN);
-        CHECK(hv_write_typed(&none, text, len, room, sizeof room, &size, &error) == HV_NO_COLUMN);
+        CHECK_REFUSED(hv_with_type(column, text, len, &out, &error), HV_TYPE_MISMATCH, 0, 0, 0);
+        CHECK_REFUSED(hv_with_type(deep, text, len, &out, &error), HV_TYPE_MISMATCH, 0, 0, 0);
+        CHECK(hv_with_type(&none, text, len, &out, &error) == HV_NO_COLUMN);
     }
-    CHECK(hv_typed_size(&none, NULL, 0, &size, &error) == HV_NO_COLUMN);
-    CHECK(hv_write_typed(&none, (const uint8_t *)"g", 1, room, sizeof room, &size, &error) == HV_NO_COLUMN);
-    CHECK_REFUSED(hv_typed_size(deep, (const uint8_t *)"g", 1, &size, &error), HV_UNSUPPORTED, 0, 0, 0);
-    CHECK_REFUSED(hv_write_typed(deep, (const uint8_t *)"g", 1, room, 1, &size, &error), HV_UNSUPPORTED, 0, 0, 0);
-    CHECK_REFUSED(hv_write_typed(deep, NULL, 0, room, sizeof room, &size, &error), HV_UNSUPPORTED, 0, 0, 0);
-    CHECK(is_filled(room, sizeof room) && is_filled((uint8_t *)&size, sizeof size));
+    CHECK(hv_form(&out) == FORM_NONE);
 }
 
-/* A type takes no level: sixteen levels of runs have a message with it, and seventeen none. */
+/* What has no message is refused under a format as it is without one, whatever room there is. */
+static void check_refused_columns(const hv_column *deep) {
+    const hv_column none = HV_EMPTY;
+    hv_column typed = under(deep, NAME("g"));
+    uint8_t room[ROOM];
+    size_t size;
+    FILL(size), FILL(room);
+    CHECK(hv_write_size(&none, &size, &error) == HV_NO_COLUMN);
+    CHECK(hv_write(&none, room, sizeof room, &size, &error) == HV_NO_COLUMN);
+    CHECK_REFUSED(hv_write_size(deep, &size, &error), HV_UNSUPPORTED, 0, 0, 0);
+    CHECK_REFUSED(hv_write_size(&typed, &size, &error), HV_UNSUPPORTED, 0, 0, 0);
+    CHECK_REFUSED(hv_write(&typed, room, 1, &size, &error), HV_UNSUPPORTED, 0, 0, 0);
+    CHECK_REFUSED(hv_write(&typed, room, sizeof room, &size, &error), HV_UNSUPPORTED, 0, 0, 0);
+    CHECK_REFUSED(hv_write(deep, room, sizeof room, &size, &error), HV_UNSUPPORTED, 0, 0, 0);
+    CHECK(is_filled(room, sizeof room) && is_filled((uint8_t *)&size, sizeof size));
+    hv_free(&typed);
+}
+
+/* A format takes no level: sixteen levels of runs have a message under it, and seventeen none. */
 static void check_levels(void) {
     const uint8_t last[1] = {1};
     hv_column ends = HV_EMPTY, over = HV_EMPTY, next = HV_EMPTY, column = HV_EMPTY;
@@ -326,6 +350,7 @@ static void check_levels(void) {
     check_message(&over, NAME("tsn:UTC"));
     CHECK(!hv_clone(&over, &column, &error) && !hv_runs(&ends, &over, 0, 1, &next, &error));
     check_refused_names(&next, &column);
+    check_refused_columns(&next);
     hv_free(&ends), hv_free(&over), hv_free(&next), hv_free(&column);
 }
 
@@ -340,6 +365,6 @@ int main(void) {
     check_damaged(times_stored, sizeof times_stored, 24 * 8);
     check_no_messages();
     check_levels();
-    puts("columns with a logical type and their bytes agree");
+    puts("columns under a format and their bytes agree");
     return 0;
 }
