@@ -21,7 +21,6 @@
 namespace hv {
 
 class Runs;
-struct TypedColumn;
 enum class SplitBy { rows, runs };
 template <class T> class Floats;
 
@@ -141,7 +140,7 @@ public:
             },
             detail::words_of_value(row, kind));
     }
-    // The column that to_bytes wrote.
+    // The column that to_bytes wrote, under its logical type; refused as HV_BAD_METADATA for other bytes.
     static Column from_bytes(const Bytes &message) {
         return made([&](auto *out, auto *error) {
             return hv_read_column(message.data(), message.size(), out, error);
@@ -153,17 +152,21 @@ public:
         detail::ask([&](auto *error) { return hv_is_message(message.data(), message.size(), &truth, error); });
         return truth != 0;
     }
-    // The column that either to_bytes wrote, with its logical type, which is empty where it has none; refused as
-    // HV_BAD_METADATA for other bytes.
-    static TypedColumn from_typed_bytes(const Bytes &message);
-    // Are the bytes what either to_bytes writes of some column? Nothing is made.
-    static bool is_typed_message(const Bytes &message);
     Column clone() const {
         return made([&](auto *out, auto *error) { return hv_clone(&handle, out, error); });
     }
     // A copy that shares no buffer except the bytes of texts: a small slice keeps the whole column's.
     Column compact() const {
         return made([&](auto *out, auto *error) { return hv_compact(&handle, out, error); });
+    }
+
+    // The column under a format of Arrow that says what its rows mean, as "tsu:UTC"; an empty one takes it away. Calls
+    // that give back its rows keep it, as hivevigil.h lists them, and no call asks what it says. Refused as
+    // HV_TYPE_MISMATCH where it is not UTF-8.
+    Column with_logical_type(std::string_view format) const {
+        const auto *const bytes = reinterpret_cast<const uint8_t *>(format.data());
+        return made([&](auto *out, auto *error) { return hv_with_type(&handle, bytes, format.size(), out, error); },
+                    [](int32_t answer) { return answer == HV_TYPE_MISMATCH ? "the logical type is not UTF-8" : ""; });
     }
 
     // ---- Commands, each of which makes a column ----
@@ -303,6 +306,9 @@ public:
     bool empty() const { return size() == 0; }
     hv_kind kind() const { return hv_kind_of(&handle); }
     Form form() const { return static_cast<Form>(hv_form(&handle)); }
+    // The format of Arrow that says what the rows mean; empty where there is none. The numbers of floats ("e", "f", "g")
+    // are their keys, as hv::Floats has them.
+    std::string logical_type() const;
     size_t offset() const { return hv_offset(&handle); }
     // How many rows are null.
     size_t null_count() const { return hv_null_count(&handle); }
@@ -457,7 +463,8 @@ public:
         return record;
     }
 
-    // The column as bytes, in the form that it has, to keep or to send: a message of the Protocol Buffers encoding.
+    // The column as bytes, in the form that it has and with its logical type, to keep or to send: a message of the
+    // Protocol Buffers encoding.
     Bytes to_bytes() const {
         size_t size = 0;
         detail::ask([&](auto *error) { return hv_write_size(&handle, &size, error); });
@@ -465,10 +472,6 @@ public:
         detail::ask([&](auto *error) { return hv_write(&handle, message.data(), message.size(), &size, error); });
         return message;
     }
-    // The same with what the numbers are, a format of Arrow, which is kept and not tested; refused as HV_TYPE_MISMATCH
-    // where it is not UTF-8. from_typed_bytes reads it, and from_bytes refuses it. An empty one says nothing: the bytes
-    // are those above.
-    Bytes to_bytes(std::string_view logical_type) const;
 
 #ifdef __cpp_lib_span
     // ---- With C++20, spans (hivevigil_spans.hpp): of integers to read into, and of bytes of any type of one byte ----
@@ -476,11 +479,8 @@ public:
     template <detail::OfNumbers Span> void read(size_t start, Span items) const;
     template <detail::OfBytes Span> static Column from_bytes(Span message);
     template <detail::OfBytes Span> static bool is_message(Span message);
-    template <detail::OfBytes Span> static TypedColumn from_typed_bytes(Span message);
-    template <detail::OfBytes Span> static bool is_typed_message(Span message);
     // Writes the message into the room, and returns its size; refused as HV_COLUMN_LENGTH where there is too little.
     template <detail::OfBytes Span> size_t to_bytes(Span room) const;
-    template <detail::OfBytes Span> size_t to_bytes(Span room, std::string_view logical_type) const;
     template <detail::OfBytes Span>
     static Column deserialize(hv_kind kind, size_t rows, Span record, const Column &ends, const Column &values);
     // Integers, null where the flag is false.
@@ -521,9 +521,6 @@ private:
         });
     }
     template <class Items> static Column of_rows(const Items &rows);
-    static TypedColumn read_typed(const uint8_t *bytes, size_t size);
-    size_t write_typed(std::string_view logical_type, uint8_t *bytes, size_t room) const;
-    static bool is_typed(const uint8_t *bytes, size_t size);
     template <class T> std::vector<std::optional<T>> number_optionals() const {
         const std::vector<T> items = numbers<T>();
         const std::vector<bool> valid = validity();
@@ -563,18 +560,22 @@ private:
     }
 };
 
-// A column that was read, and what its numbers are: a format of Arrow, as "tsu:UTC" for microseconds since 1970 in UTC,
-// or empty. The numbers of floats ("e", "f", "g") are their keys, as hv::Floats has them.
-struct TypedColumn {
-    Column column;
-    std::string logical_type;
-};
+inline std::string Column::logical_type() const {
+    Bytes format(32);
+    size_t size = 0;
+    hv_error fields{};
+    int32_t answer = hv_type(&handle, format.data(), format.size(), &size, &fields);
+    if (answer == HV_COLUMN_LENGTH) {
+        format.resize(fields.first);
+        answer = hv_type(&handle, format.data(), format.size(), &size, &fields);
+    }
+    return answer ? "" : std::string(format.begin(), format.begin() + static_cast<std::ptrdiff_t>(size));
+}
 
 } // namespace hv
 #include "hivevigil_making.hpp"
 #include "hivevigil_runs.hpp"
 #include "hivevigil_parts.hpp"
-#include "hivevigil_typed.hpp"
 #include "hivevigil_spans.hpp"
 #include "hivevigil_builder.hpp"
 #include "hivevigil_pairs.hpp"

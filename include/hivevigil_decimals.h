@@ -1,6 +1,6 @@
-/* Decimals of two precisions or scales, worked together: both columns as decimals of one type, for hv_decimal_combine,
- * hv_combine or hv_if_else, and compared. Only a header, C11 and C++17. The casts are those of hv_decimal_cast, which
- * are proved; nothing else here is. */
+/* Decimals of two precisions or scales, worked together: both columns as decimals of one type, for hv_combine or
+ * hv_if_else, and compared. Only a header, C11 and C++17. The casts are those of hv_decimal_cast, which are proved;
+ * nothing else here is. */
 #ifndef HIVEVIGIL_DECIMALS_H
 #define HIVEVIGIL_DECIMALS_H
 #include "hivevigil_helpers.h"

@@ -153,8 +153,7 @@ inline Column Column::combine(Pairing by, const Column &right) const {
     }
     Column out;
     hv_error fields{};
-    const auto call = detail::are_decimals(*this, by, right) ? hv_call_decimal_combine : hv_call_combine;
-    const int32_t answer = call(&handle, static_cast<uint8_t>(by), &right.handle, &out.handle, &fields);
+    const int32_t answer = hv_combine(&handle, static_cast<uint8_t>(by), &right.handle, &out.handle, &fields);
     if (!answer) return out;
     const std::string words = detail::words_of_pairing(*this, by, right, answer, fields);
     throw words.empty() ? Error(answer, fields) : Error(answer, fields, words);

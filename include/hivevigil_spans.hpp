@@ -33,18 +33,6 @@ template <detail::OfBytes Span> size_t Column::to_bytes(Span room) const {
     return size;
 }
 
-template <detail::OfBytes Span> TypedColumn Column::from_typed_bytes(Span message) {
-    return read_typed(detail::bytes_of(message), message.size());
-}
-
-template <detail::OfBytes Span> bool Column::is_typed_message(Span message) {
-    return is_typed(detail::bytes_of(message), message.size());
-}
-
-template <detail::OfBytes Span> size_t Column::to_bytes(Span room, std::string_view logical_type) const {
-    return write_typed(logical_type, reinterpret_cast<uint8_t *>(room.data()), room.size());
-}
-
 template <detail::OfBytes Span>
 Column Column::deserialize(hv_kind kind, size_t rows, Span record, const Column &ends, const Column &values) {
     return ends.beside(values, [&](auto *other, auto *out, auto *error) {

@@ -46,33 +46,31 @@ struct SortKey {
     SortKey(std::string of, Order by = Order::ascending) : name(std::move(of)), order(by) {}
 };
 
-// A column of a table, and what its numbers are: a format of Arrow, as "tsu:UTC" for microseconds since 1970 in UTC, or
-// empty. The numbers of floats ("e", "f", "g") are their keys, as hv::Floats has them.
+// A column of a table, with the logical type that it has.
 struct NamedColumn {
     std::string name;
     Column column;
-    std::string logical_type;
 
-    NamedColumn(std::string of, Column &&rows, std::string format = "")
-        : name(std::move(of)), column(std::move(rows)), logical_type(std::move(format)) {}
-    NamedColumn(std::string of, const Column &rows, std::string format = "")
-        : NamedColumn(std::move(of), rows.clone(), std::move(format)) {}
+    NamedColumn(std::string of, Column &&rows) : name(std::move(of)), column(std::move(rows)) {}
+    NamedColumn(std::string of, const Column &rows) : NamedColumn(std::move(of), rows.clone()) {}
+    // Under a format of Arrow, as Column::with_logical_type.
+    NamedColumn(std::string of, const Column &rows, std::string_view format);
     // Floats.
     template <class T>
     NamedColumn(std::string of, const Floats<T> &rows)
         : NamedColumn(std::move(of), rows.keys(), sizeof(T) == sizeof(float) ? "f" : "g") {}
     // What Column::of takes, and float, double or std::optional of these.
     template <class Items, class T = detail::InnerOf<detail::Row<Items>>>
-    NamedColumn(std::string of, const Items &rows, std::string format = "") : name(std::move(of)) {
+    NamedColumn(std::string of, const Items &rows, std::string_view format = "") : name(std::move(of)) {
         if constexpr (std::is_floating_point_v<T>) *this = NamedColumn(name, Floats<T>::of(rows));
-        else column = Column::of(rows), logical_type = std::move(format);
+        else *this = NamedColumn(name, Column::of(rows), format);
     }
     template <class T>
-    NamedColumn(std::string of, std::initializer_list<T> rows, std::string format = "")
-        : NamedColumn(std::move(of), std::vector<T>(rows), std::move(format)) {}
+    NamedColumn(std::string of, std::initializer_list<T> rows, std::string_view format = "")
+        : NamedColumn(std::move(of), std::vector<T>(rows), format) {}
 
-    NamedColumn clone() const { return {name, column, logical_type}; }
-    bool is_float() const { return logical_type == "e" || logical_type == "f" || logical_type == "g"; }
+    NamedColumn clone() const { return {name, column}; }
+    std::string logical_type() const { return column.logical_type(); }
 };
 
 class Table {
@@ -80,7 +78,7 @@ public:
     // No columns and no rows.
     Table() = default;
     // The columns, copied, each of as many rows as the first. Refused as HV_COLUMN_LENGTH, as HV_TABLE_NAME_TWICE, and
-    // as HV_TYPE_MISMATCH for a name or a logical type that is not UTF-8.
+    // as HV_TYPE_MISMATCH for a name that is not UTF-8.
     Table(std::initializer_list<NamedColumn> columns);
     explicit Table(std::vector<NamedColumn> columns);
     // The same, of this number of rows: also without columns.
@@ -254,7 +252,9 @@ template <class Columns> size_t place_of(const Columns &columns, const std::stri
 
 inline int width_of_floats(const std::string &format) { return format == "e" ? 16 : format == "f" ? 32 : 64; }
 
-inline bool is_float(const Column &column, const std::string &format) {
+// Does the column have keys of floats, by its logical type?
+inline bool is_float(const Column &column) {
+    const std::string format = column.logical_type();
     const uint8_t number = format == "e" ? HV_I16 : format == "f" ? HV_I32 : format == "g" ? HV_I64 : HV_LIST;
     return column.kind().number == number && number != HV_LIST;
 }
@@ -270,12 +270,12 @@ inline bool is_logical_type(const std::string &format) {
 }
 
 // Is a row NaN? In the total order these lie outside of all numbers.
-inline bool has_nan(const Column &column, const std::string &format) {
-    if (!is_float(column, format)) return false;
+inline bool has_nan(const Column &column) {
+    if (!is_float(column)) return false;
     uint8_t is_found = 0;
     uint64_t least = 0, greatest = 0;
     ask([&](auto *error) { return hv_float_min_max(column.raw(), 0, &is_found, &least, &greatest, error); });
-    const int width = width_of_floats(format);
+    const int width = width_of_floats(column.logical_type());
     return is_found && (std::isnan(float_of_bits(least, width)) || std::isnan(float_of_bits(greatest, width)));
 }
 
@@ -288,25 +288,25 @@ inline Column compare_floats(const Column &column, FloatComparison asked) {
 }
 
 // Row by row whether `row by value`, null where the row is.
-template <class T> Column compare_rows(const Column &column, const std::string &format, Operator by, const T &value) {
-    const int width = width_of_floats(format);
+template <class T> Column compare_rows(const Column &column, Operator by, const T &value) {
+    const int width = width_of_floats(column.logical_type());
     if (column.kind().number == HV_LIST) throw Error(HV_UNSUPPORTED, {});
     if constexpr (std::is_floating_point_v<T>) {
         const hv_kind kind = column.kind();
-        if (is_float(column, format)) return compare_floats(column, float_comparison(by, double{value}, width));
+        if (is_float(column)) return compare_floats(column, float_comparison(by, double{value}, width));
         if (!has_numbers(kind) || scale_of(kind) < 0 || scale_of(kind) > 38)
             throw Error(HV_TYPE_MISMATCH, {}, to_string(kind) + " is not compared with a float");
         const Comparison asked = comparison(by, double{value}, kind);
         return column.compare(asked.by, asked.right);
     } else if constexpr (is_number<T>) {
-        if (is_float(column, format)) return compare_floats(column, float_comparison(by, Wide{value}, width));
+        if (is_float(column)) return compare_floats(column, float_comparison(by, Wide{value}, width));
         return column.compare(by, value);
     } else if constexpr (is_text<T>) {
-        if (is_float(column, format)) throw Error(HV_TYPE_MISMATCH, {}, "a float is not compared with a text");
+        if (is_float(column)) throw Error(HV_TYPE_MISMATCH, {}, "a float is not compared with a text");
         return column.compare(by, value);
     } else {
         const Value other(value);
-        if (is_float(column, format) && !std::holds_alternative<Null>(other))
+        if (is_float(column) && !std::holds_alternative<Null>(other))
             throw Error(HV_TYPE_MISMATCH, {}, "a float is compared with a number of C++");
         return column.compare(by, other);
     }
@@ -326,6 +326,9 @@ inline Operator operator_of(const std::string &sign) {
 
 // ---- Made ----
 
+inline NamedColumn::NamedColumn(std::string of, const Column &rows, std::string_view format)
+    : name(std::move(of)), column(detail::about_column(name, [&] { return rows.with_logical_type(format); })) {}
+
 inline Table::Table(std::vector<NamedColumn> columns, size_t rows) {
     std::vector<std::string> given;
     for (const NamedColumn &named : columns) {
@@ -337,8 +340,6 @@ inline Table::Table(std::vector<NamedColumn> columns, size_t rows) {
                              "column '" + named.name + "' has " + std::to_string(other) + " rows, and the table " +
                                  std::to_string(rows));
         if (!detail::is_utf8(named.name)) throw TableError(HV_TYPE_MISMATCH, {}, "the name of a column is not UTF-8");
-        if (!detail::is_utf8(named.logical_type))
-            throw TableError(HV_TYPE_MISMATCH, {}, "column '" + named.name + "': the logical type is not UTF-8");
     }
     detail::refuse_twice(given);
     all = std::move(columns), count = rows;
@@ -367,7 +368,7 @@ inline const NamedColumn &Table::at(const std::string &name) const { return all[
 
 inline bool Table::equals(const Table &other) const {
     const auto are_equal = [](const NamedColumn &left, const NamedColumn &right) {
-        return left.name == right.name && left.logical_type == right.logical_type && left.column == right.column;
+        return left.name == right.name && left.logical_type() == right.logical_type() && left.column == right.column;
     };
     return count == other.count && std::equal(all.begin(), all.end(), other.all.begin(), other.all.end(), are_equal);
 }
@@ -402,7 +403,7 @@ inline Table Table::rename(const std::string &from, const std::string &to) const
 
 template <class Work> Table Table::each(Work work) const {
     Table made;
-    for (const NamedColumn &named : all) made.all.push_back({named.name, work(named.column), named.logical_type});
+    for (const NamedColumn &named : all) made.all.push_back({named.name, work(named.column)});
     // of no columns there is one all the same, which is asked
     const Column rows = all.empty() ? work(Column::constant(kinds::u8, uint64_t{0}, count)) : Column();
     made.count = all.empty() ? rows.size() : made.all.front().column.size();
@@ -424,9 +425,8 @@ inline Table Table::filter(const Column &mask) const {
     return each([&](const Column &column) { return column.filter(mask); });
 }
 template <class T> Table Table::filter_by(const std::string &name, Operator by, const T &value) const {
-    const NamedColumn &named = at(name);
-    return filter(detail::about_column(
-        name, [&] { return detail::compare_rows(named.column, named.logical_type, by, value); }));
+    const Column &column = (*this)[name];
+    return filter(detail::about_column(name, [&] { return detail::compare_rows(column, by, value); }));
 }
 template <class T> Table Table::filter_by(const std::string &name, const std::string &sign, const T &value) const {
     return filter_by(name, detail::operator_of(sign), value);
@@ -455,12 +455,13 @@ inline Table Table::append(const Table &other) const {
     Table made;
     for (const NamedColumn &named : all) {
         const NamedColumn &second = other.at(named.name);
-        if (named.logical_type != second.logical_type)
-            throw TableError(HV_TYPE_MISMATCH, {}, "column '" + named.name + "': the logical types are '" +
-                                                       named.logical_type + "' and '" + second.logical_type + "'");
+        const std::string format = named.logical_type(), other_format = second.logical_type();
+        if (format != other_format)
+            throw TableError(HV_TYPE_MISMATCH, {}, "column '" + named.name + "': the logical types are '" + format +
+                                                       "' and '" + other_format + "'");
         made.all.push_back({named.name, detail::about_column(named.name, [&] {
-                                return detail::joined(named.column, second.column);
-                            }), named.logical_type});
+                                return detail::joined(named.column, second.column).with_logical_type(format);
+                            })});
     }
     if (count > SIZE_MAX - other.count) throw TableError(HV_WINDOW_OVERFLOW, {});
     made.count = count + other.count;

@@ -49,23 +49,26 @@ inline Column floats_of_bits(const Column &bits) {
 // What a call of Arrow takes of each column.
 struct ArrowColumns {
     std::vector<Column> owned;
+    std::vector<std::string> formats;
     std::vector<hv_column> lent;
     std::vector<const char *> names;
     std::vector<hv_arrow_options> options;
 
     explicit ArrowColumns(const Table &table) {
+        for (const NamedColumn &named : table) formats.push_back(named.logical_type());
         for (const NamedColumn &named : table) {
-            const bool is_float = detail::is_float(named.column, named.logical_type);
+            const std::string &format = formats[owned.size()];
+            const bool is_float = detail::is_float(named.column);
             if (named.name.find('\0') != std::string::npos)
                 throw TableError(HV_UNSUPPORTED, {}, "a name of Arrow has no zero byte, and that of a column has");
             owned.push_back(is_float ? bits_of_floats(named.column) : named.column.clone());
             lent.push_back(*owned.back().raw());
             names.push_back(named.name.c_str());
             hv_arrow_layout layout{};
-            const bool is_format = hv_arrow_is_format_of(named.logical_type.c_str(), named.column.kind(), &layout);
+            const bool is_format = hv_arrow_is_format_of(format.c_str(), named.column.kind(), &layout);
             hv_arrow_options settled{};
             settled.bits_of_float = is_float;
-            settled.format = is_format && !is_float ? named.logical_type.c_str() : nullptr;
+            settled.format = is_format && !is_float ? format.c_str() : nullptr;
             options.push_back(settled);
         }
     }

@@ -16,7 +16,7 @@ namespace detail {
 inline Column number_bounds(const Column &bounds) {
     Column numbers;
     ask([&](auto *error) { return hv_table_number_bounds(bounds.raw(), numbers.raw(), error); });
-    return numbers;
+    return numbers.with_logical_type(bounds.logical_type());
 }
 
 } // namespace detail
@@ -36,10 +36,10 @@ struct ColumnFooter {
     template <class T> bool may_have(Operator by, const T &value) const {
         if (!bounds) return true;
         // NaN is unequal to all, and no bound of the numbers next to it
-        const bool is_of_numbers = by != Operator::not_equal && detail::has_nan(bounds, logical_type);
+        const bool is_of_numbers = by != Operator::not_equal && detail::has_nan(bounds);
         const Column within = is_of_numbers ? detail::number_bounds(bounds) : bounds.clone();
         const auto compared = [&](Operator asked) {
-            return detail::compare_rows(within, logical_type, asked, value).truths();
+            return detail::compare_rows(within, asked, value).truths();
         };
         const std::vector<bool> found = compared(by); // refused where no row is compared with the value
         if (within.empty()) return false;
@@ -111,7 +111,10 @@ public:
         ColumnFooter footer{name(place), logical_type(place), known.size, {}, {}, {}, {}};
         if (hv_is_empty(&known.bounds)) return footer;
         footer.nulls = known.nulls, footer.runs = known.runs;
-        ask([&](auto *error) { return hv_clone(&known.bounds, footer.bounds.raw(), error); });
+        const hv_table_span format = span_of(footer.logical_type);
+        ask([&](auto *error) {
+            return hv_with_type(&known.bounds, format.at, format.size, footer.bounds.raw(), error);
+        });
         if (known.kept) footer.form_as_differences = known.kept == HV_TABLE_KEPT_FLAT ? Form::flat : Form::runs;
         return footer;
     }
@@ -164,9 +167,11 @@ inline Table read_table(const StoredFile &file, const std::vector<std::string> *
 
 // The bytes of a table.
 inline void put_table(Buffer &bytes, const Table &table, bool differences) {
+    std::vector<std::string> formats;
+    for (const NamedColumn &named : table) formats.push_back(named.logical_type());
     std::vector<hv_table_part> parts;
     for (const NamedColumn &named : table)
-        parts.push_back({span_of(named.name), span_of(named.logical_type), named.column.raw()});
+        parts.push_back({span_of(named.name), span_of(formats[parts.size()]), named.column.raw()});
     ask([&](auto *error) {
         return hv_table_put_parts(bytes.raw(), parts.data(), parts.size(), table.rows(), differences, error);
     });

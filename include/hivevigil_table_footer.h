@@ -133,10 +133,15 @@ static inline int32_t hv_table_text_of(hv_table_span span, char **out, size_t *s
     return answer;
 }
 
-/* The column of a message; 17. */
+/* The column of a message that has no format; 17. */
 static inline int32_t hv_table_column_in(hv_table_span message, hv_column *out, hv_error *error) {
-    const int32_t answer = hv_read_column(message.at, message.size, out, error);
-    return answer == HV_BAD_METADATA ? hv_table_damaged(error) : answer;
+    hv_column read = HV_EMPTY;
+    size_t format_size = 0;
+    int32_t answer = hv_read_column(message.at, message.size, &read, error);
+    if (!answer) answer = hv_type(&read, NULL, 0, &format_size, error);
+    if (!answer) hv_put(out, &read);
+    hv_free(&read);
+    return answer == HV_BAD_METADATA || answer == HV_COLUMN_LENGTH ? hv_table_damaged(error) : answer;
 }
 
 /* Is a message that of a flat column of no row or two, which says of all its rows that they are valid? */

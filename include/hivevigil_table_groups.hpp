@@ -93,12 +93,11 @@ inline TableGroups::TableGroups(const Table &of, const std::vector<std::string> 
 inline NamedColumn TableGroups::fold(const GroupAnswer &asked) const {
     if (asked.fold == Fold::rows) return {asked.name, sizes()};
     const NamedColumn &values = table.at(asked.column);
-    Column answers = detail::about_column(asked.column, [&] { return answer(values, asked.fold); });
-    if (asked.fold != Fold::sum && asked.fold != Fold::count)
-        return {asked.name, std::move(answers), values.logical_type};
+    const Column answers = detail::about_column(asked.column, [&] { return answer(values, asked.fold); });
+    const std::string format = values.logical_type();
+    if (asked.fold != Fold::sum && asked.fold != Fold::count) return {asked.name, answers, format};
     const uint8_t fold = static_cast<uint8_t>(asked.fold);
-    return {asked.name, std::move(answers),
-            hv_table_type_of_answer(values.column.raw(), values.logical_type.c_str(), fold)};
+    return {asked.name, answers, hv_table_type_of_answer(values.column.raw(), format.c_str(), fold)};
 }
 
 inline Table TableGroups::agg(const std::vector<GroupAnswer> &answers) const {
@@ -117,8 +116,9 @@ inline std::string words_of_fold(const NamedColumn &values, Fold by, int32_t ans
         return "decimal overflow: the sum of group " + std::to_string(fields.first) + " leaves 38 digits";
     if (answer == HV_CAST_OUT_OF_RANGE) return words_of_group(kind, fields);
     if (answer != HV_UNSUPPORTED) return "";
-    const bool is_logical = by == Fold::sum && is_integer(kind) && is_logical_type(values.logical_type);
-    if (is_logical) return "rows of the logical type " + values.logical_type + " have no sum";
+    const std::string format = values.logical_type();
+    if (by == Fold::sum && is_integer(kind) && is_logical_type(format))
+        return "rows of the logical type " + format + " have no sum";
     const bool is_summed = is_integer(kind) || kind.number == HV_DECIMAL;
     return by == Fold::sum && !is_summed ? "rows of " + to_string(kind) + " have no sum" : "";
 }
@@ -127,11 +127,11 @@ inline std::string words_of_fold(const NamedColumn &values, Fold by, int32_t ans
 
 inline Column TableGroups::answer(const NamedColumn &values, Fold by) const {
     // a text with a zero byte is not a format of Arrow
-    const bool is_text_of_c = values.logical_type.find('\0') == std::string::npos;
-    const char *const format = is_text_of_c ? values.logical_type.c_str() : "";
+    std::string format = values.logical_type();
+    if (format.find('\0') != std::string::npos) format = "";
     Column made;
     hv_error fields{};
-    const int32_t answer = hv_table_ask(&initial_session(), &groups->all, values.column.raw(), format,
+    const int32_t answer = hv_table_ask(&initial_session(), &groups->all, values.column.raw(), format.c_str(),
                                         static_cast<uint8_t>(by), made.raw(), &fields);
     if (!answer) return made;
     const std::string words = detail::words_of_fold(values, by, answer, fields);

@@ -60,14 +60,18 @@ static inline void hv_table_put_sized(hv_buffer *out, unsigned field, hv_table_s
     hv_buffer_put(out, content.at, content.size);
 }
 
-/* Appends the message of a column; 13 for more than 16 levels of runs. */
+/* Appends the message of a column without its format, which is in the footer; 13 for more than 16 levels of runs. */
 static inline int32_t hv_table_put_column(hv_buffer *out, const hv_column *column, hv_error *error) {
+    hv_column stored = HV_EMPTY;
+    uint8_t *at = NULL;
     size_t size = 0, written = 0;
-    int32_t answer = hv_write_size(column, &size, error);
-    if (answer) return answer;
-    uint8_t *const at = hv_buffer_more(out, size);
-    answer = hv_buffer_answer(out, error);
-    return answer ? answer : hv_write(column, at, size, &written, error);
+    int32_t answer = hv_with_type(column, NULL, 0, &stored, error);
+    if (!answer) answer = hv_write_size(&stored, &size, error);
+    if (!answer) at = hv_buffer_more(out, size);
+    if (!answer) answer = hv_buffer_answer(out, error);
+    if (!answer) answer = hv_write(&stored, at, size, &written, error);
+    hv_free(&stored);
+    return answer;
 }
 
 /* ---- Read ---- */

@@ -26,26 +26,24 @@ static std::optional<std::string> format_of_line(hv::Bytes &bytes) {
     return format;
 }
 
-// The column of a line that names its type and of the message after it.
-static StoredColumn column_after_line(const hv::StoredFile &file, const std::string &format, const hv::Bytes &message) {
-    StoredColumn stored{hv::Column::from_bytes(message), format, file.size()};
-    if (!stored.type().logical || !are_texts({format})) throw hv::Error(HV_BAD_METADATA, {});
-    return stored;
+// The column of a line that names its type and of the message after it, which has none.
+static hv::Column column_after_line(const std::string &format, const hv::Bytes &message) {
+    const hv::Column read = hv::Column::from_bytes(message);
+    if (!read.logical_type().empty() || !are_texts({format})) throw hv::Error(HV_BAD_METADATA, {});
+    hv::Column typed = read.with_logical_type(format);
+    if (!type_of(typed).logical) throw hv::Error(HV_BAD_METADATA, {});
+    return typed;
 }
 
 StoredColumn load_column(const hv::StoredFile &file) {
     hv::Bytes bytes = file.read(0, file.size());
     const std::optional<std::string> format = format_of_line(bytes);
     try {
-        if (format) return column_after_line(file, *format, bytes);
-        hv::TypedColumn read = hv::Column::from_typed_bytes(bytes);
-        return {std::move(read.column), std::move(read.logical_type), file.size()};
+        return {format ? column_after_line(*format, bytes) : hv::Column::from_bytes(bytes), file.size()};
     } catch (const hv::Error &error) {
         if (error.number != HV_BAD_METADATA) throw;
         throw Failure(file.path() + ", of " + with_commas(file.size()) + " bytes, is not the file of a column");
     }
 }
 
-void save_column(const hv::Column &column, const std::string &logical_type, const std::string &path) {
-    hv::save_bytes(column.to_bytes(logical_type), path);
-}
+void save_column(const hv::Column &column, const std::string &path) { hv::save_bytes(column.to_bytes(), path); }

@@ -11,10 +11,9 @@
 // A column of a file, which has no name.
 struct StoredColumn {
     hv::Column column;
-    std::string logical_type; // a format of Arrow, or empty
-    size_t message_bytes;     // in the file from which it was read
+    size_t message_bytes; // in the file from which it was read
 
-    RowType type() const { return type_of_format(column.kind(), logical_type); }
+    RowType type() const { return type_of(column); }
 };
 
 // What a file of columns is, by its first bytes.
@@ -25,6 +24,6 @@ Kept kept_as(std::string_view begun);
 // The column of a file. Throws a Failure where it is not a column's.
 StoredColumn load_column(const hv::StoredFile &file);
 
-void save_column(const hv::Column &column, const std::string &logical_type, const std::string &path);
+void save_column(const hv::Column &column, const std::string &path);
 
 #endif

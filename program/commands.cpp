@@ -16,7 +16,7 @@ StoredColumn asked_column(const Arguments &arguments, const hv::StoredFile &file
     if (name && !is_table(file)) throw Failure(file.path() + " is not the file of a table, and its column has no name");
     if (!name) return load_column(file);
     const hv::Table table = load_table(file, asked_limit(arguments), std::vector<std::string>{*name});
-    return {table[*name].clone(), table.at(*name).logical_type, footer_of(file)[*name].size};
+    return {table[*name].clone(), footer_of(file)[*name].size};
 }
 
 void refuse_options(const Arguments &arguments, const std::string &sort, const std::vector<const char *> &options) {

@@ -106,8 +106,9 @@ hv_kind LogicalType::storage() const {
     return is_narrow ? hv::kinds::i32 : hv::kinds::i64;
 }
 
-RowType type_of_format(hv_kind kind, const std::string &format) {
-    const std::optional<LogicalType> logical = LogicalType::of_format(format);
+RowType type_of(const hv::Column &column) {
+    const hv_kind kind = column.kind();
+    const std::optional<LogicalType> logical = LogicalType::of_format(column.logical_type());
     const bool is_stored_so = logical && logical->storage().number == kind.number;
     return {kind, is_stored_so ? logical : std::nullopt};
 }

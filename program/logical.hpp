@@ -33,8 +33,8 @@ struct RowType {
     std::string format() const { return logical ? logical->format() : ""; }
 };
 
-// The type of rows of a kind that have a format of Arrow, which may be empty, or be that of other integers.
-RowType type_of_format(hv_kind kind, const std::string &format);
+// The type of the rows of a column, which has no format of Arrow, or one that may be that of other integers.
+RowType type_of(const hv::Column &column);
 // The type of these words: those of kind_of_text, or the name of a logical type, with a ? after it where rows may be
 // null. Throws a Failure.
 RowType type_of_text(const std::string &text);

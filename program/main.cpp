@@ -81,9 +81,9 @@ static void report(const Arguments &arguments) {
 static void convert_csv(const Arguments &arguments, const CsvOptions &options, InputFile file, const std::string &to) {
     refuse_options(arguments, "table", {"limit"});
     std::vector<CsvColumn> found = read_csv(options, std::move(file));
-    if (arguments.has("column")) return save_column(found[0].runs, found[0].type.format(), to);
+    if (arguments.has("column")) return save_column(found[0].runs.with_logical_type(found[0].type.format()), to);
     std::vector<hv::NamedColumn> columns;
-    for (CsvColumn &column : found) columns.push_back({column.name, std::move(column.runs), column.type.format()});
+    for (CsvColumn &column : found) columns.push_back({column.name, column.runs, column.type.format()});
     in_order(arguments, hv::Table(std::move(columns))).save(to, arguments.has("differences"));
 }
 
@@ -95,8 +95,7 @@ static void convert_stored(const Arguments &arguments, const hv::StoredFile &fil
     if (!is_table(file)) refuse_options(arguments, "table", {"differences", "sort", "limit"});
     if (is_table(file) && !arguments.has("column"))
         return in_order(arguments, load_table(file, asked_limit(arguments))).save(to, arguments.has("differences"));
-    const StoredColumn stored = asked_column(arguments, file);
-    save_column(stored.column, stored.logical_type, to);
+    save_column(asked_column(arguments, file).column, to);
 }
 
 static void convert(const Arguments &arguments) {

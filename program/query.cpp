@@ -13,10 +13,10 @@ static std::string asked_word(const Arguments &arguments) {
     return arguments.words.size() > 2 ? arguments.words[2] : "";
 }
 
-static void answer(const Arguments &arguments, const Column &rows, const std::string &logical_type) {
+static void answer(const Arguments &arguments, const Column &rows) {
     const std::string word = asked_word(arguments);
-    if (word == "filter" && arguments.has("to")) return save_column(rows, logical_type, *arguments.value("to"));
-    const RowType type = type_of_format(rows.kind(), logical_type);
+    if (word == "filter" && arguments.has("to")) return save_column(rows, *arguments.value("to"));
+    const RowType type = type_of(rows);
     about_file(arguments, [&] {
         if (word == "filter") print_rows(rows, type, 0, rows.size());
         else std::printf("%s\n", answer_of(rows, type, *question_of_word(word)).c_str());
@@ -51,10 +51,8 @@ static void query_table(const Arguments &arguments, const hv::StoredFile &file, 
     std::vector<std::string> wanted = is_one || !filters ? std::vector{arguments.needed("column")} : names;
     for (const hv::SortKey &key : asked_keys(arguments, names)) wanted.push_back(key.name);
     const hv::Table rows = in_order(arguments, rows_asked(arguments, file, wanted, conditions));
-    if (is_one) {
-        const hv::NamedColumn &named = rows.at(wanted[0]);
-        answer(arguments, named.column, named.logical_type);
-    } else if (arguments.has("to")) rows.save(*arguments.value("to"), arguments.has("differences"));
+    if (is_one) answer(arguments, rows[wanted[0]]);
+    else if (arguments.has("to")) rows.save(*arguments.value("to"), arguments.has("differences"));
     else about_file(arguments, [&] { print_table_rows(rows, 0, rows.rows()); });
 }
 
@@ -97,7 +95,7 @@ static void query_column(const Arguments &arguments, const hv::StoredFile &file,
     const StoredColumn stored = asked_column(arguments, file);
     const Column rows = rows_where(stored.column, stored.type(), conditions);
     if (asked_word(arguments).empty()) std::printf("%zu\n", rows.size());
-    else answer(arguments, rows, stored.logical_type);
+    else answer(arguments, rows);
 }
 
 // Refuses what --by and questions that are options are not asked with.

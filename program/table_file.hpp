@@ -15,7 +15,4 @@ hv::TableFooter footer_of(const hv::StoredFile &file);
 hv::Table load_table(const hv::StoredFile &file, hv::Limit limit,
                      const std::optional<std::vector<std::string>> &names = std::nullopt);
 
-// The type of the rows of a column.
-inline RowType type_of(const hv::NamedColumn &named) { return type_of_format(named.column.kind(), named.logical_type); }
-
 #endif

@@ -34,10 +34,9 @@ NamedCondition named_condition(const std::string &text, const std::vector<std::s
 }
 
 // Row by row whether it meets the condition: of runs each value is compared once.
-static Column mask_of(const hv::NamedColumn &named, const Condition &condition) {
-    const Column &column = named.column;
+static Column mask_of(const Column &column, const Condition &condition) {
     const auto compared = [&](const Column &rows) {
-        return compare_with_text(rows, type_of(named), condition.by, condition.value);
+        return compare_with_text(rows, type_of(column), condition.by, condition.value);
     };
     if (column.form() != Form::runs) return compared(column);
     return Column::runs(column.ends(), compared(column.values()), column.offset(), column.size());
@@ -45,7 +44,7 @@ static Column mask_of(const hv::NamedColumn &named, const Condition &condition) 
 
 hv::Table table_where(const hv::Table &table, const std::vector<NamedCondition> &conditions) {
     hv::Table rows = table.clone();
-    for (const NamedCondition &asked : conditions) rows = rows.filter(mask_of(rows.at(asked.name), asked.condition));
+    for (const NamedCondition &asked : conditions) rows = rows.filter(mask_of(rows[asked.name], asked.condition));
     return rows;
 }
 
@@ -55,9 +54,9 @@ std::vector<std::vector<std::string>> lines_of_table(const hv::Table &table, con
     for (const hv::NamedColumn &named : table) {
         const Column &column = named.column;
         const bool is_list = column.kind().number == HV_LIST;
-        const RowType type = type_of(named);
-        const bool is_known = type.logical || named.logical_type.empty();
-        const std::string unknown = is_known ? "" : " " + csv_field(named.logical_type);
+        const RowType type = type_of(column);
+        const std::string format = column.logical_type();
+        const std::string unknown = type.logical || format.empty() ? "" : " " + csv_field(format);
         lines.push_back({csv_field(named.name), to_string(type) + unknown,
                          with_commas(column.size() - count_valid(column)),
                          is_list ? "" : with_commas(column.encode_rows().runs().size()),
@@ -74,7 +73,7 @@ static void print_line(const std::vector<std::string> &fields) {
 
 // The mean of each group, by its sum and how many rows it has that are not null.
 static hv::NamedColumn means_of(const hv::TableGroups &groups, const hv::NamedColumn &values, const Asked &asked) {
-    const RowType type = type_of(values);
+    const RowType type = type_of(values.column);
     if (!has_mean(type)) throw Failure("column '" + values.name + "': " + to_string(type) + " has no mean");
     const Column sums = groups.fold({"", hv::Fold::sum, values.name}).column;
     const Column counts = groups.fold({"", hv::Fold::count, values.name}).column;
@@ -111,10 +110,10 @@ hv::Table table_of_groups(const hv::Table &table, const std::vector<hv::SortKey>
 void print_answers(const hv::Table &table, const std::vector<Asked> &asked) {
     std::vector<std::string> names, answers;
     for (const Asked &each : asked) {
-        const hv::NamedColumn &named = table.at(each.column);
+        const Column &column = table[each.column];
         names.push_back(csv_name(each.name()));
         try {
-            answers.push_back(answer_of(named.column, type_of(named), *question_of_word(each.word)));
+            answers.push_back(answer_of(column, type_of(column), *question_of_word(each.word)));
         } catch (const std::runtime_error &error) {
             throw Failure("column '" + each.column + "': " + error.what());
         }
@@ -131,7 +130,7 @@ void print_table_rows(const hv::Table &table, size_t start, size_t stop) {
         const size_t end = std::min(stop, start + step);
         std::vector<std::vector<std::string>> columns;
         for (const hv::NamedColumn &named : table)
-            columns.push_back(fields_of_rows(named.column, type_of(named), start, end));
+            columns.push_back(fields_of_rows(named.column, type_of(named.column), start, end));
         for (size_t row = 0; row < end - start; row++) {
             std::vector<std::string> fields;
             for (const std::vector<std::string> &column : columns) fields.push_back(column[row]);

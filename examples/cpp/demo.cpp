@@ -139,22 +139,21 @@ template <class Call> static int32_t number_of(Call call) {
 
 // The bytes are the message of a column with a logical type, or of one without, where it is empty.
 static void check_typed(const hv::Bytes &message, const hv::Bytes &storage, const std::string &name) {
-    const hv::TypedColumn read = Column::from_typed_bytes(message);
-    CHECK(read.logical_type == name && read.column.to_bytes() == storage && Column::is_typed_message(message));
-    CHECK(read.column.to_bytes(name) == message);
-    CHECK(Column::is_message(message) == name.empty());
-    CHECK(number_of([&] { Column::from_bytes(message); }) == (name.empty() ? HV_OK : HV_BAD_METADATA));
+    const Column read = Column::from_bytes(message), untyped = Column::from_bytes(storage);
+    CHECK(read.logical_type() == name && read.to_bytes() == message && Column::is_message(message));
+    CHECK(untyped.logical_type().empty() && read.with_logical_type("").to_bytes() == storage);
+    CHECK(untyped.with_logical_type(name).to_bytes() == message && Column::is_message(storage));
 }
 
 static void check_not_typed(const hv::Bytes &message) {
-    CHECK(!Column::is_typed_message(message));
-    CHECK(number_of([&] { Column::from_typed_bytes(message); }) == HV_BAD_METADATA);
+    CHECK(!Column::is_message(message));
+    CHECK(number_of([&] { Column::from_bytes(message); }) == HV_BAD_METADATA);
 }
 
 static void check_typed_messages() {
     const Column column = Column::of<int32_t>({19783, 19784});
     const hv::Bytes due = joined({{0x08, 0x02, 0xb2, 0x01, 3, 't', 'd', 'D', 0xba, 0x01, 20}, days});
-    CHECK(column.to_bytes("tdD") == due && column.to_bytes("") == days && column.to_bytes() == days);
+    CHECK(column.with_logical_type("tdD").to_bytes() == due && column.to_bytes() == days);
     const std::string zero("ts\0:", 4), longer(200, 'z');
     for (const std::string &name : {std::string("tdD"), std::string("tss:Z\u00fcrich"), std::string("x"), zero, longer})
         check_typed(typed_message(name, days), days, name);
@@ -164,7 +163,29 @@ static void check_typed_messages() {
     const Column texts = Column::of(std::vector<std::string>{longer, "a"});
     for (const Column *some : {&runs, &texts, &constant})
         check_typed(typed_message("g", some->to_bytes()), some->to_bytes(), "g");
-    CHECK(Column::from_typed_bytes(runs.to_bytes("g")).column.offset() == runs.offset() && runs.offset() == 3);
+    const Column typed = runs.with_logical_type("g");
+    CHECK(Column::from_bytes(typed.to_bytes()).offset() == runs.offset() && runs.offset() == 3);
+}
+
+// Calls that give back rows keep what they mean, also a format that is longer than what is read at once.
+static void check_kept_types() {
+    const std::string longer = "tsu:" + std::string(100, 'x');
+    for (const std::string &format : {std::string("tsu:UTC"), std::string("a\0b", 3), longer}) {
+        const Column column = made().with_logical_type(format), runs = column.encode();
+        const Column mask = column.is_valid(), ends = Column::of<uint8_t>({2, 4});
+        const Column *const all[] = {&column, &runs};
+        for (const Column *rows : all)
+            for (const Column &kept : {rows->clone(), rows->compact(), rows->decode(), rows->encode_rows(),
+                                       rows->slice(1, 3), rows->take(ends), rows->filter(mask), rows->fill(7),
+                                       rows->sorted(), rows->reversed(), ends.take_from(*rows),
+                                       mask.choose(*rows, column.clone()), Column::runs(ends, rows->slice(0, 2), 0, 4)})
+                CHECK(kept.logical_type() == format);
+        CHECK(runs.values().logical_type() == format && runs.ends().logical_type().empty());
+        CHECK(column.value_counts().first.logical_type() == format && mask.logical_type().empty());
+        CHECK((column + column).logical_type().empty() && column.cast(column.kind()).logical_type().empty());
+        CHECK(column.with_logical_type("").logical_type().empty() && column.logical_type() == format);
+    }
+    CHECK(Column().logical_type().empty());
 }
 
 static void check_damaged_typed_messages() {
@@ -206,17 +227,16 @@ static void check_changed_typed_messages() {
 static void check_refused_typed_messages() {
     const Column column = Column::of<int32_t>({19783, 19784});
     for (const char *name : {"\xff", "ts\xc3", "\xed\xa0\x80"})
-        CHECK(number_of([&] { column.to_bytes(name); }) == HV_TYPE_MISMATCH);
+        CHECK(number_of([&] { column.with_logical_type(name); }) == HV_TYPE_MISMATCH);
     try {
-        column.to_bytes("td\xff");
+        column.with_logical_type("td\xff");
     } catch (const hv::Error &error) { CHECK(std::string(error.what()) == "the logical type is not UTF-8"); }
     Column deep = Column::of<uint8_t>({7});
     for (int level = 0; level < 17; level++) deep = Column::runs(Column::of<uint8_t>({1}), deep, 0, 1);
-    CHECK(number_of([&] { deep.to_bytes("g"); }) == HV_UNSUPPORTED);
-    CHECK(number_of([&] { deep.to_bytes(""); }) == HV_UNSUPPORTED);
-    CHECK(number_of([&] { deep.to_bytes("\xff"); }) == HV_TYPE_MISMATCH);
-    CHECK(number_of([&] { Column().to_bytes("g"); }) == HV_NO_COLUMN);
-    CHECK(number_of([&] { Column().to_bytes("\xff"); }) == HV_NO_COLUMN);
+    CHECK(number_of([&] { deep.to_bytes(); }) == HV_UNSUPPORTED);
+    CHECK(number_of([&] { deep.with_logical_type("g").to_bytes(); }) == HV_UNSUPPORTED);
+    CHECK(number_of([&] { Column().to_bytes(); }) == HV_NO_COLUMN);
+    CHECK(number_of([&] { Column().with_logical_type("g"); }) == HV_NO_COLUMN);
 }
 
 static void check_refusals() {
@@ -428,6 +448,7 @@ int main() {
     check_lists();
     check_builders();
     check_typed_messages();
+    check_kept_types();
     check_damaged_typed_messages();
     check_changed_typed_messages();
     check_refused_typed_messages();

@@ -186,24 +186,23 @@ static void check_typed_messages() {
     // version 2, the name "tdD", and the message of two days, 19783 and 19784
     hv::Bytes due{0x08, 0x02, 0xb2, 0x01, 3, 't', 'd', 'D', 0xba, 0x01, 20};
     due.insert(due.end(), {0x08, 1, 0x10, 7, 0x18, 1, 0x20, 2, 0x28, 1, 0x3a, 8, 0x47, 0x4d, 0, 0, 0x48, 0x4d, 0, 0});
-    const Column column = Column::of<int32_t>({19783, 19784});
+    const Column column = Column::of<int32_t>({19783, 19784}), days = column.with_logical_type("tdD");
     std::vector<uint8_t> room(due.size() + 3, 99);
-    CHECK(column.to_bytes(std::span(room), "tdD") == due.size());
+    CHECK(days.to_bytes(std::span(room)) == due.size());
     CHECK(std::equal(due.begin(), due.end(), room.begin()) && room[due.size()] == 99);
-    CHECK(!Column::is_typed_message(std::span(room)));
+    CHECK(!Column::is_message(std::span(room)));
     const std::span<const std::byte> message = std::as_bytes(std::span(room)).first(due.size());
-    CHECK(Column::is_typed_message(message) && !Column::is_message(message));
-    const hv::TypedColumn read = Column::from_typed_bytes(message);
+    CHECK(Column::is_message(message));
+    const Column read = Column::from_bytes(message);
     std::fill(room.begin(), room.end(), 99); // the name that was read is its own
-    CHECK(read.column == column && read.logical_type == "tdD");
+    CHECK(read == column && read.logical_type() == "tdD");
     for (size_t size = 0; size < due.size(); size++) {
-        CHECK(number_of([&] { column.to_bytes(std::span(room).first(size), "tdD"); }) == HV_COLUMN_LENGTH);
-        CHECK(number_of([&] { Column::from_typed_bytes(std::span(due).first(size)); }) == HV_BAD_METADATA);
+        CHECK(number_of([&] { days.to_bytes(std::span(room).first(size)); }) == HV_COLUMN_LENGTH);
+        CHECK(number_of([&] { Column::from_bytes(std::span(due).first(size)); }) == HV_BAD_METADATA);
     }
-    CHECK(number_of([&] { column.to_bytes(std::span(room), "\xff"); }) == HV_TYPE_MISMATCH);
     CHECK(room == std::vector<uint8_t>(room.size(), 99));
-    CHECK(column.to_bytes(std::span(room), "") == 20 && room[0] == 8 && room[1] == 1 && room[20] == 99);
-    CHECK(Column::from_typed_bytes(std::span(room).first(20)).logical_type.empty());
+    CHECK(column.to_bytes(std::span(room)) == 20 && room[0] == 8 && room[1] == 1 && room[20] == 99);
+    CHECK(Column::from_bytes(std::span(room).first(20)).logical_type().empty());
 }
 #endif
 

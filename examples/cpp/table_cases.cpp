@@ -34,10 +34,9 @@ hv::Table grouped(const hv::Table &table, const Words &words) {
 }
 
 // What a column answers: its sum, its least or its greatest row.
-std::string column_answer(const hv::NamedColumn &named, const std::string &call) {
-    const hv::Column &column = named.column;
+std::string column_answer(const hv::Column &column, const std::string &call) {
     if (call == "count") return std::to_string(column.size() - column.null_count());
-    if (hv::detail::is_float(column, named.logical_type)) {
+    if (hv::detail::is_float(column)) {
         const hv::Floats<double> floats(column.clone());
         if (call == "sum") return shown(floats.sum().total);
         const auto found = floats.least_and_greatest();
@@ -78,7 +77,7 @@ std::string answered(const std::string &call, const std::vector<hv::Table> &tabl
     if (call == "to_bytes") return hex_of(table.to_bytes(!words.empty()));
     if (call == "from_bytes") return shown(hv::Table::from_bytes(bytes_of(words[0])));
     if (call == "load") return shown(hv::Table::load(in_file(table), names));
-    return column_answer(table.at(names[0]), call);
+    return column_answer(table[names[0]], call);
 }
 
 } // namespace

@@ -182,18 +182,19 @@ inline hv::Table table_of(const std::vector<Words> &lines) {
 inline std::string shown(const hv::Table &table) {
     std::string text = table.empty() ? "table " + std::to_string(table.rows()) : "table";
     for (const hv::NamedColumn &named : table) {
-        const bool is_float = hv::detail::is_float(named.column, named.logical_type) && named.logical_type != "e";
+        const std::string format = named.logical_type();
+        const bool is_float = hv::detail::is_float(named.column) && format != "e";
         hv_kind kind = named.column.kind();
         const std::string null = kind.nullable ? "?" : "";
-        std::string type = is_float ? (named.logical_type == "f" ? "f32" : "f64") + null : hv::to_string(kind);
+        std::string type = is_float ? (format == "f" ? "f32" : "f64") + null : hv::to_string(kind);
         type.erase(std::remove(type.begin(), type.end(), ' '), type.end());
-        if (!is_float && !named.logical_type.empty()) type += ":" + named.logical_type;
+        if (!is_float && !format.empty()) type += ":" + format;
         const bool is_word = !named.name.empty() && named.name.find_first_not_of(plain) == std::string::npos;
         text += " ; column " + (is_word ? named.name : word_of(named.name)) + " " + type;
         for (size_t row = 0; kind.number != HV_LIST && row < table.rows(); row++) {
             const hv::Value value = named.column.at(row);
             const auto *key = std::get_if<int64_t>(&value);
-            text += " " + (is_float && key ? shown(float_of_key(*key, named.logical_type)) : shown(value));
+            text += " " + (is_float && key ? shown(float_of_key(*key, format)) : shown(value));
         }
     }
     return text;

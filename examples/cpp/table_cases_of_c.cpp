@@ -22,7 +22,7 @@ void put(const hv::Table &table, Table &out) {
     std::vector<const char *> texts, types;
     std::vector<hv_column> columns;
     for (const hv::NamedColumn &named : table) {
-        formats.push_back(named.logical_type);
+        formats.push_back(named.logical_type());
         columns.push_back(*named.column.raw());
     }
     for (size_t at = 0; at < names.size(); at++) {

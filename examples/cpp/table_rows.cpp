@@ -118,7 +118,7 @@ static void check_rows(const Table &table, const Rows &model) {
     CHECK(table.names() == model.names && table.rows() == model.rows.size());
     for (size_t column = 0; column < model.names.size(); column++) {
         const hv::NamedColumn &named = table.at(model.names[column]);
-        CHECK(named.logical_type == model.formats[column] && named.column.kind().number == model.kinds[column].number);
+        CHECK(named.logical_type() == model.formats[column] && named.column.kind().number == model.kinds[column].number);
         CHECK(named.column.size() == model.rows.size());
         for (size_t row = 0; row < model.rows.size(); row++) CHECK(named.column.at(row) == model.rows[row][column]);
     }

@@ -67,16 +67,16 @@ static void check_parts() {
     CHECK(table.names() == (std::vector<std::string>{"station", "level", "price", "at", "share"}));
     const std::vector<std::optional<int64_t>> levels{900, 903, std::nullopt, 41, 40};
     CHECK(table["level"].optionals<int64_t>() == levels);
-    CHECK(table["price"].form() == hv::Form::runs && table.at("at").logical_type == "tts");
-    CHECK(table.at("share").logical_type == "g" && hv::Floats<double>(table["share"].clone()).at(3) == 0.25);
+    CHECK(table["price"].form() == hv::Form::runs && table.at("at").logical_type() == "tts");
+    CHECK(table.at("share").logical_type() == "g" && hv::Floats<double>(table["share"].clone()).at(3) == 0.25);
     std::string names;
     for (const hv::NamedColumn &named : table) names += named.name + " ";
     CHECK(names == "station level price at share ");
     const Table few = table.select({"at", "station"});
-    CHECK(few.names() == (std::vector<std::string>{"at", "station"}) && few.at("at").logical_type == "tts");
+    CHECK(few.names() == (std::vector<std::string>{"at", "station"}) && few.at("at").logical_type() == "tts");
     CHECK(table.drop({"price", "share"}).names() == (std::vector<std::string>{"station", "level", "at"}));
     const Table more = few.with_column({"row", {0, 1, 2, 3, 4}}).with_column({"at", {5, 4, 3, 2, 1}});
-    CHECK(more.names() == (std::vector<std::string>{"at", "station", "row"}) && more.at("at").logical_type.empty());
+    CHECK(more.names() == (std::vector<std::string>{"at", "station", "row"}) && more.at("at").logical_type().empty());
     CHECK(rows_of(more["at"]) == numbers({5, 4, 3, 2, 1}) && rows_of(few["at"]) == numbers({10, 20, 30, 40, 50}));
     CHECK(few.rename("at", "time").names() == (std::vector<std::string>{"time", "station"}));
     Table moved = table.clone();
@@ -94,7 +94,7 @@ static void check_floats() {
     const std::vector<float> narrow{-16777216.0f, -16777218.0f, 0.1f};
     const std::vector<double> wide{9007199254740994.0, 9007199254740996.0, 0.1};
     const Table table{{"narrow", narrow}, {"wide", wide}, {"row", {0, 1, 2}}};
-    CHECK(table.at("narrow").logical_type == "f" && table["narrow"].kind().number == HV_I32);
+    CHECK(table.at("narrow").logical_type() == "f" && table["narrow"].kind().number == HV_I32);
     CHECK(rows_of(table.filter_by("narrow", "<", -16777217)["row"]) == numbers({1}));
     CHECK(rows_of(table.filter_by("narrow", ">", -16777217)["row"]) == numbers({0, 2}));
     CHECK(table.filter_by("narrow", "==", -16777217).rows() == 0 && table.filter_by("narrow", "!=", 0.1).rows() == 3);
@@ -104,8 +104,8 @@ static void check_floats() {
     CHECK(table.filter_by("wide", "<", std::nan("")).rows() == 0);
     const hv::TableGroups groups = table.with_column({"key", {1, 1, 2}}).group_by({"key"});
     const hv::NamedColumn sums = groups.fold({"sum", Fold::sum, "narrow"});
-    CHECK(sums.logical_type == "g" && hv::Floats<double>(sums.column.clone()).at(0) == -33554434.0);
-    CHECK(groups.fold({"most", Fold::greatest, "narrow"}).logical_type == "f");
+    CHECK(sums.logical_type() == "g" && hv::Floats<double>(sums.column.clone()).at(0) == -33554434.0);
+    CHECK(groups.fold({"most", Fold::greatest, "narrow"}).logical_type() == "f");
     const std::vector<std::optional<double>> some{std::nullopt, std::nullopt, 2.5};
     const Table missing{{"key", {1, 1, 2}}, {"x", some}};
     const hv::Floats<double> found(missing.group_by({"key"}).fold({"sum", Fold::sum, "x"}).column.clone());
@@ -126,14 +126,14 @@ static void check_rows() {
     CHECK(rows_of(table.filter_by("share", ">", 0.3)["at"]) == numbers({10, 50}));
     CHECK(table.slice(1, 3).rows() == 2 && rows_of(table.slice(1, 3)["at"]) == numbers({20, 30}));
     const Table picked = table.take(std::vector<int>{4, 0, 0});
-    CHECK(rows_of(picked["at"]) == numbers({50, 10, 10}) && picked.at("at").logical_type == "tts");
+    CHECK(rows_of(picked["at"]) == numbers({50, 10, 10}) && picked.at("at").logical_type() == "tts");
     const std::vector<std::optional<uint8_t>> maybe{1, std::nullopt};
     CHECK(rows_of(table.take(Column::of(maybe))["at"]) == (std::vector<Value>{int64_t{20}, Null{}}));
     CHECK(rows_of(table.filter(std::vector<bool>{true, false, false, false, true})["level"]) == numbers({900, 40}));
     CHECK(table.filter(table["level"].is_null()).rows() == 1);
     const Table twice = table.append(table);
     CHECK(twice.rows() == 10 && rows_of(twice["at"]) == numbers({10, 20, 30, 40, 50, 10, 20, 30, 40, 50}));
-    CHECK(twice.at("share").logical_type == "g" && twice["price"].form() == hv::Form::runs);
+    CHECK(twice.at("share").logical_type() == "g" && twice["price"].form() == hv::Form::runs);
     CHECK(table.append(table.select({"share", "at", "price", "level", "station"})) == twice);
     const Table none(std::vector<hv::NamedColumn>(), 3); // three rows of no columns
     CHECK(none.rows() == 3 && none.slice(0, 2).rows() == 2 && none.filter({true, false, true}).rows() == 2);
@@ -176,20 +176,20 @@ static void check_groups() {
     CHECK(found.names() == (std::vector<std::string>{"station", "rows", "levels", "total", "least", "first", "cost"}));
     CHECK(rows_of(found["rows"]) == counts({2, 3}) && rows_of(found["levels"]) == counts({2, 2}));
     CHECK(rows_of(found["total"]) == numbers({1803, 81}) && rows_of(found["least"]) == numbers({900, 40}));
-    CHECK(rows_of(found["first"]) == numbers({10, 30}) && found.at("first").logical_type == "tts");
+    CHECK(rows_of(found["first"]) == numbers({10, 30}) && found.at("first").logical_type() == "tts");
     CHECK(rows_of(found["cost"]) == (std::vector<Value>{Decimal::of(300, 2), Decimal::of(525, 2)}));
-    CHECK(found["cost"].kind().precision == 38 && found.at("total").logical_type.empty());
+    CHECK(found["cost"].kind().precision == 38 && found.at("total").logical_type().empty());
     const Table shares = table.filter_by("share", ">=", 0);
     const Table pairs = shares.group_by({"price", "station"}).agg({{"sum", Fold::sum, "share"}});
     CHECK(pairs.rows() == 2 && rows_of(pairs["station"]) == words({"north", "south"}));
     const hv::Floats<double> sums(pairs["sum"].clone());
-    CHECK(pairs.at("sum").logical_type == "g" && sums.at(0) == 0.5 && sums.at(1) == 1.25);
+    CHECK(pairs.at("sum").logical_type() == "g" && sums.at(0) == 0.5 && sums.at(1) == 1.25);
     const Table none = table.slice(0, 0).group_by({"station", "at"}).agg({{"sum", Fold::sum, "share"}});
-    CHECK(none.rows() == 0 && none.size() == 3 && none.at("at").logical_type == "tts");
+    CHECK(none.rows() == 0 && none.size() == 3 && none.at("at").logical_type() == "tts");
     const Table ends = groups.agg({{"least", Fold::least, "share"}, {"most", Fold::greatest, "share"}}); // no NaN
     const hv::Floats<double> least(ends["least"].clone()), most(ends["most"].clone());
     CHECK(least.at(0) == 0.0 && std::signbit(*least.at(0)) && least.at(1) == 0.25);
-    CHECK(most.at(0) == 0.5 && most.at(1) == 1.0 && ends.at("most").logical_type == "g");
+    CHECK(most.at(0) == 0.5 && most.at(1) == 1.0 && ends.at("most").logical_type() == "g");
     const Table odd = table.group_by({"at"}).agg({{"least", Fold::least, "share"}, {"first", Fold::first, "share"}});
     CHECK(hv::Floats<double>(odd["least"].clone()).at(2) == std::nullopt);
     CHECK(std::isnan(*hv::Floats<double>(odd["first"].clone()).at(2)));
@@ -381,8 +381,8 @@ struct Part {
 static Part part_of(const hv::NamedColumn &named, uint64_t version, uint8_t kept, hv::Bytes message) {
     hv::detail::Buffer footer;
     hv_error error;
-    const hv_table_part part{hv::detail::span_of(named.name), hv::detail::span_of(named.logical_type),
-                             named.column.raw()};
+    const std::string format = named.logical_type();
+    const hv_table_part part{hv::detail::span_of(named.name), hv::detail::span_of(format), named.column.raw()};
     CHECK(!hv_table_put_footer(footer.raw(), &part, message.size(), version, kept, &error));
     return {message, footer.bytes()};
 }
@@ -438,6 +438,18 @@ static void check_parts_of_files() {
     CHECK(!is_table(in_differences(Column::of<int8_t>({1, 2}), 1, 3)));
     CHECK(!is_table(in_differences(Column::of<int8_t>({100, -56}), 100, HV_TABLE_KEPT_FLAT))); // 200 does not fit
     CHECK(!is_table(in_differences(Column::of<int8_t>({100, -56}), 100, HV_TABLE_KEPT_RUNS)));
+    // the logical type is in the footer, and neither in the message of a column nor in that of its bounds
+    const hv::NamedColumn typed("a", named.column, "tts");
+    const Part typed_part = part_of(typed, 1, HV_TABLE_KEPT_ROWS, part.message);
+    CHECK(file_of(1, {2}, {typed_part}, {}) == Table{typed.clone()}.to_bytes());
+    CHECK(!is_table(file_of(1, {2}, {part_of(typed, 1, HV_TABLE_KEPT_ROWS, typed.column.to_bytes())}, {})));
+    CHECK(!is_table(file_of(1, {2}, {{typed.column.to_bytes(), part.footer}}, {})));
+    const hv::Bytes &said = part.footer;
+    const auto bounds = std::find(said.begin(), said.end(), 6 * 8 + 2);
+    hv::Bytes with_type(said.begin(), bounds), typed_bounds = typed.column.to_bytes();
+    with_type.insert(with_type.end(), {6 * 8 + 2, static_cast<uint8_t>(typed_bounds.size())});
+    with_type.insert(with_type.end(), typed_bounds.begin(), typed_bounds.end());
+    CHECK(!is_table(file_of(1, {2}, {{part.message, with_type}}, {})));
     Part longer = part;
     longer.footer.insert(longer.footer.end(), {7 * 8, 0});
     check_refused(HV_BAD_METADATA, "x, of 73 bytes, is not the file of a table",
@@ -486,7 +498,7 @@ static void check_arrow() {
     CHECK(std::string(schema.children[2]->format) == "+r" && std::string(schema.children[4]->format) == "+r");
     CHECK(std::string(hv_arrow_value_format(schema.children[4])) == "g");
     const Table again = Table::from_arrow(&schema, &array);
-    CHECK(again == table && again["price"].form() == hv::Form::runs && again.at("share").logical_type == "g");
+    CHECK(again == table && again["price"].form() == hv::Form::runs && again.at("share").logical_type() == "g");
     check_refused(HV_UNSUPPORTED, "a table comes from batches that have columns",
                   [&] { Table::from_arrow(schema.children[0], array.children[0]); });
     hv_arrow_release(&schema, &array);

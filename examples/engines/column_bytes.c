@@ -63,15 +63,18 @@ static int32_t least_type(hv_column *runs, hv_column *out, hv_error *error) {
     return HV_OK;
 }
 
-/* The message of a column, with the name of its logical type or without one. */
+/* The message of a column under the format of its logical type, or under none. */
 static int32_t written(const hv_column *column, const uint8_t *format, size_t len, uint8_t **bytes, size_t *size,
                        hv_error *error) {
-    int32_t answer = hv_typed_size(column, format, len, size, error);
-    if (answer) return answer;
-    *bytes = malloc(*size);
-    if (!*bytes) return HV_OUT_OF_MEMORY;
-    answer = hv_write_typed(column, format, len, *bytes, *size, size, error);
-    if (answer) free(*bytes), *bytes = NULL;
+    hv_column typed = HV_EMPTY;
+    uint8_t *made = NULL;
+    int32_t answer = hv_with_type(column, format, len, &typed, error);
+    if (!answer) answer = hv_write_size(&typed, size, error);
+    if (!answer) made = malloc(*size);
+    if (!answer) answer = made ? hv_write(&typed, made, *size, size, error) : HV_OUT_OF_MEMORY;
+    if (answer) free(made);
+    else *bytes = made;
+    hv_free(&typed);
     return answer;
 }
 
@@ -150,17 +153,33 @@ int32_t column_of_truths(const hv_column *truths, hv_column *out, hv_error *erro
     return answer;
 }
 
-/* The column of a message, or of the message after a line, and of floats the type of the keys; else HV_LIST. */
+/* The logical type of a column that was read: its format is the name in the message, after the version, its key and its
+ * length (docs/BYTES.md). */
+static logical_type type_read(const uint8_t *message, const hv_column *column) {
+    enum { BEFORE_LENGTH = 4 };
+    logical_type found = {message, 0, hv_kind_of(column).number};
+    hv_error error;
+    if (hv_type(column, NULL, 0, &found.len, &error) != HV_COLUMN_LENGTH) return found;
+    found.len = (size_t)error.first;
+    found.format += BEFORE_LENGTH + 1;
+    for (size_t more = found.len; more > 127; more >>= 7) found.format++;
+    return found;
+}
+
+/* The column of a message, or of the message after a line, which has no format, and of floats the type of the keys; else
+ * HV_LIST. */
 static int32_t read_message(const uint8_t *bytes, size_t size, hv_column *out, uint8_t *keys, logical_type *type,
                             hv_error *error) {
-    size_t at = 0, len = 0;
     *keys = float_line_read(bytes, size);
-    if (*keys != HV_LIST) return hv_read_column(bytes + FLOAT_LINE, size - FLOAT_LINE, out, error);
-    const int32_t answer = hv_read_typed(bytes, size, out, &at, &len, error);
-    if (!answer && len) *keys = float_keys_of(bytes + at, len);
-    if (!answer && *keys == HV_LIST && hv_kind_of(out).number != HV_BOOL)
-        *type = (logical_type){bytes + at, len, hv_kind_of(out).number};
-    return answer;
+    const bool has_line = *keys != HV_LIST;
+    const uint8_t *const message = has_line ? bytes + FLOAT_LINE : bytes;
+    const int32_t answer = hv_read_column(message, has_line ? size - FLOAT_LINE : size, out, error);
+    if (answer) return answer;
+    const logical_type found = type_read(message, out);
+    if (has_line) return found.len ? HV_BAD_METADATA : HV_OK;
+    if (found.len) *keys = float_keys_of(found.format, found.len);
+    if (*keys == HV_LIST && hv_kind_of(out).number != HV_BOOL) *type = found;
+    return HV_OK;
 }
 
 /* The rows as those of a database; `how` is the type of the keys of floats, else HV_LIST. */
@@ -181,7 +200,7 @@ int32_t column_bytes_read(const uint8_t *bytes, size_t size, hv_column *out, log
     hv_column column = HV_EMPTY;
     uint8_t keys;
     int32_t answer = read_message(bytes, size, &column, &keys, &found, error);
-    if (answer) return answer;
+    if (answer) return hv_free(&column), answer;
     const uint8_t number = hv_kind_of(&column).number;
     if (keys == HV_LIST && (number == HV_I64 || number == HV_UTF8 || number == HV_BINARY)) hv_put(out, &column);
     else if (number != HV_LIST && is_long(&column))

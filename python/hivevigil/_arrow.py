@@ -188,11 +188,11 @@ def stream_capsule(column: Column, requested: Any) -> Any:
 # ---- Tables out ----
 
 
-def struct_schema_capsule(columns: Mapping[str, Column], formats: Mapping[str, str]) -> Any:
+def struct_schema_capsule(columns: Mapping[str, Column]) -> Any:
     """The schema of a batch that has these columns."""
     capsule, schema = _new(ArrowSchema)
     none_of_each = {name: column.slice(0, 0) for name, column in columns.items()}
-    stream_capsule = struct_stream_capsule(none_of_each, formats, None)
+    stream_capsule = struct_stream_capsule(none_of_each, None)
     stream = _held(stream_capsule, ArrowArrayStream)
     failed = stream.get_schema(byref(stream), byref(schema))
     if failed:
@@ -200,7 +200,7 @@ def struct_schema_capsule(columns: Mapping[str, Column], formats: Mapping[str, s
     return capsule
 
 
-def struct_stream_capsule(columns: Mapping[str, Column], formats: Mapping[str, str], requested: Any) -> Any:
+def struct_stream_capsule(columns: Mapping[str, Column], requested: Any) -> Any:
     """A stream of one batch of columns by name, each in its format where it has one."""
     if not columns:
         raise Unsupported().saying("a table without columns does not go out to Arrow")
@@ -210,7 +210,7 @@ def struct_stream_capsule(columns: Mapping[str, Column], formats: Mapping[str, s
     lent = [_lent(column._there()) for column in columns.values()]
     for place, (name, column) in enumerate(columns.items()):
         handles[place], names[place] = lent[place]._handle, _name(name)
-        options[place] = _settled(name, column, formats.get(name), asked[place])
+        options[place] = _settled(name, column, asked[place])
     capsule, stream = _new(ArrowArrayStream)
     ask(calls.hv_export_stream, session, handles, names, count, 0, options, stream)
     return capsule
@@ -231,8 +231,10 @@ def _children_of(requested: Any, count: int) -> list[Any]:
     return [schema.children[place].contents if is_batch else None for place in range(count)]
 
 
-def _settled(name: str, column: Column, format: Optional[str], asked: Any) -> ArrowOptions:
+def _settled(name: str, column: Column, asked: Any) -> ArrowOptions:
     """How a column goes out: as it is asked for where that can be, else in its logical type."""
+    logical = column.logical_type
+    format = None if logical is None else logical.format
     own = _own_format(column, format)
     none = _lent(column.slice(0, 0))
     for options in [*([] if asked is None else _asked_options(asked, own)), ArrowOptions(**own)]:

@@ -197,7 +197,7 @@ class Groups:
         if all(type.rstrip("?") == types[name].rstrip("?") for name, type in before.items()):
             return self
         call = ": ".join(["group_by", *(part for _, part in self.sources[self.name][:1] if part)])
-        empty = self.empty._of({name: widened(column, types[name], call) for name, column in self.empty.items()}, 0, {})
+        empty = self.empty._of({name: widened(column, types[name], call) for name, column in self.empty.items()}, 0)
         none = TableGroups(empty, self.name).agg(self.asked)
         first, last = (edge and edge.widened(self.name, before, types, call) for edge in (self.first, self.last))
         whole = tuple(self._answers(part, none, call) for part in self.whole)
@@ -214,7 +214,7 @@ class Groups:
                     made[name] = column.cast(type, rounded=type == "float64?")
                 else:
                     made[name] = widened(column, type, call)
-        return part._of(made, part.rows, {})
+        return part._of(made, part.rows)
 
     def table(self) -> Table:
         """The answers: a row for each group."""
@@ -231,8 +231,8 @@ class Groups:
         key = self.none._column(self.name)
         if key.nullable or not any(type.endswith("?") for type, _ in self.sources[self.name]):
             return self.none
-        wider = key.storage().cast(f"{key.storage().type}?")._meaning(key._logical or key._other)
-        return self.none._of({**dict(self.none.items()), self.name: wider}, 0, self.none.logical_types)
+        wider = key.storage().cast(f"{key.storage().type}?")._meaning(key.logical_type)
+        return self.none._of({**dict(self.none.items()), self.name: wider}, 0)
 
     def _row(self, edge: Edge) -> Table:
         """The answers of a group that is whole."""
@@ -241,7 +241,7 @@ class Groups:
             column, fold = parts_of(name, asked)
             answer = edge.rows if column is None or fold == "size" else edge.values[column].answer(fold)
             columns[name] = self._cell(name, answer, edge.key)
-        return self.none._of(columns, 1, self.none.logical_types)
+        return self.none._of(columns, 1)
 
     def _cell(self, name: str, answer: Any, key: Column) -> Column:
         """An answer as a row of the column that has it."""
@@ -256,7 +256,7 @@ class Groups:
         except OverflowError:
             limit = "64 bits" if isinstance(answer, int) else "38 digits"
             raise OverflowError(f"{in_words(name)} of the group {in_words(key[0])} is {answer}, past {limit}") from None
-        return row._meaning(logical)
+        return row._meaning(column.logical_type)
 
 
 def _says_nothing(sources: Sources) -> bool:

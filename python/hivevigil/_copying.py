@@ -136,9 +136,7 @@ def token(column: Column) -> tuple[str, str]:
 def reduced(column: Column) -> Any:
     """How pickle makes the column again: from its bytes, or, of runs in more levels than bytes have, from ends and
     values."""
-    kind, logical = type(column), column._logical
-    if logical is not None:
-        return _made_of_storage, (column.storage(), logical.format)
+    kind = type(column)
     try:
         return _made_of_message, (kind, column.to_bytes())
     except Unsupported:
@@ -152,6 +150,7 @@ def _made_of_message(kind: type[Column], message: bytes) -> Column:
 
 
 def _made_of_storage(storage: Column, format: str) -> Column:
+    """As pickles of versions before 2.0 name it."""
     return storage._meaning(LogicalType.of_format(format))
 
 

@@ -11,7 +11,7 @@ from . import _runs
 from ._library import Kind, Pair, ask, calls
 from ._types import GREATEST_PRECISION, SCALES, TYPES, WHOLE_NUMBERS, text_of
 from ._values import decimal_of, is_missing, is_whole, unscaled
-from .errors import CastOutOfRange, ColumnLength, TypeMismatch
+from .errors import CastOutOfRange, ColumnLength
 
 if TYPE_CHECKING:
     from .column import Column
@@ -35,6 +35,10 @@ def total(column: Column) -> Decimal:
 
 def is_decimal(column: Column) -> bool:
     return TYPES[column._kind.number] == "decimal"
+
+
+def are_decimals(*columns: Column) -> bool:
+    return all(map(is_decimal, columns))
 
 
 def is_scaled(before: Kind, after: Kind) -> bool:
@@ -82,7 +86,7 @@ def at_one_scale(columns: list[Column], call: str) -> list[Column]:
 def together(left: Column, right: Column, call: str) -> tuple[Column, Column]:
     """Two columns that are worked row by row, those of decimals at one scale: the greater of both, in the digits that
     the rows of both need there, of 38 at most. OverflowError names the first row of one that has more."""
-    if not (is_decimal(left) and is_decimal(right)) or left._kind.scale == right._kind.scale and call in "+-":
+    if not are_decimals(left, right) or left._kind.scale == right._kind.scale and call in "+-":
         return left, right
     if left._length != right._length:
         raise ColumnLength(left._length, right._length)
@@ -122,17 +126,12 @@ def beside(column: Column, sign: str, value: Any) -> Column:
     return column.constant(value, column._length, f"decimal({len(str(abs(number)))}, {scale}){nullable}")
 
 
-def worked(left: Column, sign: str, number: int, done: str, right: Column) -> Column:
-    """What the sign of this number gives of the decimals at each place; a sentence says what was not done."""
-    try:
-        return left._made(calls.hv_decimal_combine, left, number, left._beside(right))
-    except CastOutOfRange as past:
-        row = past.fields[0]
-        said = f"row {row} is {left.at(row)} {sign} {right.at(row)}, which does not fit {_answers(left, sign, right)}"
-        raise past.saying(said) from None
-    except TypeMismatch as refused:
-        why = f"no column has the scale {left._kind.scale + right._kind.scale}"
-        raise refused.saying(f"{_named(left)} and {_named(right)} are not {done}: {why}") from None
+def answers(left: Column, sign: str, right: Column) -> str:
+    """The type of sums, differences or products of decimals, without null."""
+    one, other = left._kind, right._kind
+    digits = one.precision + other.precision if sign == "*" else max(one.precision, other.precision)
+    scale = one.scale + other.scale if sign == "*" else one.scale
+    return f"decimal({min(digits + 1, GREATEST_PRECISION)}, {scale})"
 
 
 def _scale_of(value: Any) -> int:
@@ -150,16 +149,4 @@ def _scale_from(least: int, value: Any) -> int:
     digits = "".join(map(str, exact.as_tuple().digits))
     needed = max(least, _scale_of(exact) - len(digits) + len(digits.rstrip("0")))
     return needed if needed in SCALES else least
-
-
-def _answers(left: Column, sign: str, right: Column) -> str:
-    """The type of the answers, without null."""
-    one, other = left._kind, right._kind
-    digits = one.precision + other.precision if sign == "*" else max(one.precision, other.precision)
-    scale = one.scale + other.scale if sign == "*" else one.scale
-    return f"decimal({min(digits + 1, GREATEST_PRECISION)}, {scale})"
-
-
-def _named(column: Column) -> str:
-    return str(column.type.rstrip("?"))
 

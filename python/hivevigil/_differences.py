@@ -31,22 +31,18 @@ def written(column: Column) -> Optional[Written]:
     message."""
     if column.form not in FORMS or TYPES[column._kind.number] not in WHOLE_NUMBERS:
         return None
-    steps = _steps(column.storage())
+    stored, size = column.storage(), ctypes.c_size_t()
+    steps = _steps(stored)
     message = b"" if steps is None else steps.to_bytes()
-    if steps is None or len(message) >= _message_size(column):
+    ask(calls.hv_write_size, stored, size)
+    if steps is None or len(message) >= size.value:
         return None
     form = FORMS.index(column.form)
     try:
         again = totals(steps, column._kind, form)
     except Damaged:  # more than MOST
         return None
-    return (form, message) if again.to_bytes() == column._message() else None
-
-
-def _message_size(column: Column) -> int:
-    size = ctypes.c_size_t()
-    ask(calls.hv_write_size, column, size)
-    return size.value
+    return (form, message) if again.to_bytes() == stored.to_bytes() else None
 
 
 def _steps(column: Column) -> Optional[Column]:

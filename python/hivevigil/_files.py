@@ -11,11 +11,11 @@ import uuid
 from collections.abc import Iterable
 from typing import TYPE_CHECKING, Any, Optional
 
-from ._library import Handle, ask, calls
+from ._library import ask, calls
 from ._protobuf import Fields
 from ._types import TYPES
 from .errors import BadMetadata, in_words
-from .logical import LogicalType, format_in_words
+from .logical import LogicalType, format_in_words, meaning_of
 
 if TYPE_CHECKING:
     from .column import Column
@@ -40,23 +40,20 @@ def load(kind: type[Column], path: Any) -> Column:
 def of_bytes(kind: type[Column], data: bytes) -> Column:
     """The column of a message, also of one after a line that names its type; no message begins with such a line."""
     format, message = _without_line(data)
-    if format is not None:
-        return _after_line(kind._of_message(message), format)
-    column, at, size = kind._owning(Handle()), ctypes.c_size_t(), ctypes.c_size_t()
-    ask(calls.hv_read_typed, data or b"\0", len(data), column._handle, at, size)
-    return meant(column, data[at.value : at.value + size.value].decode())
+    column = kind._made(calls.hv_read_column, message or b"\0", len(message))
+    return column if format is None else _after_line(column, format)
 
 
 def is_message(data: bytes) -> bool:
     """Whether `of_bytes` reads the bytes."""
     format, message = _without_line(data)
-    call, truth = calls.hv_is_typed_message if format is None else calls.hv_is_message, ctypes.c_uint8()
-    ask(call, message or b"\0", len(message), truth)
+    truth = ctypes.c_uint8()
+    ask(calls.hv_is_message, message or b"\0", len(message), truth)
     if not truth.value or format is None:
         return bool(truth.value)
     fields = Fields(message)
     fields.number(1)
-    return _logical_of(format, TYPES[fields.number(2) - 1]) is not None  # messages count from 1
+    return _of_line(format, TYPES[fields.number(2) - 1]) is not None  # messages count from 1
 
 
 def kind_of_bytes(data: bytes) -> str:
@@ -71,35 +68,28 @@ def kind_of(path: Any) -> str:
 
 
 def _without_line(data: bytes) -> tuple[Optional[str], bytes]:
-    """The format that a line before the message names, None without a line, and the message."""
-    if not data.startswith(_LINE):
+    """The format that a line names before a message without a type, and this message; else None, and the bytes."""
+    end = data.find(b"\n") + 1
+    if not data.startswith(_LINE) or not data.startswith(_PLAIN, end):
         return None, data
-    line = data[: data.find(b"\n")]
-    return line[len(_LINE) :].decode(errors="replace"), data[len(line) + 1 :]
-
-
-def meant(column: Column, format: str) -> Column:
-    """The column, which was made just now, whose rows mean what a format of Arrow says; one that is empty says nothing,
-    and one that is not of their type is kept."""
-    logical = _logical_of(format, column.type.rstrip("?")) if format else None
-    return column._meaning(logical or (LogicalType("other", format) if format else None))
+    return data[len(_LINE) : end - 1].decode(errors="replace"), data[end:]
 
 
 def _after_line(column: Column, format: str) -> Column:
-    """The column, which was read just now, with the logical type that the line before it names, which is one of its
-    rows, since versions that wrote lines wrote no other."""
+    """The column of a message without a type, with the one that the line before it names, which is one of its rows,
+    since versions that wrote lines wrote no other."""
     storage = column.type.rstrip("?")
-    logical = _logical_of(format, storage)
+    logical = _of_line(format, storage)
     if logical is None:
         said = f"from_bytes: {format_in_words(format)} is not a logical type of a column of {storage}"
         raise BadMetadata().saying(said)
     return column._meaning(logical)
 
 
-def _logical_of(format: str, storage: str) -> Optional[LogicalType]:
-    """The logical type that a format names, None where it is not one of integers of this type."""
-    logical = LogicalType.of_format(format)
-    return logical if logical is not None and logical.storage == storage else None
+def _of_line(format: str, storage: str) -> Optional[LogicalType]:
+    """The logical type that a line names, None where it is not one of rows of this type."""
+    logical = meaning_of(format, storage)
+    return None if logical is None or logical.sort == "other" else logical
 
 
 def save(column: Column, path: Any) -> None:

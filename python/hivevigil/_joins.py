@@ -121,6 +121,11 @@ def _pieces(
 
 def _taken(column: Column, pieces: Sequence[Piece], rows: int, has_null: bool) -> Column:
     """The rows of a column in pieces; its type has null where the pieces may."""
+    return _taken_from(column, pieces, rows, has_null)._meaning(column.logical_type)
+
+
+def _taken_from(column: Column, pieces: Sequence[Piece], rows: int, has_null: bool) -> Column:
+    """The same, which may be without a logical type that rows are not read as."""
     kind = column._kind
     kind.nullable = kind.nullable or has_null
     if is_list(column):

@@ -94,7 +94,6 @@ def worked(column: Any, sign: str, other: Any, is_left: bool = True) -> Column:
         column = _float_pairs.as_floats(column, sign, other)
     beside = other if isinstance(other, Pairs) else _constant(column, sign, other)
     left, right = (column, beside) if is_left else (beside, column)
-    number, done = SIGNS[sign]
     is_of_floats = sign == "/" or any(_floats.is_float(each._logical) for each in (left, right))
     if is_of_floats and sign in _float_pairs.NUMBERS and _float_pairs.are_numbers(left, right):
         return _float_pairs.worked(left, sign, right)
@@ -103,14 +102,12 @@ def worked(column: Any, sign: str, other: Any, is_left: bool = True) -> Column:
     _refuse_other_times(left, right, sign)
     if sign not in ("*", "&", "|"):
         left, right = _decimals.together(left, right, sign)
-    if sign in "+-*" and all(_decimals.is_decimal(each) for each in (left, right)):
-        return _decimals.worked(left, sign, number, done, right)
     try:
-        made: Column = column._made(calls.hv_combine, left, number, left._beside(right))
+        made: Column = column._made(calls.hv_combine, left, SIGNS[sign][0], left._beside(right))
         return made._meaning(left._logical if sign in _PICKS and right._logical is not None else None)
     except CastOutOfRange as past:
         row = past.fields[0]
-        said = f"row {row} is {left.at(row)} {sign} {right.at(row)}, which does not fit {_type_of(left)}"
+        said = f"row {row} is {left.at(row)} {sign} {right.at(row)}, which does not fit {_answers(left, sign, right)}"
         raise past.saying(said) from None
     except (TypeMismatch, Unsupported) as refused:
         raise refused.saying(_not_done(left, sign, right)) from None
@@ -119,7 +116,14 @@ def worked(column: Any, sign: str, other: Any, is_left: bool = True) -> Column:
 def _not_done(left: Any, sign: str, right: Any) -> str:
     """The sentence that two columns are not worked; & and | are taken before comparisons."""
     hint = f": comparisons are put in parentheses, as (column > 1) {sign} (column < 5)" if sign in "&|" else ""
+    if sign == "*" and _decimals.are_decimals(left, right):
+        hint = f": no column has the scale {left._kind.scale + right._kind.scale}"
     return f"{_type_of(left)} and {_type_of(right)} are not {SIGNS[sign][1]}{hint}"
+
+
+def _answers(left: Any, sign: str, right: Any) -> str:
+    """The type of sums, differences or products, without null."""
+    return _decimals.answers(left, sign, right) if _decimals.are_decimals(left, right) else _type_of(left)
 
 
 def _refuse_other_times(left: Any, right: Any, sign: str) -> None:

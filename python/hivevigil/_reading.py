@@ -4,18 +4,20 @@ from __future__ import annotations
 import array
 import ctypes
 from collections.abc import Iterator
-from typing import TYPE_CHECKING, Any
+from typing import TYPE_CHECKING, Any, Optional
 
 from . import _floats, _times
 from ._library import NUMBERS, Pair, ask, calls
 from ._types import LETTERS, TYPES, WIDTHS
 from ._values import Scalar, decimal_of
-from .errors import Unsupported
+from .errors import ColumnLength, Unsupported
+from .logical import LogicalType, meaning_of
 
 if TYPE_CHECKING:
     from .column import Column
 
 BLOCK = 65536  # rows
+_FORMAT = 32  # bytes of a format that are read at once
 _LETTERS = bytes.maketrans(b"01", b"\0\1")
 _OTHER = bytes.maketrans(b"\0\1", b"\1\0")
 
@@ -60,6 +62,18 @@ def floats(column: Column, start: int, stop: int) -> list[Any]:
     logical: Any = column._logical
     words = column._made(calls.hv_float_decode, column.slice(start, stop))
     return _floats.values_of_bits(logical.unit, numbers(words, 0, stop - start))
+
+
+def meaning(column: Column) -> Optional[LogicalType]:
+    """What the format of the column's handle says, None where it has none; a format that is not one of its rows is of
+    the sort 'other'."""
+    format, size = (ctypes.c_uint8 * _FORMAT)(), ctypes.c_size_t()
+    try:
+        ask(calls.hv_type, column, format, len(format), size)
+    except ColumnLength as longer:
+        format = (ctypes.c_uint8 * longer.fields[0])()
+        ask(calls.hv_type, column, format, len(format), size)
+    return meaning_of(bytes(format)[: size.value].decode(), TYPES[column._kind.number])
 
 
 def decimals(column: Column, start: int, stop: int) -> bytes:

@@ -63,8 +63,9 @@ def _head(column: Column) -> str:
     runs = _runs_of(column)
     in_form = column.form if runs is None or column.form == "constant" else f"in {_counted(runs, 'run')}"
     comma = "," if not in_form.startswith("in ") else ""
-    name = column.type if column._logical is None else f"{column._logical}{'?' * column.nullable}"
-    name += f" {column._other}" if column._other is not None else ""
+    logical = column.logical_type
+    name = column.type if column._logical is None else f"{logical}{'?' * column.nullable}"
+    name += f" {logical}" if logical is not None and logical.sort == "other" else ""
     return f"Column {name}: {_counted(column._length, 'row')}{comma} {in_form}"
 
 

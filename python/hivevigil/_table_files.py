@@ -17,6 +17,7 @@ from ._types import TYPES, WHOLE_NUMBERS, WIDTHS
 from ._values import MOST_ROWS, Scalar, size_of
 from .column import Column
 from .errors import BadMetadata, NoName, OverLimit, in_words
+from .logical import meaning_of
 
 # by the version: 2 where a column is kept as differences, which earlier readers refuse
 _HEADS = {version: sized_field(1, b"hivevigil") + number_field(2, version) for version in (1, 2)}
@@ -103,17 +104,15 @@ class TableFooter:
 # ---- What is written
 
 
-def parts(
-    columns: Mapping[str, Column], rows: int, logical: Mapping[str, str], differences: bool = False
-) -> Iterator[bytes]:
+def parts(columns: Mapping[str, Column], rows: int, differences: bool = False) -> Iterator[bytes]:
     """The bytes of a table, a column at a time: in version 2 where some are kept as differences, as they may be."""
     kept = _kept_as_differences(columns) if differences else {}
     yield _HEADS[2 if kept else 1]
     footer = number_field(1, rows)
     for name, column in columns.items():
         with about(name):
-            form, message = kept[name] if name in kept else (0, column._message())
-            known = _column_footer(name, column, logical.get(name, ""), len(message), form if kept else None)
+            form, message = kept[name] if name in kept else (0, column.storage().to_bytes())
+            known = _column_footer(name, column, len(message), form if kept else None)
             footer += sized_field(2, known)
         yield sized_field(_COLUMN, message)
     yield sized_field(_FOOTER, footer) + _FOOTER_SIZE + len(footer).to_bytes(8, "little")
@@ -130,9 +129,11 @@ def _kept_as_differences(columns: Mapping[str, Column]) -> dict[str, _difference
     return found
 
 
-def _column_footer(name: str, column: Column, logical_type: str, size: int, form: Optional[int]) -> bytes:
+def _column_footer(name: str, column: Column, size: int, form: Optional[int]) -> bytes:
     """What a footer says of a column; `form` only in version 2."""
-    footer = sized_field(1, name.encode()) + sized_field(2, logical_type.encode()) + number_field(3, size)
+    logical = column.logical_type
+    format = b"" if logical is None else logical.format.encode()
+    footer = sized_field(1, name.encode()) + sized_field(2, format) + number_field(3, size)
     if column.type.startswith("list"):
         return footer
     runs = column.storage().to_runs()
@@ -230,9 +231,9 @@ class TableFile:
         data = self._read(entry.start, len(entry.head) + entry.footer.nbytes)
         if not data.startswith(entry.head):
             raise Damaged
-        column = _column_of_entry(entry, data[len(entry.head) :], self.rows)
+        column = _meant(_column_of_entry(entry, data[len(entry.head) :], self.rows), entry.footer.logical_type or "")
         form = entry.form if self._version == 2 else None
-        known = _column_footer(name, column, entry.footer.logical_type or "", entry.footer.nbytes, form)
+        known = _column_footer(name, column, entry.footer.nbytes, form)
         if column._length != self.rows or known != entry.data:
             raise Damaged
         return column
@@ -250,7 +251,7 @@ def _entry(data: bytes, start: int, version: int) -> _Entry:
         raise Damaged
     if form and TYPES[bounds._kind.number] not in WHOLE_NUMBERS:
         raise Damaged
-    known = nulls, runs, _files.meant(bounds, logical_type), _differences.FORMS[form] or None
+    known = nulls, runs, _meant(bounds, logical_type), _differences.FORMS[form] or None
     return _Entry(ColumnFooter(name, logical_type or None, size, *known), data, start, form)
 
 
@@ -270,16 +271,24 @@ def _column_of_entry(entry: _Entry, message: bytes, rows: int) -> Column:
 
 
 def _column_of(message: bytes) -> Column:
+    """The column of a message without a type, which a table has in its footer."""
     try:
-        return Column._of_message(message)
+        column = Column.from_bytes(message)
     except BadMetadata:
         raise Damaged from None
+    if column.logical_type is not None:
+        raise Damaged
+    return column
+
+
+def _meant(column: Column, format: str) -> Column:
+    return column._meaning(meaning_of(format, TYPES[column._kind.number]))
 
 
 # ---- Files and bytes
 
 
-Contents = tuple[dict[str, Column], int, dict[str, str]]  # the columns, the rows, the logical types
+Contents = tuple[dict[str, Column], int]  # the columns, the rows
 
 
 def _chosen(file: TableFile, names: Optional[Any], limit: int) -> Contents:
@@ -292,9 +301,7 @@ def _chosen(file: TableFile, names: Optional[Any], limit: int) -> Contents:
     size = sum(file.entries[name].footer.kept_bytes(file.rows) for name in chosen)
     if size > limit:
         raise OverLimit(min(size, MOST_ROWS), limit)
-    formats = {name: entry.footer.logical_type for name, entry in file.entries.items()}
-    logical = {name: format for name, format in formats.items() if format is not None}
-    return {name: file.column(name) for name in chosen}, file.rows, logical
+    return {name: file.column(name) for name in chosen}, file.rows
 
 
 def read_bytes(data: Any, limit: int) -> Contents:

@@ -6,13 +6,14 @@ import os
 from collections.abc import Iterable, Iterator, Mapping
 from typing import TYPE_CHECKING, Any, Optional, Union
 
-from . import _files
 from ._making import shows_no_type
+from ._types import TYPES
 from ._values import checked_text, size_of
 from .builder import Builder
 from .column import Column
 from .csv_files import CsvFile
 from .errors import HivevigilError, in_words
+from .logical import meaning_of
 
 if TYPE_CHECKING:
     from .table import Table
@@ -94,8 +95,8 @@ def _pairs_of(columns: Any) -> Iterable[tuple[Any, Any]]:
     return pairs
 
 
-def logical_types_of(given: Any, columns: Mapping[str, Column]) -> dict[str, str]:
-    """Logical types by name, each of a column that there is, in the order of the columns."""
+def checked_logical_types(given: Any, columns: Mapping[str, Column]) -> Mapping[str, str]:
+    """Logical types by name, each of a column that there is."""
     if not isinstance(given, Mapping):
         raise TypeError(f"logical types are a mapping from names, not {in_words(given)}")
     for name, format in given.items():
@@ -104,20 +105,15 @@ def logical_types_of(given: Any, columns: Mapping[str, Column]) -> dict[str, str
         if not isinstance(format, str) or not format:
             raise TypeError(f"a logical type is a format of Arrow, as 'tsu:UTC', not {in_words(format)}")
         checked_text(format, f"the logical type of column {in_words(name)}: ")
-    return {name: given[name] for name in columns if name in given}
+    return dict(given)
 
 
-def meanings(columns: Mapping[str, Column], formats: Mapping[str, str]) -> dict[str, str]:
-    """The logical types of columns that nobody else has, by name: those that are given, which columns of the integers
-    that these are stored as have from then on, else their own."""
-    found = {}
-    for name, column in columns.items():
-        if name in formats:
-            found[name] = formats[name]
-            _files.meant(column, formats[name])
-        elif column.logical_type is not None:
-            found[name] = column.logical_type.format
-    return found
+def under(columns: Mapping[str, Column], formats: Mapping[str, str]) -> dict[str, Column]:
+    """The columns under the formats that are given by name; the others as they are."""
+    return {
+        name: column._meaning(meaning_of(formats[name], TYPES[column._kind.number])) if name in formats else column
+        for name, column in columns.items()
+    }
 
 
 def check_names(table: Table, other: Any) -> None:

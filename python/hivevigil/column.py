@@ -19,6 +19,8 @@ from .errors import NoColumn, Unsupported, in_words
 from .groups import Groups
 from .logical import LogicalType, asked_type, storage_of
 
+_UNREAD: Any = object()
+
 
 class Column(_comparing.Comparisons, _pairs.Pairs, _ufuncs.Ufuncs):
     """Rows of one type, each a value or null. What a command makes is a new column; the old one stays as it was.
@@ -27,11 +29,10 @@ class Column(_comparing.Comparisons, _pairs.Pairs, _ufuncs.Ufuncs):
     as NoColumn. Threads may use one column at once: calls over many rows release the interpreter's lock.
     """
 
-    __slots__ = ("_handle", "_as_parameter_", "_logical", "_other", "__weakref__")
+    __slots__ = ("_handle", "_as_parameter_", "_meant", "__weakref__")
     _handle: Handle
     _as_parameter_: Any  # what ctypes passes for a column, which it keeps alive during the call
-    _logical: Optional[LogicalType]  # what the rows are read as
-    _other: Optional[LogicalType]  # of a sort that only bytes keep
+    _meant: Optional[LogicalType]  # what the format of the handle says, once it has been read
 
     def __init__(self, *_: object, **__: object) -> None:
         raise TypeError("Column.of(rows) makes a column; so do from_buffer, from_runs, from_arrow and from_record")
@@ -39,10 +40,10 @@ class Column(_comparing.Comparisons, _pairs.Pairs, _ufuncs.Ufuncs):
     # ---- Life ----
 
     @classmethod
-    def _owning(cls, handle: Handle, logical: Optional[LogicalType] = None) -> Column:
+    def _owning(cls, handle: Handle) -> Column:
         column = cls.__new__(cls)
-        column._handle, column._as_parameter_ = handle, ctypes.pointer(handle)
-        return column._meaning(logical)
+        column._handle, column._as_parameter_, column._meant = handle, ctypes.pointer(handle), _UNREAD
+        return column
 
     @classmethod
     def _made(cls, call: Any, *arguments: Any) -> Column:
@@ -50,15 +51,12 @@ class Column(_comparing.Comparisons, _pairs.Pairs, _ufuncs.Ufuncs):
         ask(call, *arguments, column._handle)
         return column
 
-    def _kept(self, call: Any, *arguments: Any) -> Column:
-        """What a call makes whose rows mean what those of this column do."""
-        return self._made(call, *arguments)._meaning(self._logical or self._other)
-
     def _meaning(self, logical: Optional[LogicalType]) -> Column:
-        """This column, which was made just now, of integers that mean something."""
-        is_other = logical is not None and logical.sort == "other"
-        self._logical, self._other = (None, logical) if is_other else (logical, None)
-        return self
+        """The column under a logical type, or under none; itself where it is."""
+        if logical == self.logical_type:
+            return self
+        format = b"" if logical is None else logical.format.encode()
+        return self._made(calls.hv_with_type, self, format, len(format))
 
     def _there(self) -> Column:
         """The column, for calls that refuse nothing. The others refuse a freed one themselves."""
@@ -90,11 +88,11 @@ class Column(_comparing.Comparisons, _pairs.Pairs, _ufuncs.Ufuncs):
 
     def copy(self) -> Column:
         """The same column in the same form, which is freed by itself."""
-        return self._kept(calls.hv_clone, self)
+        return self._made(calls.hv_clone, self)
 
     def compact(self) -> Column:
         """A copy in the same form that shares no buffer but texts' bytes: a small slice keeps a whole column's."""
-        return self._kept(calls.hv_compact, self)
+        return self._made(calls.hv_compact, self)
 
     def __copy__(self) -> Column:
         return self.copy()
@@ -197,7 +195,7 @@ class Column(_comparing.Comparisons, _pairs.Pairs, _ufuncs.Ufuncs):
         if rows is None:
             rows = max(0, whole(end_column[-1], "an end") - start) if len(end_column) else 0
         count = size_of(rows, "the number of rows")
-        return value_column._kept(calls.hv_runs, end_column, end_column._beside(value_column), start, count)
+        return cls._made(calls.hv_runs, end_column, end_column._beside(value_column), start, count)
 
     @classmethod
     def constant(cls, value: Scalar, rows: int, type: Any = None) -> Column:
@@ -221,18 +219,13 @@ class Column(_comparing.Comparisons, _pairs.Pairs, _ufuncs.Ufuncs):
         """The run column of this many rows that a metadata record describes, over copies of ends and values."""
         count, data = size_of(rows, "the number of rows"), bytes(_making.view_of(record))
         passed_record = (kind_of(type), count, data or b"\0", len(data))
-        return _column(values)._kept(calls.hv_deserialize, *passed_record, _column(ends), ends._beside(values))
+        return cls._made(calls.hv_deserialize, *passed_record, _column(ends), ends._beside(values))
 
     @classmethod
     def from_bytes(cls, message: bytes) -> Column:
         """The column that `to_bytes` wrote, in the form that it had, with its logical type. `BadMetadata` for other
         bytes. Files of earlier versions, which have a line before the message that says the type, are read too."""
         return _files.of_bytes(cls, bytes(_making.view_of(message)))  # of a number bytes() would make as many bytes
-
-    @classmethod
-    def _of_message(cls, message: bytes) -> Column:
-        """The column of a message that keeps no logical type."""
-        return cls._made(calls.hv_read_column, message or b"\0", len(message))
 
     @staticmethod
     def is_message(message: bytes) -> bool:
@@ -266,26 +259,26 @@ class Column(_comparing.Comparisons, _pairs.Pairs, _ufuncs.Ufuncs):
 
     def encode(self) -> Column:
         """The rows of integers in as few runs as possible; to_runs() serves every type but lists."""
-        return self._kept(calls.hv_encode, session, self)
+        return self._made(calls.hv_encode, session, self)
 
     def to_runs(self) -> Column:
         """The rows of any type but lists in as few runs as possible."""
-        return self._kept(calls.hv_encode_rows, self)
+        return self._made(calls.hv_encode_rows, self)
 
     def reverse(self) -> Column:
         """The last row first, of any type but lists, in as few runs as possible; a constant stays one."""
-        return self._kept(calls.hv_reverse, self)
+        return self._made(calls.hv_reverse, self)
 
     def decode(self) -> Column:
         """The rows written out in a flat form."""
-        return self._kept(calls.hv_decode, session, self)
+        return self._made(calls.hv_decode, session, self)
 
     def _flat(self) -> Column:
         return self if self.form == "flat" else self.decode()
 
     def slice(self, start: int, stop: int) -> Column:
         """The rows from `start` to `stop` - 1, all of which have to exist; `column[start:stop]` cuts as Python does."""
-        return self._kept(calls.hv_slice, session, self, size_of(start, "the start"), size_of(stop, "the stop"))
+        return self._made(calls.hv_slice, session, self, size_of(start, "the start"), size_of(stop, "the stop"))
 
     def cast(self, type: Any, nullable: Optional[bool] = None, *, rounded: bool = False) -> Column:
         """Each row as the same value of a type: refused at the first row that does not fit, or that is null where the
@@ -303,20 +296,20 @@ class Column(_comparing.Comparisons, _pairs.Pairs, _ufuncs.Ufuncs):
     def take(self, indices: Any) -> Column:
         """The rows at the indices: a column, a list, or an array; null at a null index. In lists and arrays negative
         indices count from the end."""
-        return self._kept(calls.hv_take, session, self, self._beside(_indexing.indices_of(self, indices)))
+        return self._made(calls.hv_take, session, self, self._beside(_indexing.indices_of(self, indices)))
 
     def filter(self, mask: Any) -> Column:
         """The rows at which the mask, a column in any form, a list or an array, is true; null selects nothing."""
-        return self._kept(calls.hv_filter, session, self, self._beside(_indexing.mask_of(self, mask)))
+        return self._made(calls.hv_filter, session, self, self._beside(_indexing.mask_of(self, mask)))
 
     def take_from(self, dictionary: Any) -> Column:
         """The rows of the dictionary that these codes number from 0; null stays null."""
         values = dictionary if isinstance(dictionary, Column) else self.of(dictionary)
-        return values._kept(calls.hv_take_from, session, self, self._beside(values))
+        return self._made(calls.hv_take_from, session, self, self._beside(values))
 
     def fill(self, value: Any) -> Column:
         """A value in place of each null, after which the type has no null."""
-        return self._kept(calls.hv_fill, session, self, *passed(self._kind, _times.number_of(self._logical, value)))
+        return self._made(calls.hv_fill, session, self, *passed(self._kind, _times.number_of(self._logical, value)))
 
     def is_null(self) -> Column:
         """Whether each row is null: a mask without null."""
@@ -367,7 +360,7 @@ class Column(_comparing.Comparisons, _pairs.Pairs, _ufuncs.Ufuncs):
         _sorting.refuse_lists(self)
         if flag == first:
             return _sorting.sorted_rows(self, flag, first)
-        ordered = self._kept(calls.hv_sort, self)
+        ordered = self._made(calls.hv_sort, self)
         return ordered.reverse() if flag else ordered
 
     def nlargest(self, count: int) -> Column:
@@ -430,11 +423,22 @@ class Column(_comparing.Comparisons, _pairs.Pairs, _ufuncs.Ufuncs):
         """What the integers mean, as 'timestamp[us, UTC]' by str: dates, times, timestamps, durations. None where
         they mean themselves, and for columns of other types. One of the sort 'other' came with the bytes, and is kept:
         the rows are those that are stored."""
-        return self._there()._logical or self._other
+        return self._there()._meaning_read()
+
+    def _meaning_read(self) -> Optional[LogicalType]:
+        if self._meant is _UNREAD:
+            self._meant = None if self.freed else _reading.meaning(self)
+        return self._meant
+
+    @property
+    def _logical(self) -> Optional[LogicalType]:
+        """What the rows are read as: no type of the sort 'other'."""
+        logical = self._meaning_read()
+        return None if logical is None or logical.sort == "other" else logical
 
     def storage(self) -> Column:
         """The same column of the integers that its rows are stored as."""
-        return self._made(calls.hv_clone, self)
+        return self._made(calls.hv_with_type, self, b"", 0)
 
     @property
     def dtype(self) -> Any:
@@ -668,7 +672,7 @@ class Column(_comparing.Comparisons, _pairs.Pairs, _ufuncs.Ufuncs):
         """The value of each stored run."""
         if self.form == "constant":
             return self.slice(0, min(1, self._length)).decode()
-        return self._kept(calls.hv_values, self)
+        return self._made(calls.hv_values, self)
 
     def record(self) -> bytes:
         """The metadata record of a run column."""
@@ -680,14 +684,10 @@ class Column(_comparing.Comparisons, _pairs.Pairs, _ufuncs.Ufuncs):
         """The column as bytes, in the form that it has, to keep or to send: a message of the Protocol Buffers encoding,
         which keeps the logical type. Texts and bytes are read into one buffer. Only more than 16 levels of runs are
         refused, as `Unsupported`."""
-        return self._message(self.logical_type)
-
-    def _message(self, logical: Optional[LogicalType] = None) -> bytes:
-        """The message of the column, of this logical type or of none."""
-        size, name = ctypes.c_size_t(), b"" if logical is None else logical.format.encode()
-        ask(calls.hv_typed_size, self, name, len(name), size)
+        size = ctypes.c_size_t()
+        ask(calls.hv_write_size, self, size)
         data = ctypes.create_string_buffer(size.value)
-        ask(calls.hv_write_typed, self, name, len(name), data, len(data), size)
+        ask(calls.hv_write, self, data, len(data), size)
         return data.raw
 
     def save(self, path: Any) -> None:

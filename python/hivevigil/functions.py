@@ -36,7 +36,8 @@ def joined(given: Sequence[Column], call: str, parts: Sequence[str] = ()) -> Col
     for place, column in enumerate(given):
         handles[place] = column._there()._handle
     try:
-        return given[0]._kept(calls.hv_concat_columns, session, handles, len(given))
+        made = Column._made(calls.hv_concat_columns, session, handles, len(given))
+        return made._meaning(given[0].logical_type)
     except TypeMismatch as refused:
         why = "the elements are of two types; columns of one type are joined"
         raise refused.saying(f"{call}: {why}") from None

@@ -135,8 +135,7 @@ class Groups:
         keys, answers = kind._owning(Handle()), kind._owning(Handle())
         values, number = self._keys._beside(self._values), FOLDS.index(fold)
         ask(calls.hv_fold_by, self._keys, values, number, keys._handle, answers._handle)
-        keys._meaning(self._keys._logical)
-        return keys, answers._meaning(None if fold in ("rows", "count") else self._values._logical)
+        return keys, answers._meaning(self._values._logical) if fold == "sum" else answers
 
 
 def _places_of(values: Column) -> tuple[Column, Column]:
@@ -146,7 +145,8 @@ def _places_of(values: Column) -> tuple[Column, Column]:
     order = sorted({run.value for run in runs if run.value is not None})
     place_of = {value: place for place, value in enumerate(order)}
     places = kind.of([None if run.value is None else place_of[run.value] for run in runs], "u64?")
-    return kind.from_runs([run.stop for run in runs], places), kind.of(order, f"{name}?")
+    distinct = kind.of(order, f"{name}?")._meaning(values.logical_type)
+    return kind.from_runs([run.stop for run in runs], places), distinct
 
 
 def _float_sum(part: Column) -> Any:

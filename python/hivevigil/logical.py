@@ -11,6 +11,7 @@ A type is written 'date', 'date[ms]', 'time[us]', 'timestamp[us]', 'timestamp[ns
 """
 from __future__ import annotations
 
+import functools
 import re
 from dataclasses import dataclass
 from datetime import date, datetime, time, timedelta
@@ -106,6 +107,15 @@ class LogicalType:
         if sort == "date" and letter not in ("D", "m"):
             return None
         return cls(sort, unit, rest[1:])
+
+
+@functools.lru_cache(maxsize=256)
+def meaning_of(format: str, storage: str) -> Optional[LogicalType]:
+    """What a format of Arrow says of rows of a type: nothing where it is empty, and the sort 'other' where it is not one
+    of these rows."""
+    logical = LogicalType.of_format(format)
+    is_served = logical is not None and logical.storage == storage
+    return logical if is_served or not format else LogicalType("other", format)
 
 
 def asked_type(asked: Any) -> tuple[Kind, Optional[LogicalType]]:

@@ -28,10 +28,9 @@ class Table(Mapping[str, Column]):
     whether two are one object; `equals` compares rows.
     """
 
-    __slots__ = ("_columns", "_rows", "_logical", "__weakref__")
+    __slots__ = ("_columns", "_rows", "__weakref__")
     _columns: dict[str, Column]
     _rows: int
-    _logical: dict[str, str]
 
     def __init__(
         self, columns: Any = (), logical_types: Optional[Mapping[str, str]] = None, rows: Optional[int] = None
@@ -47,16 +46,14 @@ class Table(Mapping[str, Column]):
                 other = "the table" if rows is not None else f"column {in_words(next(iter(lengths)))}"
                 said = f"column {in_words(name)} has {length} rows, and {other} {count}"
                 raise ColumnLength(count, length).saying(said)
-        self._columns, self._rows = made, count
-        given = _table_making.logical_types_of({} if logical_types is None else logical_types, made)
-        self._logical = _table_making.meanings(made, given)
+        formats = _table_making.checked_logical_types({} if logical_types is None else logical_types, made)
+        self._columns, self._rows = _table_making.under(made, formats), count
 
     @classmethod
-    def _of(cls, columns: dict[str, Column], rows: int, logical: Mapping[str, str]) -> Table:
+    def _of(cls, columns: dict[str, Column], rows: int) -> Table:
         """A table of columns that nobody else has, of which those are known to fit."""
         table = cls.__new__(cls)
         table._columns, table._rows = columns, rows
-        table._logical = _table_making.meanings(columns, logical)
         return table
 
     if not TYPE_CHECKING:  # which would take any name for one of a table
@@ -88,8 +85,8 @@ class Table(Mapping[str, Column]):
         if not imported.names:
             what = "an array" if imported.names is None else "no columns"
             raise TypeError(f"Table.from_arrow takes a batch or a table, and this is {what}")
-        columns = dict(zip(imported.names, imported.columns))
-        return cls._of(columns, imported.columns[0]._length, imported.logical_types())
+        columns = _table_making.under(dict(zip(imported.names, imported.columns)), imported.logical_types())
+        return cls._of(columns, imported.columns[0]._length)
 
     @classmethod
     def from_bytes(cls, data: bytes, limit: int = LIMIT) -> Table:
@@ -135,7 +132,8 @@ class Table(Mapping[str, Column]):
     @property
     def logical_types(self) -> dict[str, str]:
         """The logical types, formats of Arrow, of the columns that have one."""
-        return dict(self._logical)
+        found = ((name, column.logical_type) for name, column in self._columns.items())
+        return {name: logical.format for name, logical in found if logical is not None}
 
     @property
     def nbytes(self) -> int:
@@ -148,7 +146,7 @@ class Table(Mapping[str, Column]):
 
     def __dask_tokenize__(self) -> tuple[Any, ...]:
         tokens = [(name, column.__dask_tokenize__()) for name, column in self._columns.items()]
-        return "hivevigil.Table", self._rows, tokens, sorted(self._logical.items())
+        return "hivevigil.Table", self._rows, tokens
 
     def __len__(self) -> int:
         """How many columns there are."""
@@ -196,7 +194,7 @@ class Table(Mapping[str, Column]):
         """What a function makes of each column, columns of one length."""
         made = {name: work(column) for name, column in self._columns.items()}
         rows = (next(iter(made.values())) if made else work(self._any()))._length
-        return self._of(made, rows, self._logical)
+        return self._of(made, rows)
 
     def filter(self, mask: Any) -> Table:
         """The rows at which the mask, a column in any form, a list or an array, is true; null selects nothing."""
@@ -248,7 +246,7 @@ class Table(Mapping[str, Column]):
             hint = ": Table.from_pandas(frame) makes one" if hasattr(other, "iloc") else ""
             raise TypeError(f"a table is joined with a Table, not with {_table_making.what_is(other)}{hint}")
         columns, rows = _joins.joined(self, other, on, how)
-        return self._of(columns, rows, {**other._logical, **self._logical})
+        return self._of(columns, rows)
 
     def append(self, *tables: Table) -> Table:
         """The rows of this table, then those of others, which have columns of the same names. Columns of several types
@@ -269,7 +267,7 @@ class Table(Mapping[str, Column]):
         for name in first._columns:
             with about(name):
                 made[name] = joined([table._columns[name] for table in tables], call, parts)
-        return cls._of(made, rows, {})
+        return cls._of(made, rows)
 
     def to_runs(self) -> Table:
         """Each column in as few runs as possible; lists as they are."""
@@ -296,16 +294,15 @@ class Table(Mapping[str, Column]):
     def with_column(self, name: str, column: Any, logical_type: Optional[str] = None) -> Table:
         """The same columns and one more, or another in place of that of this name; a Column, or what `Column.of`
         takes, of as many rows as the table has. Its logical type is the one that is given."""
-        kept = {key: other for key, other in self._logical.items() if key != name}
         added = {} if logical_type is None else {name: logical_type}
         columns = {**self._columns, checked_name(name): column}
-        return type(self)(columns, {**kept, **added}, self._rows if self._columns or self._rows else None)
+        return type(self)(columns, added, self._rows if self._columns or self._rows else None)
 
     def select(self, *names: Names) -> Table:
         """The columns of these names, in this order, each once."""
         chosen = [(name, self._column(name)) for name in each_of(names)]
         refuse_twice(name for name, _ in chosen)
-        return self._of({name: column.copy() for name, column in chosen}, self._rows, self._logical)
+        return self._of({name: column.copy() for name, column in chosen}, self._rows)
 
     def drop(self, *names: Names) -> Table:
         """All columns but those of these names."""
@@ -321,8 +318,7 @@ class Table(Mapping[str, Column]):
         changed = [checked_name(names.get(name, name)) for name in self._columns]
         refuse_twice(changed)
         columns = {name: column.copy() for name, column in zip(changed, self._columns.values())}
-        logical = {new: self._logical[old] for new, old in zip(changed, self._columns) if old in self._logical}
-        return self._of(columns, self._rows, logical)
+        return self._of(columns, self._rows)
 
     # ---- Comparing ----
 
@@ -331,7 +327,7 @@ class Table(Mapping[str, Column]):
         if not isinstance(other, Table):
             raise TypeError(f"a table is compared with a Table, not with {in_words(other)}")
         if (self.names, self.types, self._rows) != (other.names, other.types, other._rows) or (
-            self._logical != other._logical
+            self.logical_types != other.logical_types
         ):
             return False
         return all(_have_equal_rows(column, other._columns[name]) for name, column in self._columns.items())
@@ -349,12 +345,12 @@ class Table(Mapping[str, Column]):
         column of integers or times is kept as those of its rows where that is shorter, as for times at regular steps:
         the bytes are then of version 2, which readers of version 1 refuse. A column of more than 16 levels of runs is
         refused, as `Unsupported`."""
-        return b"".join(_table_files.parts(self._columns, self._rows, self._logical, differences))
+        return b"".join(_table_files.parts(self._columns, self._rows, differences))
 
     def save(self, path: Any, differences: bool = False) -> None:
         """Writes the bytes of `to_bytes` to a file, a column at a time, which `load` reads. A file of this name is
         replaced at once when all is written, and stays as it was where that fails."""
-        _files.write(path, _table_files.parts(self._columns, self._rows, self._logical, differences))
+        _files.write(path, _table_files.parts(self._columns, self._rows, differences))
 
     def to_csv(self, path: Any) -> None:
         """Writes the rows to a CSV file, which `from_csv` reads: a line of names, then a line for each row. Null is an
@@ -381,14 +377,14 @@ class Table(Mapping[str, Column]):
         raise TypeError(f"a table is not an array: {hint}")
 
     def __arrow_c_schema__(self) -> Any:
-        return _arrow.struct_schema_capsule(self._columns, self._logical)
+        return _arrow.struct_schema_capsule(self._columns)
 
     def __arrow_c_stream__(self, requested_schema: Any = None) -> Any:
         """A stream of one batch, as Arrow libraries ask for it: `pyarrow.table(table)`."""
-        return _arrow.struct_stream_capsule(self._columns, self._logical, requested_schema)
+        return _arrow.struct_stream_capsule(self._columns, requested_schema)
 
     def __reduce__(self) -> Any:
-        return _unpickled, (type(self), self._columns, self._rows, self._logical)
+        return _unpickled, (type(self), self._columns, self._rows)
 
     def __repr__(self) -> str:
         return _table_showing.text(self._columns, self._rows)
@@ -397,8 +393,11 @@ class Table(Mapping[str, Column]):
         return _table_showing.html(self._columns, self._rows)
 
 
-def _unpickled(kind: type[Table], columns: dict[str, Column], rows: int, logical: dict[str, str]) -> Table:
-    return kind._of(columns, rows, logical)
+def _unpickled(
+    kind: type[Table], columns: dict[str, Column], rows: int, logical_types: Mapping[str, str] = {}
+) -> Table:
+    """Pickles of versions before 2.0 have logical types beside the columns."""
+    return kind._of(_table_making.under(columns, logical_types), rows)
 
 
 def _have_equal_rows(left: Column, right: Column) -> bool:

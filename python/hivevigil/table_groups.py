@@ -13,7 +13,6 @@ if TYPE_CHECKING:
     from .table import Table
 
 _FOLDS = ("sum", "mean", "size", "count", "min", "max", "first", "last")
-_OF_THE_COLUMN = ("min", "max", "first", "last")  # folds whose answers are rows of the column
 
 
 class TableGroups:
@@ -33,8 +32,6 @@ class TableGroups:
             table.group_by("station").agg(readings="size", highest=("level", "max"))
         """
         wanted = {**({} if answers is None else dict(answers)), **named}
-        logical = self._table.logical_types
-        kept = {name: logical[name] for name in self._names if name in logical}
         found: dict[str, Column] = {}
         numbers, columns = self._groups()
         for name, asked in wanted.items():
@@ -43,10 +40,8 @@ class TableGroups:
             column, fold = self._parts(name, asked)
             with about(column if column is not None else self._names[0]):
                 _, found[name] = getattr(self._values(column).group_by(numbers), fold)()
-            if column in logical and fold in _OF_THE_COLUMN:
-                kept[name] = logical[column]
         columns.update(found)
-        return self._table._of(columns, columns[self._names[0]]._length, kept)
+        return self._table._of(columns, columns[self._names[0]]._length)
 
     def _groups(self) -> tuple[Column, dict[str, Column]]:
         """The number of each row's group, or its key where one column has them, and the keys of the groups by name."""

@@ -36,7 +36,7 @@ fn write_groups(table: &Table, path: &Path) -> Result<(), TableError> {
     };
     let mut asked = Vec::new();
     for name in names {
-        let is_float = matches!(table.logical_type(name)?, Some("e" | "f" | "g"));
+        let is_float = matches!(table[name].logical_type().as_deref(), Some("e" | "f" | "g"));
         for (word, fold) in FOLDS {
             if fold != Fold::Sum || is_float {
                 asked.push((format!("{name} {word}"), name, fold));

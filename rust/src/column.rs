@@ -263,8 +263,8 @@ impl Column {
         })
     }
 
-    /// Reads the column that [`Column::to_bytes`] wrote; refused as `BadMetadata` for bytes that are not a column's
-    /// message.
+    /// Reads the column that [`Column::to_bytes`] wrote, with its logical type; refused as `BadMetadata` for bytes that
+    /// are not a column's message.
     pub fn from_bytes(message: &[u8]) -> Result<Column, Error> {
         Column::made(|out, fields| unsafe {
             raw::hv_read_column(message.as_ptr(), message.len(), out, fields)
@@ -278,27 +278,6 @@ impl Column {
         truth != 0
     }
 
-    /// Reads the column that [`Column::to_typed_bytes`] or [`Column::to_bytes`] wrote, and its logical type, a format of
-    /// Arrow as `tsu:UTC`; `None` where it has none. Refused as `BadMetadata` for bytes that are not a column's message.
-    pub fn from_typed_bytes(message: &[u8]) -> Result<(Column, Option<String>), Error> {
-        let (mut start, mut count) = (0, 0);
-        let column = Column::made(|out, fields| unsafe {
-            let (bytes, len) = (message.as_ptr(), message.len());
-            raw::hv_read_typed(bytes, len, out, &mut start, &mut count, fields)
-        })?;
-        let format =
-            std::str::from_utf8(&message[start..start + count]).expect("formats are UTF-8");
-        Ok((column, (!format.is_empty()).then(|| format.to_string())))
-    }
-
-    /// Returns whether the bytes are what [`Column::to_typed_bytes`] or [`Column::to_bytes`] writes of some column.
-    /// Nothing is made.
-    pub fn is_typed_message(bytes: &[u8]) -> bool {
-        let (mut truth, mut fields) = (0, Fields::default());
-        unsafe { raw::hv_is_typed_message(bytes.as_ptr(), bytes.len(), &mut truth, &mut fields) };
-        truth != 0
-    }
-
     /// Returns the same column in the same form. What holds 32 items or more is shared and not copied.
     pub fn try_clone(&self) -> Result<Column, Error> {
         self.part(|column, out, fields| unsafe { raw::hv_clone(column, out, fields) })
@@ -308,5 +287,43 @@ impl Column {
     /// a few rows keeps the whole buffers that it is a part of; of its compact copy they may be freed.
     pub fn try_compact(&self) -> Result<Column, Error> {
         self.part(|column, out, fields| unsafe { raw::hv_compact(column, out, fields) })
+    }
+}
+
+/// What the rows of a column mean. Calls that give back its rows keep it: copies, slices, takes, filters and so on, as
+/// `hivevigil.h` lists them; no call asks what it says.
+impl Column {
+    /// Returns the logical type, a format of Arrow as `tsu:UTC`; `None` where the column has none.
+    ///
+    /// ```
+    /// use hivevigil::Column;
+    /// let days = Column::new(&[19_783i32, 19_783, 19_784])?.with_logical_type("tdD")?;
+    /// assert_eq!(days.encode()?.slice(1..)?.logical_type().as_deref(), Some("tdD"));
+    /// # Ok::<(), hivevigil::Error>(())
+    /// ```
+    pub fn logical_type(&self) -> Option<String> {
+        let (mut format, mut size) = (vec![0u8; 32], 0);
+        while let Err(error) = ask(|fields| unsafe {
+            let (room, len) = (format.as_mut_ptr(), format.len());
+            raw::hv_type(self.handle.get(), room, len, &mut size, fields)
+        }) {
+            format.resize(error.fields.first as usize, 0); // it has as many bytes
+        }
+        format.truncate(size);
+        let format = String::from_utf8(format).expect("formats are UTF-8");
+        (!format.is_empty()).then_some(format)
+    }
+
+    /// Returns the column under a format of Arrow that says what its rows mean; the empty format takes it away. Any is
+    /// kept, and none is tested.
+    pub fn with_logical_type(&self, format: &str) -> Result<Column, Error> {
+        self.part(|column, out, fields| unsafe {
+            raw::hv_with_type(column, format.as_ptr(), format.len(), out, fields)
+        })
+    }
+
+    /// Returns the column under the logical type of another, or under none.
+    pub(crate) fn typed_as(&self, other: &Column) -> Result<Column, Error> {
+        self.with_logical_type(other.logical_type().as_deref().unwrap_or(""))
     }
 }

@@ -37,11 +37,6 @@ impl Pairing {
         }
     }
 
-    /// Returns whether it adds, subtracts or multiplies columns of decimals.
-    fn is_of_decimals(self, left: Kind, right: Kind) -> bool {
-        self as u8 <= Pairing::Multiply as u8 && left.is_decimal() && right.is_decimal()
-    }
-
     /// Returns whether it takes decimals only at one scale, and these are not: sums and picks.
     fn is_at_one_scale(self, left: Kind, right: Kind) -> bool {
         match self {
@@ -272,13 +267,6 @@ impl Column {
         })
     }
 
-    fn decimals_combined(&self, operator: u8, right: &Column) -> Result<Column, Error> {
-        let left = self.handle.get();
-        self.beside(right, |right, out, fields| unsafe {
-            raw::hv_decimal_combine(left, operator, right, out, fields)
-        })
-    }
-
     pub(crate) fn compared(&self, operator: Operator, right: &Column) -> Result<Column, Error> {
         if self.kind().is_other_decimal(right.kind()) {
             return self.compared_exactly(operator, right, |left, right| {
@@ -302,11 +290,7 @@ impl Column {
             let (left, right) = self.aligned(right)?;
             return left.paired(by, &right);
         }
-        let made = match by.is_of_decimals(self.kind(), right.kind()) {
-            true => self.decimals_combined(by as u8, right),
-            false => self.combined(by as u8, right),
-        };
-        made.map_err(|error| {
+        self.combined(by as u8, right).map_err(|error| {
             if error.kind() == Some(ErrorKind::CastOutOfRange) {
                 return self.past_type(by, right, error);
             }

@@ -370,8 +370,16 @@ impl Column {
         Ok(bytes)
     }
 
-    /// Writes the column as bytes, in the form that it has, to keep or to send: a message of the Protocol Buffers
-    /// encoding. Refused only as `Unsupported`, for more than 16 levels of runs.
+    /// Writes the column as bytes, in the form that it has and with its logical type, to keep or to send: a message of
+    /// the Protocol Buffers encoding. Refused only as `Unsupported`, for more than 16 levels of runs.
+    ///
+    /// ```
+    /// use hivevigil::Column;
+    /// let days = Column::new(&[19_783i32, 19_783, 19_784])?.encode()?.with_logical_type("tdD")?;
+    /// let read = Column::from_bytes(&days.to_bytes()?)?;
+    /// assert_eq!((read.logical_type().as_deref(), read), (Some("tdD"), days));
+    /// # Ok::<(), hivevigil::Error>(())
+    /// ```
     pub fn to_bytes(&self) -> Result<Vec<u8>, Error> {
         let _turn = turn_of(&[self]);
         let mut size = 0;
@@ -380,40 +388,6 @@ impl Column {
         ask(|fields| unsafe {
             raw::hv_write(
                 self.handle.get(),
-                message.as_mut_ptr(),
-                message.len(),
-                &mut size,
-                fields,
-            )
-        })?;
-        Ok(message)
-    }
-
-    /// Writes the column as bytes with its logical type, a format of Arrow that says what its numbers are; the format
-    /// is kept, and not tested. [`Column::from_typed_bytes`] reads them, and [`Column::from_bytes`] refuses them. The
-    /// empty format says that it has none: the bytes are those of [`Column::to_bytes`]. Refused as that is.
-    ///
-    /// ```
-    /// use hivevigil::Column;
-    /// let days = Column::new(&[19_783i32, 19_783, 19_784])?.encode()?;
-    /// let message = days.to_typed_bytes("tdD")?;
-    /// let (read, logical_type) = Column::from_typed_bytes(&message)?;
-    /// assert_eq!((read, logical_type.as_deref()), (days, Some("tdD")));
-    /// # Ok::<(), hivevigil::Error>(())
-    /// ```
-    pub fn to_typed_bytes(&self, logical_type: &str) -> Result<Vec<u8>, Error> {
-        let _turn = turn_of(&[self]);
-        let (format, len) = (logical_type.as_ptr(), logical_type.len());
-        let mut size = 0;
-        ask(|fields| unsafe {
-            raw::hv_typed_size(self.handle.get(), format, len, &mut size, fields)
-        })?;
-        let mut message = vec![0u8; size];
-        ask(|fields| unsafe {
-            raw::hv_write_typed(
-                self.handle.get(),
-                format,
-                len,
                 message.as_mut_ptr(),
                 message.len(),
                 &mut size,

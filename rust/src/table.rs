@@ -58,11 +58,10 @@ pub struct Table {
     rows: usize,
 }
 
-/// Holds a column of a table, and what goes with it.
+/// Holds a column of a table under its name.
 struct Entry {
     name: String,
     column: Column,
-    logical_type: Option<String>, // a format of Arrow that says what the numbers are
 }
 
 /// Tables made of columns, and what they have.
@@ -75,7 +74,6 @@ impl Table {
         let entries = columns.into_iter().map(|(name, column)| Entry {
             name: name.into(),
             column,
-            logical_type: None,
         });
         let entries: Vec<Entry> = entries.collect();
         let rows = entries.first().map_or(0, |entry| entry.column.len());
@@ -201,12 +199,11 @@ impl Entry {
         (&self.name, &self.column)
     }
 
-    /// Makes an entry of the same name and logical type.
+    /// Makes an entry of the same name.
     fn with(&self, column: Column) -> Entry {
         Entry {
             name: self.name.clone(),
             column,
-            logical_type: self.logical_type.clone(),
         }
     }
 

@@ -68,7 +68,7 @@ fn batches_come_in_with_their_logical_types_and_go_out_again() -> Result<(), Tab
         assert_eq!(maker.live(), 0);
         assert_eq!(table.rows(), rows);
         for (name, _, format) in &kinds {
-            assert_eq!(table.logical_type(name)?, *format, "{name}");
+            assert_eq!(table.logical_type(name)?.as_deref(), *format, "{name}");
         }
         let (schema, batch) = table.to_arrow()?;
         assert_eq!(cells(&schema, &batch), columns);

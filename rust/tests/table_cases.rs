@@ -249,8 +249,8 @@ fn shown_table(table: &Table) -> Result<String, TableError> {
     };
     let mut text = format!("table{rows}");
     for (name, column) in table {
-        let (kind, format) = (column.kind(), table.logical_type(name)?.unwrap_or(""));
-        let (width, float) = match (kind.not_nullable(), format) {
+        let (kind, format) = (column.kind(), column.logical_type().unwrap_or_default());
+        let (width, float) = match (kind.not_nullable(), format.as_str()) {
             (Kind::I32, "f") => (32, "f32"),
             (Kind::I64, "g") => (64, "f64"),
             _ => (0, ""),
@@ -382,7 +382,7 @@ fn column_answer(table: &Table, name: &str, call: &str) -> Result<String, TableE
     if call == "count" {
         return Ok((column.len() - column.null_count()).to_string());
     }
-    if table.logical_type(name)? == Some("g") {
+    if table.logical_type(name)?.as_deref() == Some("g") {
         let floats = Floats::<f64>::of_keys(column.try_clone()?)?;
         if call == "sum" {
             return Ok(shown_float(floats.sum()?.0));

@@ -86,7 +86,33 @@ fn footers_that_say_otherwise_are_refused() -> Result<(), TableError> {
     assert_eq!(Table::from_bytes(&written(1, 3, &[place]))?.rows(), 3);
     assert_eq!(Table::from_bytes(&written(2, 6, &[at]))?.rows(), 6);
     let one_bound = bytes_of("08 01 10 0b 18 01 20 01 28 01 62 01 02 6a 02 61 62");
-    let cases: [(&str, u64, u64, &[&Part]); 15] = [
+    let typed = |message: &[u8]| {
+        Column::from_bytes(message)?
+            .with_logical_type("x")?
+            .to_bytes()
+    };
+    let [message, typed_bounds, steps] =
+        [&place.message, &place.bounds, &at.message].map(|message| typed(message));
+    let (message, typed_bounds, steps) = (message?, typed_bounds?, steps?);
+    let cases: [(&str, u64, u64, &[&Part]); 18] = [
+        (
+            "a logical type in a message",
+            1,
+            3,
+            &[&place.with(|part| part.message = message)],
+        ),
+        (
+            "a logical type in bounds",
+            1,
+            3,
+            &[&place.with(|part| part.bounds = typed_bounds)],
+        ),
+        (
+            "a logical type in differences",
+            2,
+            6,
+            &[&at.with(|part| part.message = steps)],
+        ),
         ("another number of rows", 1, 4, &[place]),
         ("a name twice", 1, 3, &[place, place]),
         ("nulls", 1, 3, &[&place.with(|part| part.nulls = 1)]),

@@ -281,7 +281,10 @@ fn columns_are_chosen_renamed_and_replaced() -> Result<(), TableError> {
     assert_eq!(names(&table.without(["b"])?), "a,c");
     let swapped = table.rename([("a", "b"), ("b", "a")])?;
     assert_eq!(
-        (names(&swapped).as_str(), swapped.logical_type("a")?),
+        (
+            names(&swapped).as_str(),
+            swapped.logical_type("a")?.as_deref()
+        ),
         ("b,a,c", Some("tts"))
     );
     assert_eq!(
@@ -290,7 +293,10 @@ fn columns_are_chosen_renamed_and_replaced() -> Result<(), TableError> {
     );
     let replaced = table.with_column("b", Column::new(&[7i64, 8])?)?;
     assert_eq!(
-        (names(&replaced).as_str(), replaced.logical_type("b")?),
+        (
+            names(&replaced).as_str(),
+            replaced.logical_type("b")?.as_deref()
+        ),
         ("a,b,c", None)
     );
     let more = replaced.with_column("d", Column::new(&[9u8, 9])?)?;
@@ -349,7 +355,10 @@ fn logical_types_stay_with_their_columns() -> Result<(), TableError> {
         Table::from_bytes(&table.to_bytes()?)?,
     ] {
         assert_eq!(
-            (made.logical_type("at")?, made.logical_type("level")?),
+            (
+                made.logical_type("at")?.as_deref(),
+                made["level"].logical_type()
+            ),
             (Some("tsu:UTC"), None)
         );
     }
@@ -378,7 +387,7 @@ fn floats_are_compared_and_sorted_as_floats() -> Result<(), TableError> {
     );
     assert_eq!(rows(&table.sort(["depth"])?)?, [4, 1, 3, 0, 6, 5, 2]);
     assert_eq!(table.floats::<f64>("depth")?.at(6)?, Some(1.5e300));
-    assert_eq!(table.logical_type("depth")?, Some("g"));
+    assert_eq!(table.logical_type("depth")?.as_deref(), Some("g"));
     let again = Table::from_bytes(&table.to_bytes()?)?;
     assert!(again == table && again.floats::<f64>("depth")?.at(4)? == Some(-7.25));
     Ok(())

@@ -1,4 +1,4 @@
-//! Columns as bytes with what their numbers are. The bytes are put together here, by the fields of docs/BYTES.md.
+//! Columns as bytes with their logical type. The bytes are put together here, by the fields of docs/BYTES.md.
 use hivevigil::{Column, Error, ErrorKind, Kind};
 
 /// Has two days, 19783 and 19784, as i32: version 1, type 7, form 1, two rows without null, their items.
@@ -26,39 +26,35 @@ fn typed(name: &[u8], message: &[u8]) -> Vec<u8> {
 
 /// Asserts that the bytes are the message of the column with this logical type, or of one without where it is empty.
 fn check_typed(message: &[u8], storage: &[u8], name: &str) -> Result<(), Error> {
-    let (column, logical_type) = Column::from_typed_bytes(message)?;
+    let column = Column::from_bytes(message)?;
     let due = (!name.is_empty()).then(|| name.to_string());
-    assert_eq!((column.to_bytes()?, logical_type), (storage.to_vec(), due));
-    assert_eq!(column.to_typed_bytes(name)?, message);
-    assert!(Column::is_typed_message(message));
-    assert_eq!(Column::is_message(message), name.is_empty());
-    let untyped = Column::from_bytes(message)
-        .err()
-        .and_then(|error| error.kind());
     assert_eq!(
-        untyped,
-        (!name.is_empty()).then_some(ErrorKind::BadMetadata)
+        (column.to_bytes()?, column.logical_type()),
+        (message.to_vec(), due)
     );
+    assert_eq!(column.with_logical_type("")?.to_bytes()?, storage);
+    let untyped = Column::from_bytes(storage)?;
+    assert_eq!(untyped.logical_type(), None);
+    assert_eq!(untyped.with_logical_type(name)?.to_bytes()?, message);
+    assert!(Column::is_message(message) && Column::is_message(storage));
     Ok(())
 }
 
 fn check_not_typed(message: &[u8]) {
-    let refused = Column::from_typed_bytes(message)
+    let refused = Column::from_bytes(message)
         .err()
         .and_then(|error| error.kind());
     assert_eq!(refused, Some(ErrorKind::BadMetadata), "{message:?}");
-    assert!(!Column::is_typed_message(message), "{message:?}");
+    assert!(!Column::is_message(message), "{message:?}");
 }
 
 #[test]
 fn messages_keep_the_logical_type() -> Result<(), Error> {
     let column = Column::new(&[19_783i32, 19_784])?;
     let due = [&[8, 2, 178, 1, 3, b't', b'd', b'D', 186, 1, 20][..], &DAYS].concat();
-    assert_eq!(column.to_typed_bytes("tdD")?, due);
-    assert_eq!(
-        (column.to_typed_bytes("")?, column.to_bytes()?),
-        (DAYS.to_vec(), DAYS.to_vec())
-    );
+    let days = column.with_logical_type("tdD")?;
+    assert_eq!((days.to_bytes()?, column.to_bytes()?), (due, DAYS.to_vec()));
+    assert_eq!(days.with_logical_type("")?.to_bytes()?, DAYS);
     let longer = "z".repeat(200);
     for name in ["tdD", "tss:Z\u{fc}rich", "x", "ts\0:", &longer] {
         check_typed(&typed(name.as_bytes(), &DAYS), &DAYS, name)?;
@@ -78,9 +74,9 @@ fn each_form_is_kept() -> Result<(), Error> {
     for column in [runs, lists, texts, Column::constant(Kind::I64, 7, 1 << 60)?] {
         let storage = column.to_bytes()?;
         let message = typed(b"g", &storage);
-        assert_eq!(column.to_typed_bytes("g")?, message);
+        assert_eq!(column.with_logical_type("g")?.to_bytes()?, message);
         check_typed(&message, &storage, "g")?;
-        let (again, _) = Column::from_typed_bytes(&message)?;
+        let again = Column::from_bytes(&message)?;
         assert_eq!(
             (again.form(), again.offset()),
             (column.form(), column.offset())
@@ -148,8 +144,48 @@ fn seventeen_levels_of_runs_are_refused() -> Result<(), Error> {
         deep = Column::from_runs(&Column::new(&[1u8])?, &deep, 0, 1)?;
     }
     for name in ["g", ""] {
-        let refused = deep.to_typed_bytes(name).unwrap_err();
+        let refused = deep.with_logical_type(name)?.to_bytes().unwrap_err();
         assert_eq!(refused.kind(), Some(ErrorKind::Unsupported));
+    }
+    Ok(())
+}
+
+#[test]
+fn calls_that_give_back_rows_keep_the_logical_type() -> Result<(), Error> {
+    let rows = [Some(3i64), Some(3), None, Some(1)];
+    let longer = format!("tsu:{}", "x".repeat(100)); // than what is read at once
+    for format in ["tsu:UTC", "no format of Arrow", &longer] {
+        let column = Column::try_from(&rows)?.with_logical_type(format)?;
+        let runs = column.encode()?;
+        let mask = Column::try_from([true, false, true, true])?;
+        let (counted, counts) = column.value_counts()?;
+        for made in [
+            column.try_clone()?,
+            column.try_compact()?,
+            runs.decode()?,
+            runs.slice(1..)?,
+            runs.take(&Column::new(&[0u8, 2])?)?,
+            column.filter(&mask)?,
+            runs.fill(7)?,
+            runs.values()?,
+            runs.sorted()?,
+            runs.reversed()?,
+            Column::from_runs(&Column::new(&[2u8, 4])?, &column.slice(..2)?, 0, 4)?,
+            Column::new(&[1u8, 0])?.take_from(&column)?,
+            mask.choose(&column, &runs)?,
+            counted,
+        ] {
+            assert_eq!(made.logical_type().as_deref(), Some(format));
+        }
+        let sum = column.checked_add(&column)?;
+        let others = [
+            counts,
+            runs.ends()?,
+            column.is_null()?,
+            sum,
+            column.cast(Kind::I32.nullable())?,
+        ];
+        assert!(others.iter().all(|made| made.logical_type().is_none()));
     }
     Ok(())
 }

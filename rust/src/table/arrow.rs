@@ -32,15 +32,21 @@ impl Table {
     pub fn to_arrow_stream(&self, batch_rows: usize) -> Result<ArrowArrayStream, TableError> {
         let mut parts = Vec::new();
         for entry in &self.entries {
-            let column = match entry.rows() {
-                Stored::Floats(keys) => bits(keys),
-                Stored::AsTheyAre(column) => column.try_clone(),
+            let (column, bits_of_float) = match entry.rows() {
+                Stored::Floats(keys) => (bits(keys), true),
+                Stored::AsTheyAre(column) => (column.try_clone(), false),
             };
-            parts.push((entry, column.map_err(TableError::of(&entry.name))?));
+            let column = column.map_err(TableError::of(&entry.name))?;
+            parts.push((entry, column.logical_type(), column, bits_of_float));
         }
-        let columns = parts
-            .iter()
-            .map(|(entry, column)| (entry.name.as_str(), column, entry.options()));
+        let columns = parts.iter().map(|(entry, format, column, bits_of_float)| {
+            let options = ArrowOptions {
+                bits_of_float: *bits_of_float,
+                format: format.as_deref(),
+                ..ArrowOptions::default()
+            };
+            (entry.name.as_str(), column, options)
+        });
         let columns: Vec<_> = columns.collect();
         Ok(ArrowArrayStream::of_batches(&columns, batch_rows)?)
     }
@@ -86,17 +92,6 @@ impl Table {
     }
 }
 
-impl Entry {
-    fn options(&self) -> ArrowOptions<'_> {
-        let is_of_floats = matches!(self.rows(), Stored::Floats(_));
-        ArrowOptions {
-            bits_of_float: is_of_floats,
-            format: self.logical_type.as_deref().filter(|_| !is_of_floats),
-            ..ArrowOptions::default()
-        }
-    }
-}
-
 /// Lists the names of a batch's columns, each with the format of its values.
 fn formats_of(schema: &ArrowSchema) -> Result<Vec<(String, String)>, TableError> {
     if schema.format() != "+s" || schema.is_released() {
@@ -122,16 +117,15 @@ fn of_columns(
 ) -> Result<Table, TableError> {
     let pairs = formats.into_iter().zip(columns.into_iter().flatten());
     let entries = pairs.map(|((name, format), column)| {
-        let column = if is_float(&format) {
-            keys(&column)
-        } else {
-            Ok(column)
+        let column = match &format {
+            format if is_float(format) => {
+                keys(&column).and_then(|keys| keys.with_logical_type(format))
+            }
+            format if format.starts_with('t') => column.with_logical_type(format),
+            _ => Ok(column),
         };
-        Ok(Entry {
-            column: column.map_err(TableError::of(&name))?,
-            name,
-            logical_type: (is_float(&format) || format.starts_with('t')).then_some(format),
-        })
+        let column = column.map_err(TableError::of(&name))?;
+        Ok(Entry { name, column })
     });
     Table::of(entries.collect::<Result<_, TableError>>()?, rows)
 }

@@ -53,14 +53,20 @@ impl Table {
         Table::of(renamed.entries, self.rows)
     }
 
-    /// Returns the same columns and one more, or another in place of that of this name. It has no logical type. Refused
-    /// as `UnevenRows`, except where there is neither a column nor a row yet.
+    /// Returns the same columns and one more, or another in place of that of this name. Refused as `UnevenRows`, except
+    /// where there is neither a column nor a row yet.
     pub fn with_column(&self, name: &str, column: Column) -> Result<Table, TableError> {
-        self.with_entry(Entry {
-            name: name.to_string(),
-            column,
-            logical_type: None,
-        })
+        let is_first = self.is_empty() && self.rows == 0;
+        let rows = if is_first { column.len() } else { self.rows };
+        let mut entries = self.try_clone()?.entries;
+        match entries.iter_mut().find(|other| other.name == name) {
+            Some(other) => other.column = column,
+            None => entries.push(Entry {
+                name: name.to_string(),
+                column,
+            }),
+        }
+        Table::of(entries, rows)
     }
 
     /// Returns the same with a column of floats: their keys, which the table knows as floats.
@@ -69,13 +75,8 @@ impl Table {
         name: &str,
         floats: &Floats<T>,
     ) -> Result<Table, TableError> {
-        let column = floats.keys().try_clone().map_err(TableError::of(name))?;
-        let logical_type = Stored::format_of(column.kind()).map(str::to_string);
-        self.with_entry(Entry {
-            name: name.to_string(),
-            column,
-            logical_type,
-        })
+        let keys = Stored::of_keys(floats.keys()).map_err(TableError::of(name))?;
+        self.with_column(name, keys)
     }
 
     /// Returns the column of floats of a name; refused as `NoSuchColumn`, and as `TypeMismatch` where it does not have
@@ -97,8 +98,8 @@ impl Table {
 
     /// Returns the logical type of the column of a name, a format of Arrow as `tsu:UTC`; `None` where it has none.
     /// Refused as `NoSuchColumn`.
-    pub fn logical_type(&self, name: &str) -> Result<Option<&str>, TableError> {
-        self.entry(name).map(|entry| entry.logical_type.as_deref())
+    pub fn logical_type(&self, name: &str) -> Result<Option<String>, TableError> {
+        self.column(name).map(Column::logical_type)
     }
 
     /// Returns the same columns, where the numbers of that of this name are what a format of Arrow says; the empty
@@ -108,32 +109,16 @@ impl Table {
     /// use hivevigil::{Column, Table};
     /// let days = Column::new(&[19_783i32, 19_783, 19_784])?.encode()?;
     /// let table = Table::try_from_iter([("day", days)])?.with_logical_type("day", "tdD")?;
-    /// assert_eq!(table.slice(1..)?.logical_type("day")?, Some("tdD"));
+    /// assert_eq!(table.slice(1..)?.logical_type("day")?.as_deref(), Some("tdD"));
     /// # Ok::<(), hivevigil::TableError>(())
     /// ```
     pub fn with_logical_type(&self, name: &str, format: &str) -> Result<Table, TableError> {
-        let (place, mut changed) = (self.place(name)?, self.try_clone()?);
-        changed.entries[place].logical_type = (!format.is_empty()).then(|| format.to_string());
-        Ok(changed)
+        let column = self.column(name)?.with_logical_type(format);
+        self.with_column(name, column.map_err(TableError::of(name))?)
     }
 
     fn place(&self, name: &str) -> Result<usize, TableError> {
         self.entry(name)?;
         Ok(self.names().take_while(|other| *other != name).count())
-    }
-
-    fn with_entry(&self, entry: Entry) -> Result<Table, TableError> {
-        let is_first = self.is_empty() && self.rows == 0;
-        let rows = if is_first {
-            entry.column.len()
-        } else {
-            self.rows
-        };
-        let mut entries = self.try_clone()?.entries;
-        match entries.iter_mut().find(|other| other.name == entry.name) {
-            Some(other) => *other = entry,
-            None => entries.push(entry),
-        }
-        Table::of(entries, rows)
     }
 }

@@ -1,7 +1,7 @@
 //! Columns of integers as differences, in files: of each row that is not null to the one before it that is not, and of
 //! the first one to 0. Times at regular steps are one run of these. docs/BYTES.md says when a file has them.
 use super::keys::numbers;
-use super::reading::Unread;
+use super::reading::{untyped, Unread};
 use super::runs::{runs_of, Shown};
 use crate::{Column, Error, Form, Kind, Native};
 
@@ -15,7 +15,7 @@ pub(super) fn kept(column: &Column) -> Result<Option<(Form, Vec<u8>)>, Error> {
     let Some(steps) = steps_of(column)? else {
         return Ok(None);
     };
-    let (message, shorter) = (column.to_bytes()?, steps.to_bytes()?);
+    let (message, shorter) = (column.with_logical_type("")?.to_bytes()?, steps.to_bytes()?);
     if shorter.len() >= message.len() {
         return Ok(None);
     }
@@ -28,7 +28,7 @@ pub(super) fn kept(column: &Column) -> Result<Option<(Form, Vec<u8>)>, Error> {
 /// Makes the column, of a type and in a form, of at most `most` rows, or runs, of which a message has the differences.
 /// Damaged where there is none, or where they are not in as few runs as possible.
 pub(super) fn read(message: &[u8], kind: Kind, form: Form, most: usize) -> Result<Column, Unread> {
-    let steps = Column::from_bytes(message)?;
+    let steps = untyped(message)?;
     let differences = if kind.is_nullable() {
         Kind::I64.nullable()
     } else {

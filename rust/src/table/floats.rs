@@ -19,18 +19,18 @@ const FORMATS: [(&str, Kind, i128); 3] = [
 ];
 
 impl<'a> Stored<'a> {
-    /// Says what a column of this logical type has.
-    pub(super) fn of(column: &'a Column, logical_type: Option<&str>) -> Stored<'a> {
-        match logical_type.is_some() && logical_type == Stored::format_of(column.kind()) {
+    /// Says what a column has, by its logical type.
+    pub(super) fn of(column: &'a Column) -> Stored<'a> {
+        let logical_type = column.logical_type();
+        match logical_type.is_some() && logical_type.as_deref() == format_of(column.kind()) {
             true => Stored::Floats(column),
             false => Stored::AsTheyAre(column),
         }
     }
 
-    /// Names the format of the floats that have keys of this type.
-    pub(super) fn format_of(keys: Kind) -> Option<&'static str> {
-        let of_kind = |(_, kind, _): &&(&str, Kind, i128)| *kind == keys.not_nullable();
-        FORMATS.iter().find(of_kind).map(|(format, ..)| *format)
+    /// Returns keys of floats under the logical type of these floats.
+    pub(super) fn of_keys(keys: &Column) -> Result<Column, Error> {
+        keys.with_logical_type(format_of(keys.kind()).unwrap_or(""))
     }
 
     pub(super) fn column(self) -> &'a Column {
@@ -53,8 +53,14 @@ impl<'a> Stored<'a> {
 
 impl Entry {
     pub(super) fn rows(&self) -> Stored<'_> {
-        Stored::of(&self.column, self.logical_type.as_deref())
+        Stored::of(&self.column)
     }
+}
+
+/// Names the format of the floats that have keys of this type.
+fn format_of(keys: Kind) -> Option<&'static str> {
+    let of_kind = |(_, kind, _): &&(&str, Kind, i128)| *kind == keys.not_nullable();
+    FORMATS.iter().find(of_kind).map(|(format, ..)| *format)
 }
 
 /// Returns whether a format of Arrow is one of floats.

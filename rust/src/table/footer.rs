@@ -2,7 +2,7 @@
 use super::differences::is_integer;
 use super::floats::Stored;
 use super::message::{put_content, put_number, Fields};
-use super::reading::Unread;
+use super::reading::{untyped, Unread};
 use super::runs::Shown;
 use super::{bounds, no_such, TableError, Threshold};
 use crate::{Column, Error, Form, Kind, Operator, Value};
@@ -99,14 +99,18 @@ impl ColumnFooter {
         let Some(rows) = &self.rows else {
             return Ok(true);
         };
-        let bounds = Column::from_bytes(&rows.bounds_message())?;
-        value.may_hold(Stored::of(&bounds, self.logical_type.as_deref()), operator)
+        let bounds = self.typed(Column::from_bytes(&rows.bounds_message())?)?;
+        value.may_hold(Stored::of(&bounds), operator)
+    }
+
+    /// Returns a column, or its bounds, under the logical type of the footer.
+    pub(super) fn typed(&self, column: Column) -> Result<Column, Error> {
+        column.with_logical_type(self.logical_type.as_deref().unwrap_or(""))
     }
 
     /// Describes a column whose message has `size` bytes, the differences of one that comes back in a form.
     pub(super) fn of(
         name: &str,
-        logical_type: Option<&str>,
         column: &Column,
         size: usize,
         differences: Option<Form>,
@@ -115,7 +119,7 @@ impl ColumnFooter {
         let rows = (!is_list).then(|| RowsFooter::of(column, differences));
         Ok(ColumnFooter {
             name: name.to_string(),
-            logical_type: logical_type.map(str::to_string),
+            logical_type: column.logical_type(),
             size,
             rows: rows.transpose()?,
         })
@@ -189,7 +193,7 @@ impl RowsFooter {
             2 => form_of(fields.number(7)?)?,
             _ => None,
         };
-        let column = Column::from_bytes(message)?;
+        let column = untyped(message)?;
         let bounds = match (column.form(), column.len()) {
             (Form::Flat, 0) => None,
             (Form::Flat, 2) => Some((column.at(0)?, column.at(1)?)),

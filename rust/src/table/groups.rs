@@ -4,7 +4,7 @@ use super::floats::{doubles, Stored};
 use super::keys::Keys;
 use super::runs::{runs_of, shown_by_name, Shown, Stretches};
 use super::{refuse_twice, Entry, Table, TableError};
-use crate::{raw, Column, Error, ErrorKind, Float, Floats, Fold, Kind, Value};
+use crate::{raw, Column, Error, ErrorKind, Floats, Fold, Kind, Value};
 use std::cmp::Ordering;
 use std::ops::Range;
 
@@ -77,7 +77,7 @@ impl Groups<'_> {
 
     /// Counts the rows of each group, in `u64`, under the name `size`.
     pub fn size(&self) -> Result<Table, TableError> {
-        self.keys.try_clone()?.with_new("size", self.sizes()?, None)
+        self.keys.try_clone()?.with_new("size", self.sizes()?)
     }
 
     /// Counts the rows of a column that are not null in each group, in `u64`, under the name of the column. Refused as
@@ -121,42 +121,43 @@ impl Groups<'_> {
         let mut found = self.keys.try_clone()?;
         for (name, asked, fold) in answers {
             let entry = self.table.entry(asked)?;
-            let (column, logical_type) = self.answer(entry, fold).map_err(TableError::of(asked))?;
-            found = found.with_new(name, column, logical_type)?;
+            let column = self.answer(entry, fold).map_err(TableError::of(asked))?;
+            found = found.with_new(name, column)?;
         }
         Ok(found)
     }
 
-    /// Answers for the rows of a column, with the logical type of the answers.
-    fn answer(&self, entry: &Entry, fold: Fold) -> Result<(Column, Option<String>), Error> {
+    /// Answers for the rows of a column. Sums of durations are durations, and rows that are picked mean what they did.
+    fn answer(&self, entry: &Entry, fold: Fold) -> Result<Column, Error> {
         let (column, rows) = (&entry.column, entry.rows());
         let folded = |column: &Column| Ok(self.numbers.fold_by(column, fold)?.1);
         let is_integer = is_integer(column.kind());
         let is_float = matches!(rows, Stored::Floats(_));
-        let answers = match fold {
-            Fold::Rows => return Ok((self.sizes()?, None)),
-            Fold::Count if is_integer => return Ok((folded(column)?, None)),
-            Fold::Count => return Ok((folded(&zeros_of(column)?)?, None)),
-            Fold::Sum if is_float => return self.float_sums(column),
-            Fold::Sum if column.kind().is_decimal() => self.decimal_sums(column)?,
-            Fold::Sum if is_integer => match times_of(entry) {
-                Some("tD") if column.kind().not_nullable() == Kind::I64 => folded(column)?,
-                Some("tD") | None => return Ok((folded(column)?, None)),
+        match fold {
+            Fold::Rows => self.sizes(),
+            Fold::Count if is_integer => folded(column),
+            Fold::Count => folded(&zeros_of(column)?),
+            Fold::Sum if is_float => self.float_sums(column),
+            Fold::Sum if column.kind().is_decimal() => self.decimal_sums(column)?.typed_as(column),
+            Fold::Sum if is_integer => match times_of(column).as_deref() {
+                Some("tD") if column.kind().not_nullable() == Kind::I64 => {
+                    folded(column)?.typed_as(column)
+                }
+                Some("tD") | None => folded(column),
                 Some(_) => {
                     let words =
                         "dates, times of day and timestamps have no sum, and durations have one";
-                    return Err(Error::said(ErrorKind::Unsupported, words));
+                    Err(Error::said(ErrorKind::Unsupported, words))
                 }
             },
             Fold::Sum => {
                 let unsupported = Error::of(ErrorKind::Unsupported);
                 let kind = column.kind().not_nullable();
-                return Err(unsupported.about(ErrorKind::Unsupported, kind, "has no sum", None));
+                Err(unsupported.about(ErrorKind::Unsupported, kind, "has no sum", None))
             }
-            _ if is_integer && !is_float => folded(column)?,
-            _ => self.picked(rows, fold)?,
-        };
-        Ok((answers, entry.logical_type.clone()))
+            _ if is_integer && !is_float => folded(column),
+            _ => self.picked(rows, fold),
+        }
     }
 
     fn sizes(&self) -> Result<Column, Error> {
@@ -171,15 +172,14 @@ impl Groups<'_> {
             .map(|(start, stop)| start..*stop)
     }
 
-    fn float_sums(&self, keys: &Column) -> Result<(Column, Option<String>), Error> {
+    fn float_sums(&self, keys: &Column) -> Result<Column, Error> {
         let floats = doubles(keys)?;
         let sums = self.ranges().map(|rows| {
             let (sum, count) = Floats::<f64>::of_keys(floats.keys().slice(rows)?)?.sum()?;
             Ok((count > 0).then_some(sum))
         });
         let sums = Floats::of_options(&sums.collect::<Result<Vec<_>, Error>>()?)?;
-        let logical_type = Stored::format_of(f64::KEYS).map(str::to_string);
-        Ok((sums.keys().decode()?, logical_type))
+        Stored::of_keys(&sums.keys().decode()?)
     }
 
     fn decimal_sums(&self, column: &Column) -> Result<Column, Error> {
@@ -242,8 +242,8 @@ fn zeros_of(column: &Column) -> Result<Column, Error> {
 
 /// Returns which times a format of Arrow names: `td` for dates, `tt` for times of day, `ts` for timestamps, `tD` for
 /// durations, and `None` for all else.
-fn times_of(entry: &Entry) -> Option<&str> {
-    let format = entry.logical_type.as_deref()?;
+fn times_of(column: &Column) -> Option<String> {
+    let format = column.logical_type()?;
     let (times, unit) = (format.get(..2)?, format.get(2..)?);
     let is_unit = |unit: &str| ["s", "m", "u", "n"].contains(&unit);
     let is_served = match times {
@@ -254,23 +254,14 @@ fn times_of(entry: &Entry) -> Option<&str> {
             .map_or(false, |(unit, zone)| is_unit(unit) && !zone.contains('\0')),
         _ => false,
     };
-    is_served.then_some(times)
+    is_served.then(|| times.to_string())
 }
 
 impl Table {
     /// Adds a column of a name that there is not yet.
-    fn with_new(
-        mut self,
-        name: &str,
-        column: Column,
-        logical_type: Option<String>,
-    ) -> Result<Table, TableError> {
+    fn with_new(mut self, name: &str, column: Column) -> Result<Table, TableError> {
         let name = name.to_string();
-        self.entries.push(Entry {
-            name,
-            column,
-            logical_type,
-        });
+        self.entries.push(Entry { name, column });
         Table::of(self.entries, self.rows)
     }
 }

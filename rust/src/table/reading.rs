@@ -225,7 +225,6 @@ impl<'a> Kept<'a> {
         Ok(Entry {
             column: column.map_err(|unread| unread.about(self.path.as_deref()))?,
             name: known.name,
-            logical_type: known.logical_type,
         })
     }
 }
@@ -252,17 +251,24 @@ impl ColumnFooter {
             .and_then(|rows| Some((rows.kind, rows.differences?)));
         let column = match differences {
             Some((kind, form)) => differences::read(message, kind, form, self.kept_items(rows))?,
-            None => Column::from_bytes(message)?,
+            None => untyped(message)?,
         };
-        let (logical_type, form) = (
-            self.logical_type.as_deref(),
-            differences.map(|(_, form)| form),
-        );
-        let found = ColumnFooter::of(&self.name, logical_type, &column, self.size, form)?;
+        let column = self.typed(column)?;
+        let form = differences.map(|(_, form)| form);
+        let found = ColumnFooter::of(&self.name, &column, self.size, form)?;
         match column.len() == rows && found == *self {
             true => Ok(column),
             false => Err(Unread::Damaged),
         }
+    }
+}
+
+/// Reads the message of a column, whose logical type is in the footer and not in the message.
+pub(super) fn untyped(message: &[u8]) -> Result<Column, Unread> {
+    let column = Column::from_bytes(message)?;
+    match column.logical_type() {
+        None => Ok(column),
+        Some(_) => Err(Unread::Damaged),
     }
 }
 

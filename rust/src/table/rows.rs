@@ -75,8 +75,9 @@ impl Table {
         let rows = self.rows.checked_add(other.rows).ok_or(overflow)?;
         let joined = self.entries.iter().map(|entry| {
             let next = other.column(&entry.name)?;
-            let column = concat(&[&entry.column, next]).map_err(TableError::of(&entry.name))?;
-            Ok(entry.with(column))
+            let joined = concat(&[&entry.column, next]);
+            let typed = joined.and_then(|column| column.typed_as(&entry.column));
+            Ok(entry.with(typed.map_err(TableError::of(&entry.name))?))
         });
         let entries = joined.collect::<Result<_, TableError>>()?;
         Ok(Table { entries, rows })
@@ -157,10 +158,11 @@ impl Entry {
                 other: next,
             });
         }
-        (self.logical_type != other.logical_type).then(|| Difference::LogicalTypes {
+        let (first, other) = (self.column.logical_type(), other.column.logical_type());
+        (first != other).then(|| Difference::LogicalTypes {
             name: self.name.clone(),
-            first: self.logical_type.clone(),
-            other: other.logical_type.clone(),
+            first,
+            other,
         })
     }
 }

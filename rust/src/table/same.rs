@@ -1,5 +1,6 @@
 //! Equal tables, and copies.
 use super::{Table, TableError};
+use crate::Column;
 
 /// Tables compared as wholes.
 impl Table {
@@ -10,7 +11,8 @@ impl Table {
             return Ok(false);
         }
         for (entry, next) in self.entries.iter().zip(&other.entries) {
-            if (&entry.name, &entry.logical_type) != (&next.name, &next.logical_type) {
+            let logical_types = [&entry.column, &next.column].map(Column::logical_type);
+            if entry.name != next.name || logical_types[0] != logical_types[1] {
                 return Ok(false);
             }
             let is_same = entry.column.same_rows(&next.column);

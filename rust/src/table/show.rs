@@ -53,7 +53,7 @@ impl fmt::Debug for Table {
 impl Entry {
     /// Writes name, type, form and first rows.
     fn cells(&self) -> Result<[String; 4], fmt::Error> {
-        let kind = match &self.logical_type {
+        let kind = match self.column.logical_type() {
             Some(format) => format!("{} {format}", self.column.kind()),
             None => self.column.kind().to_string(),
         };

@@ -131,10 +131,14 @@ impl Entry {
         let refused = TableError::of(&self.name);
         let (form, message) = match shorter {
             Some((form, message)) => (Some(form), message),
-            None => (None, self.column.to_bytes().map_err(&refused)?),
+            None => {
+                let untyped = self.column.with_logical_type(""); // its logical type goes to the footer
+                let message = untyped.and_then(|column| column.to_bytes());
+                (None, message.map_err(&refused)?)
+            }
         };
-        let (logical_type, size) = (self.logical_type.as_deref(), message.len());
-        let known = ColumnFooter::of(&self.name, logical_type, &self.column, size, form);
+        let size = message.len();
+        let known = ColumnFooter::of(&self.name, &self.column, size, form);
         put_content(footer, 2, &known.map_err(&refused)?.message(version));
         let mut part = content_head(COLUMN, size as u64);
         part.extend(message);
