@@ -39,7 +39,8 @@ GROUPS = {
         HEADER: "Calls of C", PACKAGE: "Python package", RUST: "Rust crate", "docs/ERRORS.md": "Errors",
         "docs/BYTES.md": "A column as bytes", "docs/column.proto": "Schema of messages",
         "docs/table.proto": "Schema of tables",
-        "docs/ABI.md": "Binary interface", "docs/PROMISE.md": "What stays within 1.x", "docs/SCRIPT.md": "Script",
+        "docs/ABI.md": "Binary interface", "docs/PROMISE.md": "What stays within 2.x",
+        "docs/MOVING.md": "From 1.x to 2.0", "docs/SCRIPT.md": "Script",
         "docs/VECTORS.md": "Vectors",
     },
     "What is proved": {
