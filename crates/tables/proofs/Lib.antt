@@ -7,3 +7,5 @@ pub mod Positions
 pub mod SelectedRows
 pub mod Appends
 pub mod Puts
+pub mod Keyed
+pub mod Ordered

@@ -1,5 +1,5 @@
 -- Columns put into a table.
-use Rattle.std.proofs.Common.{◌≡◌, ◌≢◌, ◌∙◌, ◌+◌, ◌^◌, ◌<◌, ◌≤◌, ◌++◌, ◌⊎◌, ℕ, zero, suc, List, [], ◌∷◌, Some, ap, arith, inl, inr, length, length-append, map, refl, set, subst, sym}
+use Rattle.std.proofs.Common.{◌≡◌, ◌∙◌, ◌^◌, ◌<◌, ◌≤◌, ◌++◌, ◌⊎◌, ℕ, zero, suc, List, [], ◌∷◌, Some, ap, arith, inl, inr, length, length-append, map, refl, set, subst, sym}
 use Rattle.std.specs.Prelude.{Err, IfErr, Ok, OnOk, Result, String, slice_get}
 use Rattle.std.specs.String.{string_bytes}
 use Rattle.std.proofs.lemmas.Bool.{cases_lt}

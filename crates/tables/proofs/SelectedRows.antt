@@ -1,6 +1,6 @@
 -- Tables of the rows at indices, and of those at which a comparison holds.
 use Rattle.std.proofs.Common.{◌≡◌, ◌∙◌, ◌^◌, ◌<◌, ℕ, List, [], ◌∷◌, Bool, Option, None, Some, ap, inl, inr, length, map, refl, replicate, subst, sym}
-use Rattle.std.specs.Prelude.{◌==◌, ℤ, Err, IfErr, IsErrAnd, IsOkUnless, Ok, Result, if◌then◌else◌, option_map}
+use Rattle.std.specs.Prelude.{ℤ, Err, IfErr, IsErrAnd, IsOkUnless, Ok, Result, if◌then◌else◌, option_map}
 use Rattle.std.specs.Option.{option_or}
 use Rattle.std.proofs.lemmas.Bool.Decides.{Decides-eqb}
 use Rattle.std.proofs.lemmas.List.{length-map, length-replicate}

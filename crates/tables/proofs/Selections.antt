@@ -1,6 +1,6 @@
 -- Columns that are chosen by their names.
-use Rattle.std.proofs.Common.{◌≡◌, ◌∙◌, ◌+◌, ◌<◌, ◌++◌, ℕ, List, [], ◌∷◌, suc, Bool, false, Option, None, Some, ap, arith, get_or, inl, inr, length, map, not, refl, subst, sym, take}
-use Rattle.std.specs.Prelude.{Err, IfErr, IfSome, IsErrAnd, Ok, Result, String, is_some, slice_get}
+use Rattle.std.proofs.Common.{◌≡◌, ◌∙◌, ◌+◌, ◌<◌, ◌++◌, ℕ, List, [], ◌∷◌, suc, Bool, false, true, Option, None, Some, ap, arith, get_or, inl, inr, length, map, not, refl, subst, sym, take}
+use Rattle.std.specs.Prelude.{Err, IfErr, IfNone, IfSome, IsErrAnd, Ok, Result, String, is_some, slice_get}
 use Rattle.std.specs.List.{AllZip}
 use Rattle.std.specs.Prelude.{All}
 use Rattle.std.specs.String.{string_bytes}
@@ -13,10 +13,10 @@ use Rattle.column_base.specs.declared.error.VortexError.{VortexError}
 use Rattle.column_base.specs.declared.error.VortexError.TheVariants.{OutOfMemory}
 use Rattle.typed_columns.specs.declared.typed_column.TypedColumn.{TypedColumn}
 use Rattle.tables.specs.declared.fault.TableError.{TableError}
-use Rattle.tables.specs.declared.fault.TableError.TheVariants.{Refused, NameCount, RowCount, RepeatedName, UnknownName, NewNameCount, RepeatedNewName, OtherNames, OtherType}
+use Rattle.tables.specs.declared.fault.TableError.TheVariants.{Refused, NameCount, RowCount, RepeatedName, UnknownName, NewNameCount, RepeatedNewName, OtherNames, OtherType, NoKeys, UnsupportedKey}
 use Rattle.tables.specs.Put.{IsPlaceFor}
-use Rattle.tables.specs.TableFaults.{AreAsked, IsNamingError, IsRenameError, IsSelectError}
-use Rattle.tables.specs.Tables.{AreDistinct, AreEven, IsKnown, IsNamed, IsPlaceOf, IsRenamedTo, IsRenaming, IsTable, TableForm, table_with}
+use Rattle.tables.specs.TableFaults.{AreAsked, IsFirstUnknown, IsNameFault, IsNamingError, IsRenameError, IsSelectError}
+use Rattle.tables.specs.Tables.{AreDistinct, AreEven, IsKnown, IsNamed, IsPlaceOf, IsRenamedTo, IsRenaming, IsTable, IsUnknown, TableForm, table_with}
 use Rattle.typed_columns.specs.Typed.{TypedForm, typed_of}
 use Rattle.tables.proofs.NameLists.{formats_utf8, mapped_at, texts_utf8}
 
@@ -34,10 +34,21 @@ known_more own names place name there known before k d below = elim (cases_lt k 
       subst (IsKnown own) (sym (ap (λ (i : ℕ). get_or names i d) at ∙ get_or_from_slice_get names place name d there)) known
 ]
 
-pub known_at : {A : Type 0} (own : List (List ℕ)) (names : List (String A)) (k : ℕ) (name : String A) → All (IsKnown own) (map string_bytes names) → k < length names → name ≡ get_or names k name → IsKnown own (string_bytes name)
-known_at own names k name known within here =
-    let at = get_or_from_slice_get (map string_bytes names) k (string_bytes name) (string_bytes name) (mapped_at string_bytes names k name within here) in
-    subst (IsKnown own) at (known k (string_bytes name) (omega (arith, within, length-map names string_bytes)))
+-- the first name that is unknown
+pub unknown_at : (found : Option ℕ) (none : Bool) (own names : List (List ℕ)) (place : ℕ) (name : List ℕ) → slice_get names place ≡ Some name → is_some found ≡ not none → none ≡ true → IfNone found (IsUnknown own name)
+    → ((k : ℕ) (d : List ℕ) → k < place → IsKnown own (get_or names k d)) → IsFirstUnknown own names place
+unknown_at None none own names place name there tested passed unknown before = record {
+  name = name;
+  there = there;
+  unknown = unknown;
+  before = λ k other below is. subst (IsKnown own) (get_or_from_slice_get names k other other is) (before k other below);
+}
+unknown_at (Some found) none own names place name there tested passed unknown before = let never : true ≡ false = tested ∙ ap not passed in absurd (cc)
+
+pub known_at : {X : Type 0} (f : X → List ℕ) (own : List (List ℕ)) (names : List X) (k : ℕ) (name : X) → All (IsKnown own) (map f names) → k < length names → name ≡ get_or names k name → IsKnown own (f name)
+known_at f own names k name known within here =
+    let at = get_or_from_slice_get (map f names) k (f name) (f name) (mapped_at f names k name within here) in
+    subst (IsKnown own) at (known k (f name) (omega (arith, within, length-map names f)))
 
 -- the place of a name that a column has
 pub place_known : (seen own : List (List ℕ)) (name : List ℕ) (place : ℕ) → seen ≡ own → IsKnown own name → IsPlaceFor seen name place → IsPlaceOf own name place
@@ -72,7 +83,7 @@ rows_named own name column table at =
     sym (ap (λ (c : TypedForm). length (column_rows c.column)) (get_or_from_slice_get own.columns at.place column column at.column_there))
     ∙ table.even at.place column (omega (arith, at.name_there.within, table.named))
 
-named_even : (own : TableForm) (names : List (List ℕ)) (columns : List TypedForm) → IsTable own → AllZip (IsNamed own) names columns → AreEven columns own.count
+pub named_even : (own : TableForm) (names : List (List ℕ)) (columns : List TypedForm) → IsTable own → AllZip (IsNamed own) names columns → AreEven columns own.count
 named_even own [] [] table named = All-nil (λ c. length (column_rows c.column) ≡ own.count)
 named_even own [] (c ∷ columns) table named = absurd named
 named_even own (name ∷ names) [] table named = absurd named
@@ -95,17 +106,33 @@ selected_table own asked copies kept count copied counted table distinct named =
 pub asked_seen : (own seen asked : List (List ℕ)) → own ≡ seen → AreAsked own asked → AreAsked seen asked
 asked_seen own seen asked is names = subst (λ (l : List (List ℕ)). AreAsked l asked) is names
 
--- what refuses names refuses to rename them
-pub by_names : (own names new_names : List (List ℕ)) (error : TableError) → length names ≡ length new_names → IsSelectError own names error → IsRenameError own names new_names error
+-- what refuses names refuses to choose columns by them
+pub by_choice : (own names : List (List ℕ)) (error : TableError) → IsNameFault own names error → IsSelectError own names error
+by_choice own names (RepeatedName earlier place) refused = refused
+by_choice own names (UnknownName place) refused = refused
+by_choice own names (NameCount n m) refused = absurd refused
+by_choice own names (RowCount place found wanted) refused = absurd refused
+by_choice own names (NewNameCount n m) refused = absurd refused
+by_choice own names (RepeatedNewName earlier place) refused = absurd refused
+by_choice own names OtherNames refused = absurd refused
+by_choice own names (OtherType place) refused = absurd refused
+by_choice own names NoKeys refused = absurd refused
+by_choice own names (UnsupportedKey place) refused = absurd refused
+by_choice own names (Refused error) refused = absurd refused
+
+-- and to rename them
+pub by_names : (own names new_names : List (List ℕ)) (error : TableError) → length names ≡ length new_names → IsNameFault own names error → IsRenameError own names new_names error
 by_names own names new_names (RepeatedName earlier place) paired refused = (paired, refused)
 by_names own names new_names (UnknownName place) paired refused = (paired, refused)
-by_names own names new_names (Refused error) paired refused = (paired, refused)
 by_names own names new_names (NameCount n m) paired refused = absurd refused
 by_names own names new_names (RowCount place found wanted) paired refused = absurd refused
 by_names own names new_names (NewNameCount n m) paired refused = absurd refused
 by_names own names new_names (RepeatedNewName earlier place) paired refused = absurd refused
 by_names own names new_names OtherNames paired refused = absurd refused
 by_names own names new_names (OtherType place) paired refused = absurd refused
+by_names own names new_names NoKeys paired refused = absurd refused
+by_names own names new_names (UnsupportedKey place) paired refused = absurd refused
+by_names own names new_names (Refused error) paired refused = absurd refused
 
 pub by_new_names : (own names new_names made : List (List ℕ)) (error : TableError) → length names ≡ length new_names → AreAsked own names → AllZip (IsRenamedTo names new_names) own made → IsNamingError made error
     → IsRenameError own names new_names error
@@ -118,6 +145,8 @@ by_new_names own names new_names made (RowCount place found wanted) paired asked
 by_new_names own names new_names made (NewNameCount n m) paired asked renamed refused = absurd refused
 by_new_names own names new_names made OtherNames paired asked renamed refused = absurd refused
 by_new_names own names new_names made (OtherType place) paired asked renamed refused = absurd refused
+by_new_names own names new_names made NoKeys paired asked renamed refused = absurd refused
+by_new_names own names new_names made (UnsupportedKey place) paired asked renamed refused = absurd refused
 
 -- the table under other names
 pub named_table : {A : Type 0} (own : TableForm) (names : List (String A)) (kept : List (TypedColumn A)) (count : ℕ) → length names ≡ length own.names → own.count ≡ count → IsTable own → AreDistinct (map string_bytes names) (length names)

@@ -49,12 +49,16 @@ pub record AreAsked (own names : List (List ℕ)) : Type 0 where
   pub distinct : AreDistinct names (length names)
   pub known : All (IsKnown own) names
 
--- why columns of these names are not chosen: the first of these that holds, and memory only where none does
+-- why these are not names of different columns: the first of these that holds
+abbrev pub IsNameFault : List (List ℕ) → List (List ℕ) → TableError → Type 0
+IsNameFault own names (RepeatedName earlier place) = IsFirstRepeated names earlier place
+IsNameFault own names (UnknownName place) = AreDistinct names (length names) × IsFirstUnknown own names place
+IsNameFault own names error = ⊥
+
+-- why columns of these names are not chosen: by their names, and memory only where these are no fault
 abbrev pub IsSelectError : List (List ℕ) → List (List ℕ) → TableError → Type 0
-IsSelectError own names (RepeatedName earlier place) = IsFirstRepeated names earlier place
-IsSelectError own names (UnknownName place) = AreDistinct names (length names) × IsFirstUnknown own names place
 IsSelectError own names (Refused error) = (error ≡ OutOfMemory) × AreAsked own names
-IsSelectError own names error = ⊥
+IsSelectError own names error = IsNameFault own names error
 
 -- why these are not the names of columns, as many as there are
 abbrev pub IsNamingError : List (List ℕ) → TableError → Type 0

@@ -4,7 +4,7 @@ use Rattle.std.specs.Prelude.{refl, ◌≡◌, ◌≢◌, ◌^◌, ◌<◌, ◌�
 use Rattle.std.specs.List.{AllZip}
 use Rattle.std.specs.Str.{IsUtf8}
 use Rattle.column_base.specs.declared.dtype.DType.{DType}
-use Rattle.column_core.specs.Value.{Value}
+use Rattle.column_core.specs.Value.{IsLists, Value}
 use Rattle.runend_array.specs.Column.{column_dtype, column_rows}
 use Rattle.typed_columns.specs.Typed.{TypedForm, typed_code}
 
@@ -29,6 +29,10 @@ AreDistinct names count = (i j : ℕ) → i < j → j < count → slice_get name
 -- each column has this number of rows
 abbrev pub AreEven : List TypedForm → ℕ → Type 0
 AreEven columns count = All (λ c. length (column_rows c.column) ≡ count) columns
+
+-- no column has lists
+abbrev pub AreSingle : List TypedForm → Type 0
+AreSingle columns = All (λ c. ¬ IsLists (column_dtype c.column)) columns
 
 -- a table: a distinct name for each column, texts that are UTF-8, and as many rows in each column
 pub record IsTable (t : TableForm) : Type 0 where

@@ -35,6 +35,14 @@ pub enum TableError {
     UnknownName {
         name: usize,
     },
+    /// Says that there is no column by which rows are to be put in order.
+    #[error("NoKeys")]
+    NoKeys,
+    /// Has the first of the keys whose column has lists, which are in no order.
+    #[error("UnsupportedKey")]
+    UnsupportedKey {
+        key: usize,
+    },
     /// Has how many names and new names there are, where the numbers differ.
     #[error("NewNameCount")]
     NewNameCount {

@@ -6,11 +6,15 @@ mod columns;
 mod comparisons;
 mod fault;
 mod joined;
+mod keys;
 mod names;
 mod put;
 mod refusals;
+mod sort;
 mod table;
 mod taken;
 
 pub use fault::TableError;
+pub use row_groups::RowOrder;
+pub use sort::KeyOrder;
 pub use table::Table;

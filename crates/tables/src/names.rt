@@ -1,5 +1,5 @@
 //! Names of columns: where one is, which is repeated, and copies of them.
-ghost use Rattle.std.specs.Prelude.{◌≡◌, All, IfNone, IfOk, IfSome, IsOkUnless, MatchOption, length, map};
+ghost use Rattle.std.specs.Prelude.{◌≡◌, ℕ, List, All, IfNone, IfOk, IfSome, IsOkUnless, MatchOption, length, map};
 ghost use Rattle.std.specs.List.{AllZip};
 ghost use Rattle.std.specs.String.{string_bytes};
 ghost use Rattle.tables.specs.Put.{IsPlaceFor};
@@ -9,13 +9,31 @@ ghost use Rattle.tables.specs.Tables.{AreDistinct, IsKnown, IsPlaceOf, IsRenamed
 use column_core::{VortexError, VortexResult};
 use std::alloc::Allocator;
 
+/// Has the name of a column.
+pub(crate) trait Named {
+    // The name, in UTF-8.
+    ghost named: { Self → List ℕ };
+
+    /// Returns the name.
+    fn name(&self) -> &str
+        ensures { result.now ≡ named self.now };
+}
+
+impl<A: Allocator> Named for String<A> {
+    ghost named = { λ text. string_bytes text };
+
+    fn name(&self) -> &str {
+        self.as_str()
+    }
+}
+
 /// Returns the first place of the name.
-pub(crate) fn place_of<A: Allocator>(names: &[String<A>], name: &str) -> Option<usize>
-    ensures found { IfSome result (IsPlaceOf (map string_bytes names.now) name.now) }
-    ensures unknown { IfNone result (IsUnknown (map string_bytes names.now) name.now) }
+pub(crate) fn place_of<N: Named>(names: &[N], name: &str) -> Option<usize>
+    ensures found { IfSome result (IsPlaceOf (map N.named names.now) name.now) }
+    ensures unknown { IfNone result (IsUnknown (map N.named names.now) name.now) }
 {
     for place in 0..names.len() {
-        if names[place].as_str() == name {
+        if names[place].name() == name {
             return Some(place);
         }
     }
@@ -33,12 +51,12 @@ pub(crate) fn place_for<A: Allocator>(names: &[String<A>], name: &str) -> usize
 }
 
 /// Returns the place of the first name that an earlier one is equal to, after the place of that one.
-pub(crate) fn first_repeated<A: Allocator>(names: &[String<A>]) -> Option<(usize, usize)>
-    ensures { MatchOption result (AreDistinct (map string_bytes names.now) (length names.now))
-        (λ found. IsFirstRepeated (map string_bytes names.now) found.0 found.1) }
+pub(crate) fn first_repeated<N: Named>(names: &[N]) -> Option<(usize, usize)>
+    ensures { MatchOption result (AreDistinct (map N.named names.now) (length names.now))
+        (λ found. IsFirstRepeated (map N.named names.now) found.0 found.1) }
 {
     for place in 0..names.len() {
-        if let Some(earlier) = place_of(&names[..place], names[place].as_str()) {
+        if let Some(earlier) = place_of(&names[..place], names[place].name()) {
             return Some((earlier, place));
         }
     }
@@ -46,12 +64,12 @@ pub(crate) fn first_repeated<A: Allocator>(names: &[String<A>]) -> Option<(usize
 }
 
 /// Returns the place of the first of the names that is not one of `own`.
-pub(crate) fn first_unknown<A: Allocator>(own: &[String<A>], names: &[String<A>]) -> Option<usize>
-    ensures { MatchOption result (All (IsKnown (map string_bytes own.now)) (map string_bytes names.now))
-        (IsFirstUnknown (map string_bytes own.now) (map string_bytes names.now)) }
+pub(crate) fn first_unknown<A: Allocator, N: Named>(own: &[String<A>], names: &[N]) -> Option<usize>
+    ensures { MatchOption result (All (IsKnown (map string_bytes own.now)) (map N.named names.now))
+        (IsFirstUnknown (map string_bytes own.now) (map N.named names.now)) }
 {
     for place in 0..names.len() {
-        if place_of(own, names[place].as_str()).is_none() {
+        if place_of(own, names[place].name()).is_none() {
             return Some(place);
         }
     }

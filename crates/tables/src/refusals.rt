@@ -8,13 +8,13 @@ ghost use Rattle.column_core.specs.Refusal.{range_fault};
 ghost use Rattle.column_ops.specs.Filter.{filter_fault};
 ghost use Rattle.column_ops.specs.Take.{index_fault, take_fault};
 ghost use Rattle.row_stretches.specs.Masks.{mask_fault};
-ghost use Rattle.tables.specs.TableFaults.{AreAsked, IsSelectError, IsTableError};
+ghost use Rattle.tables.specs.TableFaults.{AreAsked, IsNameFault, IsTableError};
 ghost use Rattle.tables.specs.Tables.{IsTable, table_with};
 ghost use Rattle.typed_columns.specs.Typed.{typed_of};
 
 use crate::columns::first_uneven;
 use crate::fault::TableError;
-use crate::names::{first_repeated, first_unknown};
+use crate::names::{Named, first_repeated, first_unknown};
 use column_core::{DType, PrimitiveArray, VortexError};
 use column_ops::checked_index;
 use std::alloc::Allocator;
@@ -51,12 +51,12 @@ pub(crate) fn fault_of_parts<A: Allocator + Copy>(
 }
 
 /// Returns why columns of these names are not chosen: `RepeatedName` or `UnknownName`, the first that holds.
-pub(crate) fn fault_of_names<A: Allocator>(
+pub(crate) fn fault_of_names<A: Allocator, N: Named>(
     own: &[String<A>],
-    names: &[String<A>],
+    names: &[N],
 ) -> Option<TableError>
-    ensures { MatchOption result (AreAsked (map string_bytes own.now) (map string_bytes names.now))
-        (IsSelectError (map string_bytes own.now) (map string_bytes names.now)) }
+    ensures { MatchOption result (AreAsked (map string_bytes own.now) (map N.named names.now))
+        (IsNameFault (map string_bytes own.now) (map N.named names.now)) }
 {
     if let Some(found) = first_repeated(names) {
         return Some(TableError::RepeatedName {

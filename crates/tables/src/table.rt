@@ -21,7 +21,7 @@ ghost use Rattle.typed_columns.specs.Typed.{typed_of};
 use crate::columns::{copies_of_each, part_of_each, stretches_of_each};
 use crate::comparisons::truths_by;
 use crate::fault::TableError;
-use crate::names::{copies_of, first_repeated, place_for, place_of, renamed};
+use crate::names::{Named, copies_of, first_repeated, place_for, place_of, renamed};
 use crate::refusals::{
     fault_of_indices, fault_of_mask, fault_of_names, fault_of_parts, fault_of_range,
 };
@@ -104,7 +104,8 @@ impl<A: Allocator + Copy> Table<A> {
 
     /// Returns the names, in the order of the columns.
     pub fn names(&self) -> &[String<A>]
-        ensures { map string_bytes result.now ≡ self.now.names }
+        ensures names { map string_bytes result.now ≡ self.now.names }
+        ensures table { IsTable self.now }
     {
         &self.names
     }
@@ -333,27 +334,27 @@ impl<A: Allocator + Copy> Table<A> {
 
 impl<A: Allocator + Copy> Table<A> {
     // Copies of the columns of these names, which all are there.
-    fn columns_named(
+    pub(crate) fn columns_named<N: Named>(
         &self,
-        names: &[String<A>],
+        names: &[N],
         ctx: &mut ExecutionCtx<A>,
     ) -> VortexResult<Vec<TypedColumn<A>, A>>
-        requires known { All (IsKnown self.now.names) (map string_bytes names.now) }
+        requires known { All (IsKnown self.now.names) (map N.named names.now) }
         ensures only { IsOkUnless result VortexError.OutOfMemory }
-        ensures columns { IfOk result (λ made. AllZip (IsNamed self.now) (map string_bytes names.now)
+        ensures columns { IfOk result (λ made. AllZip (IsNamed self.now) (map N.named names.now)
             (map typed_of made.items)) }
         ensures session { ctx.new ≡ ctx.old }
     {
         let mut kept = Vec::with_capacity(*ctx.allocator(), names.len())?;
         for name in names {
-            let copy = self.columns[self.place_of(name.as_str())].try_clone(ctx)?;
+            let copy = self.columns[self.place_of(name.name())].try_clone(ctx)?;
             kept.push_reserved(copy);
         }
         Ok(kept)
     }
 
     // The place of the column of a name, which is there.
-    fn place_of(&self, name: &str) -> usize
+    pub(crate) fn place_of(&self, name: &str) -> usize
         requires known { IsKnown self.now.names name.now }
         ensures place { IsPlaceOf self.now.names name.now result }
     {
@@ -394,7 +395,11 @@ impl<A: Allocator + Copy> Table<A> {
     }
 
     // The rows of these stretches of each column.
-    fn rows_in(&self, order: &[Stretch], ctx: &mut ExecutionCtx<A>) -> VortexResult<Table<A>>
+    pub(crate) fn rows_in(
+        &self,
+        order: &[Stretch],
+        ctx: &mut ExecutionCtx<A>,
+    ) -> VortexResult<Table<A>>
         requires within { All (IsWithin self.now.count) order.now }
         requires small { length (stretch_places order.now) < 2 ^ 64 }
         ensures only { IsOkUnless result VortexError.OutOfMemory }

@@ -1,4 +1,4 @@
-use Rattle.std.proofs.Common.{◌≡◌, ◌≢◌, ◌∙◌, arith, sym, true≢false}
+use Rattle.std.proofs.Common.{◌≢◌, ◌∙◌, arith, sym, true≢false}
 use Rattle.tables.specs.Appended.{type_of}
 use Rattle.typed_columns.specs.Typed.{typed_of}
 use Rattle.tables.proofs.Appends.{first_other, types_all, types_more}

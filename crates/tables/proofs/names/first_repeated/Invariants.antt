@@ -1,8 +1,7 @@
 -- No two names so far are equal.
 use Rattle.std.proofs.Common.{map}
-use Rattle.std.specs.String.{string_bytes}
 use Rattle.tables.specs.Tables.{AreDistinct}
 use Rattle.tables.proofs.names.first_repeated.Given as goal
 
 abbrev pub invariant-loop-place : goal.invariant-loop-place
-invariant-loop-place g l = AreDistinct (map string_bytes l.names) l.place
+invariant-loop-place g l = AreDistinct (map g.N.Named.named l.names) l.place

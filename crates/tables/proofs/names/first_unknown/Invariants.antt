@@ -6,4 +6,4 @@ use Rattle.tables.specs.Tables.{IsKnown}
 use Rattle.tables.proofs.names.first_unknown.Given as goal
 
 abbrev pub invariant-loop-place : goal.invariant-loop-place
-invariant-loop-place g l = (k : ℕ) (d : List ℕ) → k < l.place → IsKnown (map string_bytes l.fn.own) (slice_index_or (map string_bytes l.fn.names) k d)
+invariant-loop-place g l = (k : ℕ) (d : List ℕ) → k < l.place → IsKnown (map string_bytes l.fn.own) (slice_index_or (map g.N.Named.named l.fn.names) k d)

@@ -3,7 +3,6 @@ use Rattle.std.specs.Int.{w128}
 use Rattle.std.proofs.lemmas.Int.{to_z-of_z}
 use Rattle.std.specs.Prelude.{if◌then◌else◌, slice_get}
 use Rattle.column_base.specs.ValidityForm.{ValidityForm, flag_at}
-use Rattle.column_core.specs.PrimitiveForm.{optional_numbers}
 use Rattle.tables.proofs.IndexFaults.{shown_at}
 use Rattle.tables.proofs.refusals.fault_at.Goals as goal
 

@@ -1,4 +1,4 @@
-use Rattle.std.proofs.Common.{◌≡◌, ◌∙◌, ap, length, map, sym, arith}
+use Rattle.std.proofs.Common.{◌∙◌, ap, length, map, sym, arith}
 use Rattle.std.proofs.lemmas.List.{length-map}
 use Rattle.tables.specs.Tables.{TableForm}
 use Rattle.typed_columns.specs.Typed.{typed_of}

@@ -3,7 +3,7 @@ use Rattle.std.specs.List.{AllZip}
 use Rattle.std.specs.String.{string_bytes}
 use Rattle.std.proofs.lemmas.List.{length-map}
 use Rattle.std.proofs.lemmas.Result.{IfErr-weaker, IfOk-weaker}
-use Rattle.tables.specs.TableFaults.{IsNamingError, IsRenameError, IsSelectError}
+use Rattle.tables.specs.TableFaults.{IsNameFault, IsNamingError, IsRenameError}
 use Rattle.tables.specs.Tables.{IsRenamedTo, IsRenaming, TableForm, table_with}
 use Rattle.tables.proofs.Selections.{asked_seen, by_names, by_new_names, renaming_seen, short_of_names, zip_long}
 use Rattle.tables.proofs.table.Table.rename.Goals as goal
@@ -14,7 +14,7 @@ returns-in-Some-clause-refused g c =
     let seen = ap (map string_bytes) c.deref.ensures.value ∙ ap (λ (t : TableForm). t.names) c.self.view_is in
     let same : length c.args.names.now ≡ length c.args.new_names.now = search rules in
     let paired = length-map c.args.names.now string_bytes ∙ same ∙ sym (length-map c.args.new_names.now string_bytes) in
-    by_names own (map string_bytes c.args.names.now) (map string_bytes c.args.new_names.now) c.in-Some.error paired (subst (λ (l : List (List ℕ)). IsSelectError l (map string_bytes c.args.names.now) c.in-Some.error) seen c.in-Some.ensures)
+    by_names own (map string_bytes c.args.names.now) (map string_bytes c.args.new_names.now) c.in-Some.error paired (subst (λ (l : List (List ℕ)). IsNameFault l (map string_bytes c.args.names.now) c.in-Some.error) seen c.in-Some.ensures)
 
 pub returns-in_err-made-clause-refused : goal.returns-in_err-made-clause-refused
 returns-in_err-made-clause-refused g c =

@@ -1,0 +1,6 @@
+pub mod Changes
+pub mod RunValues
+pub mod PlaceOrders
+pub mod Layouts
+pub mod Cuts
+pub mod Merged
