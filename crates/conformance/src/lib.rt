@@ -35,4 +35,6 @@ mod table_put;
 #[cfg(test)]
 mod table_rows;
 #[cfg(test)]
+mod table_sort;
+#[cfg(test)]
 mod usage;

@@ -37,14 +37,6 @@ pub(crate) fn three_lists<A: Allocator + Copy>(
     ListViewArray::try_new(elements, starts, sizes, RowValidity::Bits(flags), ctx)
 }
 
-// One buffer of the bytes of "first" and "last".
-fn one_buffer<A: Allocator + Copy>(alloc: A) -> VortexResult<Vec<Bytes<A>, A>> {
-    let mut buffers = Vec::with_capacity(alloc, 1)?;
-    let bytes = Bytes::copy_from_slice(alloc, b"firstlast")?;
-    buffers.push_reserved(bytes);
-    Ok(buffers)
-}
-
 // Where each text lies in that buffer.
 fn three_views<A: Allocator + Copy>(alloc: A) -> VortexResult<Vec<View, A>> {
     let view = |start, size| View {
@@ -57,7 +49,38 @@ fn three_views<A: Allocator + Copy>(alloc: A) -> VortexResult<Vec<View, A>> {
 
 /// "first", null and "last", one behind the other in one buffer.
 pub(crate) fn three_texts<A: Allocator + Copy>(alloc: A) -> VortexResult<VarBinViewArray<A>> {
-    let parts = both(three_views(alloc), one_buffer(alloc));
+    let parts = both(three_views(alloc), buffer_of(alloc, "firstlast"));
     let ((views, buffers), flags) = both(parts, bits(alloc, &[true, false, true]))?;
     VarBinViewArray::try_new(views, buffers, VarBinKind::Utf8, Validity::Bits(flags))
+}
+
+/// Returns the letters of a word of ASCII, a text for each, all in one buffer.
+pub(crate) fn letters<A: Allocator + Copy>(
+    alloc: A,
+    word: &str,
+) -> VortexResult<VarBinViewArray<A>> {
+    let parts = both(letter_views(alloc, word.len()), buffer_of(alloc, word));
+    let (views, buffers) = parts?;
+    VarBinViewArray::try_new(views, buffers, VarBinKind::Utf8, Validity::NonNullable)
+}
+
+// One buffer of the bytes of a word.
+fn buffer_of<A: Allocator + Copy>(alloc: A, word: &str) -> VortexResult<Vec<Bytes<A>, A>> {
+    let mut buffers = Vec::with_capacity(alloc, 1)?;
+    let bytes = Bytes::copy_from_slice(alloc, word.as_bytes())?;
+    buffers.push_reserved(bytes);
+    Ok(buffers)
+}
+
+// A byte for each view, one after the other.
+fn letter_views<A: Allocator + Copy>(alloc: A, count: usize) -> VortexResult<Vec<View, A>> {
+    let mut views = Vec::with_capacity(alloc, count)?;
+    for start in 0..count {
+        views.push(View {
+            buffer: 0,
+            start,
+            size: 1,
+        })?;
+    }
+    Ok(views)
 }

@@ -1,6 +1,6 @@
 //! Tables of named columns, and what is asked of them.
 use crate::columns::{are_rows, both, nullable, required, run_column};
-use crate::parts::{bits, three_lists};
+use crate::parts::{bits, letters, three_lists};
 use std::alloc::Allocator;
 use vortex_runend::compute::CompareOperator;
 use vortex_runend::{
@@ -30,6 +30,9 @@ pub(crate) enum Made<'a> {
     RunsWithNull(&'a [u8], &'a [i64]),
     /// Repeats the number in each of this many rows.
     Constant(i64, usize),
+    /// Has a text of one letter in each row.
+    Letters(&'a str),
+    Truths(&'a [bool]),
     /// Three lists, the second null.
     Lists,
 }
@@ -120,6 +123,8 @@ fn column<A: Allocator + Copy>(
         Made::LongRuns(ends, numbers) => long_runs(ends, required(alloc, numbers), ctx),
         Made::RunsWithNull(ends, numbers) => runs(ends, with_null(alloc, numbers), ctx),
         Made::Constant(number, count) => constant(number, count),
+        Made::Letters(word) => Ok(ArrayRef::VarBinView(letters(alloc, word)?)),
+        Made::Truths(flags) => Ok(ArrayRef::Bool(truths(alloc, flags)?)),
         Made::Lists => lists(ctx),
     }
 }
@@ -156,6 +161,11 @@ fn long_runs<A: Allocator + Copy>(
     };
     let ends = required(*ctx.allocator(), ends);
     run_column(ends, values, 0, length, ctx)
+}
+
+fn truths<A: Allocator + Copy>(alloc: A, flags: &[bool]) -> VortexResult<BoolArray<A>> {
+    let bits = bits(alloc, flags)?;
+    BoolArray::try_new(bits, Validity::NonNullable)
 }
 
 fn constant<A: Allocator>(number: i64, count: usize) -> VortexResult<ArrayRef<A>> {
@@ -200,8 +210,7 @@ pub(crate) fn answer<A: Allocator + Copy>(
     let alloc = *ctx.allocator();
     match question {
         Question::Filter(flags) => {
-            let bits = bits(alloc, flags)?;
-            let mask = ArrayRef::Bool(BoolArray::try_new(bits, Validity::NonNullable)?);
+            let mask = ArrayRef::Bool(truths(alloc, flags)?);
             Ok(filter(table, mask, ctx)?)
         }
         Question::FilterByNumbers(numbers) => {
