@@ -58,18 +58,18 @@ done
 # every line of vectors over the library as it ships; without a C++ compiler this fails
 run "vectors, the stored lines" sh examples/vectors/run.sh $own_tests
 
-# the header's names are the library's, and the other way round, but for the calls over Arrow for callers without a C
-# header
+# the names of the headers (that of tables includes the other) are the library's, and the other way round, but for the
+# calls over Arrow for callers without a C header
 names_agree() {
     printf 'hv_abi\nhv_version\n' >"$work/versions"
     nm -g --defined-only lib/libhivevigil.a 2>/dev/null |
         awk '$2 == "T" && $3 ~ /^hv_/ { print $3 }' | sort -u >"$work/exported"
-    $cc -E -P -DHV_EXPORTS_ALONE -Iinclude include/hivevigil.h | grep -o 'hv_[a-z0-9_]*(' | tr -d '(' | sort -u \
+    $cc -E -P -DHV_EXPORTS_ALONE -Iinclude include/hivevigil_tables.h | grep -o 'hv_[a-z0-9_]*(' | tr -d '(' | sort -u \
         >"$work/declared"
     $cc -Iinclude -c examples/python/arrow_calls.c -o "$work/arrow_calls.o" &&
         nm "$work/arrow_calls.o" | awk '$2 == "T" { print $3 }' | sort -u - "$work/declared" >"$work/all" || return 1
     # each is a call of the header too, but for the two that take nothing
-    $cc -E -P -Iinclude include/hivevigil.h | grep -o 'hv_call_[a-z0-9_]*(' | tr -d '(' | sed 's/_call_/_/' |
+    $cc -E -P -Iinclude include/hivevigil_tables.h | grep -o 'hv_call_[a-z0-9_]*(' | tr -d '(' | sed 's/_call_/_/' |
         sort -u - "$work/versions" | diff "$work/declared" - &&
         diff "$work/all" "$work/exported" && echo "$(wc -l <"$work/declared") calls"
 }
@@ -94,6 +94,8 @@ wraps="-Wl,--wrap=malloc,--wrap=calloc,--wrap=realloc,--wrap=free"
 run "c/refused_memory.c" built "$cc" "$c_flags $level $wraps" examples/c/refused_memory.c
 run "c/formats.c" built "$cc" "$c_flags $level $wraps" examples/c/formats.c
 run "c/helpers.c" built "$cc" "$c_flags $level" examples/c/helpers.c
+run "c/frames.c" built "$cc" "$c_flags $level" examples/c/frames.c
+run "c/frames_memory.c" built "$cc" "$c_flags $level $wraps" examples/c/frames_memory.c
 if [ "$quick" ]; then
     has "$cxx" && run "cpp/demo.cpp" built "$cxx" "$cxx_flags -O0" examples/cpp/demo.cpp
     has "$python" && run "python/demo.py" timeout 60 "$python" examples/python/demo.py
@@ -154,6 +156,7 @@ if has valgrind; then
     for test in answers refusals lists builders arrow_arrays; do run "c/$test.c under valgrind" under_valgrind "$test"; done
     run "c/refused_memory.c under valgrind" under_valgrind refused_memory "$wraps"
     run "c/helpers.c under valgrind" under_valgrind helpers
+    run "c/frames_memory.c under valgrind" under_valgrind frames_memory "$wraps"
 else
     skip "memory that is read and lost" valgrind
 fi
@@ -162,7 +165,7 @@ fi
 headers_alone() {
     warned="-Wall -Wextra -Wpedantic -Wshadow -Wconversion -Wno-string-conversion -Werror -Iinclude -fsyntax-only"
     for header in hivevigil hivevigil_errors hivevigil_helpers hivevigil_decimals hivevigil_arrow hivevigil_arrow_errors \
-        hivevigil_table hivevigil_table_errors hivevigil_table_order hivevigil_table_groups hivevigil_table_file hivevigil_stored_file; do
+        hivevigil_tables hivevigil_table hivevigil_table_errors hivevigil_table_order hivevigil_table_groups hivevigil_table_file hivevigil_stored_file; do
         echo "#include <$header.h>" >"$work/alone.c"
         cp "$work/alone.c" "$work/alone.cpp"
         $cc -std=c99 $warned "$work/alone.c" && $cxx -std=c++17 $warned "$work/alone.cpp" || return 1

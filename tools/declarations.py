@@ -6,7 +6,8 @@ declarations are made from it.
     python3 tools/declarations.py --write    writes the declarations anew
 
 Made are the exports and the inline calls of C (include/), the exports as Rust declares them (rust/src/raw.rs, which the
-bench uses too) and as ctypes does (python/hivevigil/_calls.py), each between two lines that say so. The types in the
+bench uses too) and as ctypes does (python/hivevigil/_calls.py), each between two lines that say so. The calls of
+tables are declared in include/hivevigil_tables.h, which has their exports and inline calls too. The types in the
 header are held against the functions of crates/hivevigil that are exported. The sentences of refusals are those of
 include/hivevigil_errors.h: Rust's (rust/src/error.rs) and Python's (python/hivevigil/_sentences.py) are made of them.
 """
@@ -17,11 +18,13 @@ from dataclasses import dataclass
 from pathlib import Path
 
 ROOT = Path(__file__).resolve().parent.parent
-HEADER, ERRORS = "include/hivevigil.h", "include/hivevigil_errors.h"
+HEADER, ERRORS, TABLES = "include/hivevigil.h", "include/hivevigil_errors.h", "include/hivevigil_tables.h"
 BEGIN, END = "made by tools/declarations.py from", "end of what tools/declarations.py makes"
 WIDTH = 120
 # The inline calls that do more than pass their arguments on: they are written by hand in hivevigil_calls.h.
-BY_HAND = {"hv_session_initial", "hv_free", "hv_builder_free"}
+BY_HAND = {"hv_session_initial", "hv_free", "hv_builder_free", "hv_frame_free"}
+# The handles that the library owns: an export takes what one holds out, and puts it back before it returns.
+HANDLES = {"hv_column": "hv_lent", "hv_builder": "hv_lent_builder", "hv_frame": "hv_lent_frame"}
 # The inline calls whose refusals of offsets and rows say what they are about, in the third field.
 ABOUT = {"hv_texts": "HV_ABOUT_TEXTS", "hv_large_texts": "HV_ABOUT_TEXTS", "hv_lists": "HV_ABOUT_LISTS"}
 # What stands for a type of the exports in another language. Rust's and Python's names are those of their modules.
@@ -40,7 +43,7 @@ PYTHON = {
 RATTLE = {
     **{rust: c for c, rust in RUST.items()},
     "Session": "hv_settings", "RowValue": "hv_value", "Total": "hv_total", "ErrorFields": "hv_error",
-    "&mut Handle": "hv_column *", "&mut BuilderHandle": "hv_builder *",
+    "&mut Handle": "hv_column *", "&mut BuilderHandle": "hv_builder *", "&mut TableHandle": "hv_frame *",
 }  # fmt: skip
 
 
@@ -81,7 +84,7 @@ class Call:
                 found += [Parameter("size_t", "bits_len"), Parameter("size_t", "first")]
             elif each.base == "hv_session":
                 found.append(Parameter(each.type.replace("hv_session", "hv_settings"), "settings"))
-            elif each.base in ("hv_column", "hv_builder"):
+            elif each.base in HANDLES:
                 found.append(Parameter(f"{each.base} *", each.name))
             else:
                 found.append(each)
@@ -112,10 +115,8 @@ def passed(parameter: Parameter) -> str:
         return f"HV_PARTS({name})"
     if parameter.base == "hv_session":
         return f"hv_settings_of({name})"
-    if parameter.type == "const hv_column *":
-        return f"hv_lent({name})"
-    if parameter.type == "const hv_builder *":
-        return f"hv_lent_builder({name})"
+    if parameter.base in HANDLES and parameter.type.startswith("const "):
+        return f"{HANDLES[parameter.base]}({name})"
     return "HV_FIELDS" if parameter.base == "hv_error" else name
 
 
@@ -192,6 +193,12 @@ def inline(call: Call) -> str:
 
 def inlines(calls: list[Call]) -> str:
     return under_headings([call for call in calls if call.name not in BY_HAND], inline)
+
+
+def tables(calls: list[Call]) -> str:
+    """All of a header that has its exports and inline calls itself, over hivevigil.h."""
+    free = ["HV_CALL void hv_frame_free(hv_frame *frame) {", "    if (frame) (hv_frame_free)(frame);", "}"]
+    return "\n".join([exports(calls), "#ifndef HV_EXPORTS_ALONE", *free, inlines(calls), "#endif"])
 
 
 def rust_type(type: str) -> str:
@@ -275,6 +282,7 @@ MADE = {
     "python/hivevigil/_calls.py": (python, HEADER, "# ", ""),
     "rust/src/error.rs": (rust_sentences, ERRORS, "// ", ""),
     "python/hivevigil/_sentences.py": (python_sentences, ERRORS, "# ", ""),
+    TABLES: (tables, TABLES, "/* ", " */"),
 }
 
 
@@ -326,12 +334,13 @@ def out_of_step(calls: list[Call], exported: dict[str, tuple[list[str], str]]) -
 def main() -> int:
     text_of = lambda path: (ROOT / path).read_text(encoding="utf-8")
     calls = calls_of(text_of(HEADER))
-    read = {HEADER: calls, ERRORS: refusals_of(text_of(HEADER), text_of(ERRORS))}
+    of_tables = calls_of(text_of(TABLES))
+    read = {HEADER: calls, TABLES: of_tables, ERRORS: refusals_of(text_of(HEADER), text_of(ERRORS))}
     exported: dict[str, tuple[list[str], str]] = {}
     for path in sorted((ROOT / "crates/hivevigil/src").glob("*.rt")):
         exported |= rattle_calls(path.read_text(encoding="utf-8"))
     # these two are plain functions in the header too
-    faults = out_of_step(calls, {name: exported[name] for name in exported if name not in ("hv_version", "hv_abi")})
+    faults = out_of_step([*calls, *of_tables], {name: exported[name] for name in exported if name not in ("hv_version", "hv_abi")})
     for path, (make, header, opens, closes) in MADE.items():
         text = text_of(path)
         made = renewed(text, make(read[header]), header, opens, closes)
@@ -341,7 +350,7 @@ def main() -> int:
             faults.append(f"{path} is out of step with {header}: run python3 tools/declarations.py --write")
     for fault in faults:
         print(fault)
-    total = len(calls) + len(MADE)
+    total = len(calls) + len(of_tables) + len(MADE)
     print(f"{total - len(faults)} passed, {len(faults)} failed")
     return 1 if faults else 0
 

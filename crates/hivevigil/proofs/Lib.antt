@@ -1,5 +1,6 @@
 pub mod BuilderEndings
 pub mod EndsEndings
+pub mod FrameEndings
 pub mod FormatEndings
 pub mod PartEndings
 pub mod ReadEndings

@@ -23,6 +23,8 @@ mod runs;
 mod sizes;
 mod sorts;
 mod sums;
+mod table_calls;
+mod table_rows;
 mod texts;
 mod versions;
 mod windows;

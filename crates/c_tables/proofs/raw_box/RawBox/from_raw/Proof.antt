@@ -1,0 +1,90 @@
+-- The box of a parked box: its block belongs to the box again.
+use Rattle.std.proofs.Common.{◌≡◌, List, [], ◌∷◌, refl, sym, ap, subst}
+use mir.Syntax.{a_type, dcons, dnil}
+use mir.Val.{Val, vptr}
+use mir.MapTy.{inst_fn}
+use base.Logic.{SProp, id⊢}
+use base.Fml.{ftrue, flft}
+use prog.Wp.{WpFn}
+use types.Kit.{‵, raw, ◌⊛◌, some, later, at_ret, ◌$◌, ◌∵◌, !, qed, by, move, keep, drop, split, split3, join, fsplit, fjoin, pick, suffices, use1, await, rewrite, feq_i}
+use types.Run.{stop, fld, of_opd, no_more, and_then, first, blocks, exec, returns, enter}
+use types.ByLocal.{alloc_all, pass_all, free_all, look_at, get, get_in, sets, lands_last, env}
+use types.Part.{sub, whole}
+use contract.Monad.{fact}
+use contract.BorrowLft.{◌⊑◌}
+use contract.Running.{tables}
+use denote.Exit.{no}
+use denote.RattleType.{RattleType, owns}
+use denote.Signature.{types_at, plain}
+use denote.RawPtr.{block_ptr}
+use denote.Steps.{nothing, only}
+use denote.Param.{param, layout, bounded}
+use denote.Param.Laws.{param_laws}
+use denote.Triple.Clauses.{Lasts, lasts}
+use denote.Triple.Spec.{triple_of}
+use denote.Triple.Call.{calls_at_last}
+use denote.Triple.Walked.{Stays, stay_dropped, walk_of}
+use Rattle.core.proofs.alloc.Calls.{Goes-blank}
+use Rattle.core.proofs.alloc.Shapes.{after}
+use Rattle.core.proofs.atomic.Steps.{fm}
+use Rattle.core.proofs.cell.Inside.{Good}
+use Rattle.std_alloc.proofs.BoxSteps.Form as box
+use Rattle.std_alloc.proofs.BoxSteps.Steps.{box_out, box_in}
+use Rattle.std.proofs.raw_atomic.Walks.{proved_at, leaves}
+use Rattle.c_tables.proofs.ParkedBoxes.{RawBox, as_one, open_parked, pair_value, parked_fits}
+use Rattle.std_alloc.specs.contracts.boxed.Box.from_raw as from_raw
+use Rattle.std_alloc.proofs.boxed.Box.from_raw.Met.{met}
+use Rattle.c_tables.specs.contracts.raw_box.RawBox.from_raw.{ended, clauses}
+use Rattle.c_tables.specs.contracts.raw_box.RawBox.from_raw.Key.{name as #self}
+use Rattle.c_tables.proofs.raw_box.RawBox.from_raw.Statement.{statement}
+use Rattle.c_tables.proofs.raw_box.RawBox.from_raw.Code as code
+
+pub from_raw_spec : {M : Type 1} → statement M
+from_raw_spec 𝓤 𝓛 𝓜 𝓡 wired T A L LA g d dx dd allocator glue glued =
+    let H = 𝓛.H in
+    let 𝓣 = tables 𝓤 H 𝓜 𝓡 𝓡.env in
+    -- the types of what is in the box and of its allocator
+    let Item : RattleType = param 0 T in
+    let Alloc : RattleType = param 1 A in
+    let laws = param_laws 1 A LA in
+    let at_types = bounded (a_type ∷ a_type ∷ []) (T, (A, tt)) (dcons d (dcons dx (dcons dd dnil))) in
+    let fn = inst_fn at_types code.function in
+    let here = ended T A g d dx dd in
+    let c = clauses T A g d dx dd 𝓛 𝓜.mem 𝓡.returns in
+    let boxes : box.Bx = record { row = T; laws = L; al = record { row = A; laws = LA; g = g; d = d; drops = dd } } in
+    let Made : RattleType = box.B boxes in
+    let stays : Stays here.signature.params here.kept = (stay_dropped (plain (λ _. RawBox Item Alloc laws g)) no, tt) in
+    proved_at 𝓛 here stays c 𝓜 𝓡 (Goes-blank 𝓛 2 (plain (λ _. RawBox Item Alloc laws g)) no (λ κs x f. tt), tt) (#self at_types) fn (code.unfolded 𝓤 H 𝓜 𝓡 wired (T, (A, tt)) d dx dd) (λ z are.
+    let κs = z.0.0 in
+    let qs = z.0.1 in
+    let given = z.0.3.0 in
+    let Post : Val → SProp 𝓤 = (walk_of 𝓛 here stays c).post z in
+    let Run : List Val → SProp 𝓤 = λ ws. WpFn 𝓤 H 𝓣.C 𝓣.Λ fn ws Post in
+    let tokens = ‵ (flft κs.0 qs.0) ⊛ ‵ (flft κs.1.0 qs.1.0) ⊛ ‵ ftrue in
+    qed 𝓛 ((tokens ⊛ ‵ (owns (types_at here.signature.params κs) z.0.3 z.0.4)) ∷ raw ((c κs z.0.3).requires z.1) ∷ []) ∵
+    split ! $ move ! (1 ∷ []) $ fsplit ! $ open_parked Item Alloc laws g ! given z.0.4.0 (λ b o h _ is fits.
+    let word : Val = pair_value (vptr b o) h in
+    let typed = parked_fits Item Alloc laws g b o h fits in
+    -- what `from_raw` is to be given: the tokens, the pointer with its block, and the allocator
+    let call = triple_of 𝓛 (from_raw.signature T A g d dd) (from_raw.spec T A g d dd 𝓛 𝓜.mem 𝓡.returns) in
+    let asked : call.Ghost = ((κs, qs, tt, (given.alloc, (block_ptr b o, tt)), (h ∷ [], (vptr b o ∷ [], tt))), given.value) in
+    move ! (4 ∷ []) $ use1 𝓛 (raw (fact 𝓤 (κs.0 ⊑ T.lives)) ⊛ raw (fact 𝓤 (κs.1.0 ⊑ A.lives)) ⊛ ‵ ftrue) (id⊢ 𝓤 _) $
+    split3 ! $ move ! (2 ∷ []) $ drop ! $ move ! (1 ∷ 2 ∷ []) $ join ! $ move ! (1 ∷ 0 ∷ []) $ join ! $
+    move ! (2 ∷ []) $ feq_i ! (List Val) (vptr b o ∷ []) (vptr b o ∷ []) refl $ fjoin ! $ move ! (2 ∷ 0 ∷ []) $ fjoin ! $ move ! (2 ∷ 0 ∷ []) $ join ! $ join ! $
+    use1 𝓛 (raw (call.pre asked)) (id⊢ 𝓤 _) $
+    suffices ! (Run (word ∷ [])) (as_one 𝓤 Run word is) $
+    enter ! 𝓣.C 𝓣.Λ fn (word ∷ []) Post $ alloc_all ! (λ l. pass_all ! refl (typed, tt) $
+    let Ev = env fn.locals l in
+    sets ! (of_opd ! (get_in ! (fld ! refl (stop !)) (sub ! 0 refl (whole !)))) refl (tt, tt) $
+    sets ! (of_opd ! (get_in ! (fld ! refl (stop !)) (sub ! 1 refl (whole !)))) refl fits $
+    first ! $ blocks ! $ sets ! (of_opd ! (get ! refl)) refl fits $
+    calls_at_last ! (fm 𝓛 𝓜 𝓡) call (met 𝓤 𝓛 𝓜 𝓡 (code.calls-std_alloc::boxed::Box::from_raw 𝓡.env wired) T A L LA g d dd allocator glued) asked (and_then ! (get ! refl) (and_then ! (get ! refl) (no_more !))) (λ u.
+    -- what it gives back: the tokens, and a box of that value and allocator
+    use1 𝓛 (later (some (λ (r : Made.Denot). (tokens ⊛ ‵ (Made.own_val r (u ∷ []))) ⊛ some (λ (ls : Lasts (from_raw.ended T A g d dd) κs asked.0.3). ‵ (lasts (from_raw.ended T A g d dd) κs asked.0.3 ls) ⊛ (raw (fact 𝓤 (r.value ≡ given.value)) ⊛ raw (fact 𝓤 (r.alloc ≡ given.alloc))))))) (id⊢ 𝓤 (call.post asked u)) $
+    await ! tt $ pick ! (λ r. split ! $ move ! (1 ∷ []) $ pick ! (λ _. split3 ! $ drop ! $ move ! (2 ∷ []) $ split ! $ move ! (1 ∷ []) $
+    box_out boxes ! r (u ∷ []) (λ b' o' h' at us fits'. box_in boxes ! r b' o' r.value at refl $
+    rewrite ! 0 (λ (xs : List Val). ‵ (Made.own_val r xs)) (sym us) refl $
+    let good : Good (layout Made) u = subst (Good (layout Made)) (sym (ap only us)) (parked_fits Item Alloc laws g b' o' h' fits') in
+    lands_last ! refl good $ exec ! 𝓣.C 𝓣.Λ Ev (after 3 fn.body) (at_ret Ev Post) $ sets ! (of_opd ! (get ! refl)) refl good $ nothing ! $ nothing ! $ fjoin ! $
+    returns ! (look_at ! 0 refl) $ free_all ! refl $ keep ! (2 ∷ 0 ∷ 1 ∷ 3 ∷ []) $
+    by ! (leaves 𝓛 here stays c z u r ((tt, (tt, tt)), tt) (tt, tt)))))))))

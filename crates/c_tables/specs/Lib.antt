@@ -1,0 +1,3 @@
+pub mod TableHandle
+pub mod TableEnding
+pub mod TableCalls

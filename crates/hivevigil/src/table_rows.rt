@@ -1,0 +1,260 @@
+//! Calls that make a table of some of the columns or of the rows of another one.
+ghost use Rattle.std.specs.Prelude.{◌≡◌, ◌≢◌, IsSomeAnd, MatchOption, pos};
+ghost use Rattle.column_core.specs.Refusal.{range_fault};
+ghost use Rattle.c_columns.specs.Ending.{WhereAll, WhereBoth};
+ghost use Rattle.c_columns.specs.Handle.{array_in};
+ghost use Rattle.c_columns.specs.Kinds.{operator_by};
+ghost use Rattle.c_tables.specs.TableCalls.{IsFilterBy, IsFilterByRefusal, IsFilterOf, IsRenameRefusal, IsRenamedBy, IsSelectRefusal, IsSelectedBy, IsSliceOf, IsTakeRefusal, IsTakenAt, masking_fault};
+ghost use Rattle.c_tables.specs.TableEnding.{EndsOnBoth, EndsOnOne, EndsOnThree, IsFaultFirst};
+ghost use Rattle.c_tables.specs.TableHandle.{WhereFour};
+ghost use Rattle.tables.specs.Appended.{IsAppendError, IsAppended};
+
+use c_columns::error_fields::{BAD_NUMBER, ErrorFields, NO_COLUMN};
+use c_columns::handle::Handle;
+use c_columns::kinds;
+use c_columns::row_value::RowValue;
+use c_tables::answers::answer_table;
+use c_tables::columns::{renamed, selected};
+use c_tables::rows::{appended, filtered, filtered_by, sliced, taken};
+use c_tables::table_handle::TableHandle;
+use column_ops::CompareOperator;
+use std::alloc::Global;
+
+/// Returns the columns of the names in a column of texts, in their order, each in the same form. Refused as `selected`
+/// is.
+#[tactic(auto, using(c_tables::proofs::TableEndings::no_first, c_tables::proofs::TableEndings::no_second, c_tables::proofs::TableEndings::both_done, c_tables::proofs::TableEndings::both_refused))]
+#[unsafe(no_mangle)]
+pub extern "C" fn hv_frame_select(
+    alloc: Global,
+    frame: &mut TableHandle,
+    names: &mut Handle,
+    out: &mut TableHandle,
+    error: &mut ErrorFields,
+) -> i32
+    ensures same { frame.new.table ≡ frame.old.table }
+    ensures same_names { names.new.column ≡ names.old.column }
+    ensures made { result ≡ pos 0 → WhereAll IsSelectedBy frame.old.table (array_in names.old.column)
+        out.new.table }
+    ensures kept { result ≢ pos 0 → out.new.table ≡ out.old.table }
+    ensures ended { EndsOnBoth IsSelectRefusal frame.old.table (array_in names.old.column) result error.new }
+{
+    let Some(held) = frame.take(alloc) else {
+        return NO_COLUMN;
+    };
+    let Some(lent) = names.take(alloc) else {
+        frame.put(held);
+        return NO_COLUMN;
+    };
+    let outcome = selected(alloc, &held, &lent.array);
+    frame.put(held);
+    names.put(lent);
+    answer_table(outcome, out, error)
+}
+
+/// Returns the same columns, those of the names in a column of texts each under the text at its place in another one.
+/// Refused as `renamed` is.
+#[tactic(auto, using(c_tables::proofs::TableEndings::none_of_three, c_tables::proofs::TableEndings::one_of_three, c_tables::proofs::TableEndings::two_of_three, c_tables::proofs::TableEndings::three_done, c_tables::proofs::TableEndings::three_refused))]
+#[unsafe(no_mangle)]
+pub extern "C" fn hv_frame_rename(
+    alloc: Global,
+    frame: &mut TableHandle,
+    names: &mut Handle,
+    new_names: &mut Handle,
+    out: &mut TableHandle,
+    error: &mut ErrorFields,
+) -> i32
+    ensures same { frame.new.table ≡ frame.old.table }
+    ensures same_names { names.new.column ≡ names.old.column }
+    ensures same_new_names { new_names.new.column ≡ new_names.old.column }
+    ensures made { result ≡ pos 0 → WhereFour IsRenamedBy frame.old.table (array_in names.old.column)
+        (array_in new_names.old.column) out.new.table }
+    ensures kept { result ≢ pos 0 → out.new.table ≡ out.old.table }
+    ensures ended { EndsOnThree IsRenameRefusal frame.old.table (array_in names.old.column)
+        (array_in new_names.old.column) result error.new }
+{
+    let Some(held) = frame.take(alloc) else {
+        return NO_COLUMN;
+    };
+    let Some(lent) = names.take(alloc) else {
+        frame.put(held);
+        return NO_COLUMN;
+    };
+    let Some(given) = new_names.take(alloc) else {
+        frame.put(held);
+        names.put(lent);
+        return NO_COLUMN;
+    };
+    let outcome = renamed(alloc, &held, &lent.array, &given.array);
+    frame.put(held);
+    names.put(lent);
+    new_names.put(given);
+    answer_table(outcome, out, error)
+}
+
+/// Returns the rows from `start` to `stop` - 1 of each column. Answers 9 exactly where these are not rows, else refused
+/// only for memory.
+#[tactic(auto, using(c_tables::proofs::TableEndings::one_empty, c_tables::proofs::TableEndings::one_done, c_tables::proofs::TableEndings::one_refused))]
+#[unsafe(no_mangle)]
+pub extern "C" fn hv_frame_slice(
+    alloc: Global,
+    frame: &mut TableHandle,
+    start: usize,
+    stop: usize,
+    out: &mut TableHandle,
+    error: &mut ErrorFields,
+) -> i32
+    ensures same { frame.new.table ≡ frame.old.table }
+    ensures made { result ≡ pos 0 → WhereBoth (IsSliceOf start stop) frame.old.table out.new.table }
+    ensures kept { result ≢ pos 0 → out.new.table ≡ out.old.table }
+    ensures ended { EndsOnOne (λ t. IsFaultFirst (range_fault start stop t.count)) frame.old.table result error.new }
+{
+    let Some(held) = frame.take(alloc) else {
+        return NO_COLUMN;
+    };
+    let outcome = sliced(alloc, &held, start, stop);
+    frame.put(held);
+    answer_table(outcome, out, error)
+}
+
+/// Returns the rows of each column at which a mask of any form is true. Answers 12 exactly where the mask is not of
+/// booleans, and then 10, with its length and the number of rows, where they differ, else refused only for memory.
+#[tactic(auto, using(c_tables::proofs::TableEndings::no_first, c_tables::proofs::TableEndings::no_second, c_tables::proofs::TableEndings::both_done, c_tables::proofs::TableEndings::both_refused))]
+#[unsafe(no_mangle)]
+pub extern "C" fn hv_frame_filter(
+    alloc: Global,
+    frame: &mut TableHandle,
+    mask: &mut Handle,
+    out: &mut TableHandle,
+    error: &mut ErrorFields,
+) -> i32
+    ensures same { frame.new.table ≡ frame.old.table }
+    ensures same_mask { mask.new.column ≡ mask.old.column }
+    ensures made { result ≡ pos 0 → WhereAll IsFilterOf frame.old.table (array_in mask.old.column) out.new.table }
+    ensures kept { result ≢ pos 0 → out.new.table ≡ out.old.table }
+    ensures ended { EndsOnBoth (λ t c. IsFaultFirst (masking_fault t c)) frame.old.table (array_in mask.old.column)
+        result error.new }
+{
+    let Some(held) = frame.take(alloc) else {
+        return NO_COLUMN;
+    };
+    let Some(lent) = mask.take(alloc) else {
+        frame.put(held);
+        return NO_COLUMN;
+    };
+    let outcome = filtered(alloc, &held, &lent.array);
+    frame.put(held);
+    mask.put(lent);
+    answer_table(outcome, out, error)
+}
+
+/// Returns the rows at which the operator, by its number, holds of the row of the column of this name and a value of
+/// its type. Answers 23 for a number of no operator, then 22 for an empty handle; else refused as `filtered_by` is.
+#[unsafe(no_mangle)]
+pub extern "C" fn hv_frame_filter_by(
+    alloc: Global,
+    frame: &mut TableHandle,
+    name: &[u8],
+    operator: u8,
+    value: &RowValue,
+    text: &[u8],
+    out: &mut TableHandle,
+    error: &mut ErrorFields,
+) -> i32
+    ensures same { frame.new.table ≡ frame.old.table }
+    ensures made { result ≡ pos 0 → IsSomeAnd (operator_by operator)
+        (λ op. WhereBoth (IsFilterBy name.now op value.now text.now) frame.old.table out.new.table) }
+    ensures kept { result ≢ pos 0 → out.new.table ≡ out.old.table }
+    ensures ended { MatchOption (operator_by operator) (result ≡ pos 23)
+        (λ op. EndsOnOne (IsFilterByRefusal name.now value.now text.now) frame.old.table result error.new) }
+{
+    match kinds::operator_by(operator) {
+        Some(operator) => filter_held(alloc, frame, name, operator, value, text, out, error),
+        None => BAD_NUMBER,
+    }
+}
+
+/// Returns the row of each column at each index, integers in any form, null at a null one. Refused as `taken` is.
+#[tactic(auto, using(c_tables::proofs::TableEndings::no_first, c_tables::proofs::TableEndings::no_second, c_tables::proofs::TableEndings::both_done, c_tables::proofs::TableEndings::both_refused))]
+#[unsafe(no_mangle)]
+pub extern "C" fn hv_frame_take(
+    alloc: Global,
+    frame: &mut TableHandle,
+    indices: &mut Handle,
+    out: &mut TableHandle,
+    error: &mut ErrorFields,
+) -> i32
+    ensures same { frame.new.table ≡ frame.old.table }
+    ensures same_indices { indices.new.column ≡ indices.old.column }
+    ensures made { result ≡ pos 0 → WhereAll IsTakenAt frame.old.table (array_in indices.old.column)
+        out.new.table }
+    ensures kept { result ≢ pos 0 → out.new.table ≡ out.old.table }
+    ensures ended { EndsOnBoth IsTakeRefusal frame.old.table (array_in indices.old.column) result error.new }
+{
+    let Some(held) = frame.take(alloc) else {
+        return NO_COLUMN;
+    };
+    let Some(lent) = indices.take(alloc) else {
+        frame.put(held);
+        return NO_COLUMN;
+    };
+    let outcome = taken(alloc, &held, &lent.array);
+    frame.put(held);
+    indices.put(lent);
+    answer_table(outcome, out, error)
+}
+
+/// Returns the rows of a table and then those of another one with the same names, types and formats. Refused as
+/// `appended` is.
+#[tactic(auto, using(c_tables::proofs::TableEndings::no_first, c_tables::proofs::TableEndings::no_second, c_tables::proofs::TableEndings::both_done, c_tables::proofs::TableEndings::both_refused))]
+#[unsafe(no_mangle)]
+pub extern "C" fn hv_frame_append(
+    alloc: Global,
+    frame: &mut TableHandle,
+    other: &mut TableHandle,
+    out: &mut TableHandle,
+    error: &mut ErrorFields,
+) -> i32
+    ensures same { frame.new.table ≡ frame.old.table }
+    ensures same_other { other.new.table ≡ other.old.table }
+    ensures made { result ≡ pos 0 → WhereAll IsAppended frame.old.table other.old.table out.new.table }
+    ensures kept { result ≢ pos 0 → out.new.table ≡ out.old.table }
+    ensures ended { EndsOnBoth IsAppendError frame.old.table other.old.table result error.new }
+{
+    let Some(held) = frame.take(alloc) else {
+        return NO_COLUMN;
+    };
+    let Some(lent) = other.take(alloc) else {
+        frame.put(held);
+        return NO_COLUMN;
+    };
+    let outcome = appended(alloc, &held, &lent);
+    frame.put(held);
+    other.put(lent);
+    answer_table(outcome, out, error)
+}
+
+// The same, of an operator.
+#[tactic(auto, using(c_tables::proofs::TableEndings::one_empty, c_tables::proofs::TableEndings::one_done, c_tables::proofs::TableEndings::one_refused))]
+fn filter_held(
+    alloc: Global,
+    frame: &mut TableHandle,
+    name: &[u8],
+    operator: CompareOperator,
+    value: &RowValue,
+    text: &[u8],
+    out: &mut TableHandle,
+    error: &mut ErrorFields,
+) -> i32
+    ensures same { frame.new.table ≡ frame.old.table }
+    ensures made { result ≡ pos 0 →
+        WhereBoth (IsFilterBy name.now operator value.now text.now) frame.old.table out.new.table }
+    ensures kept { result ≢ pos 0 → out.new.table ≡ out.old.table }
+    ensures ended { EndsOnOne (IsFilterByRefusal name.now value.now text.now) frame.old.table result error.new }
+{
+    let Some(held) = frame.take(alloc) else {
+        return NO_COLUMN;
+    };
+    let outcome = filtered_by(alloc, &held, name, operator, value, text);
+    frame.put(held);
+    answer_table(outcome, out, error)
+}
