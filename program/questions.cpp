@@ -101,7 +101,7 @@ static Column runs_where(const Column &column, const RowType &type, const Condit
         const hv::Run found = runs.item(run);
         kept.append(found.value, found.size());
     }
-    return kept.finish();
+    return kept.finish().with_logical_type(column.logical_type());
 }
 
 Column rows_where(const Column &column, const RowType &type, const std::vector<Condition> &conditions) {

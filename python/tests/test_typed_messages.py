@@ -172,6 +172,32 @@ def test_tables_keep_types_in_their_footer():
     check_same(Table.from_bytes(shorter)["at"], times)
 
 
+def number(field, value):
+    return varint(field * 8) + varint(value)
+
+
+def sized(field, data):
+    return varint(field * 8 + 2) + varint(len(data)) + data
+
+
+def table_of(message, bounds):
+    """The bytes of a table of one column of two rows of 'tdD', by docs/table.proto."""
+    column = sized(1, b"a") + sized(2, b"tdD") + number(3, len(message)) + number(4, 0) + number(5, 1) + sized(6, bounds)
+    footer = number(1, 2) + sized(2, column)
+    parts = sized(1, b"hivevigil"), number(2, 1), sized(3, message), sized(4, footer), b"\x29"
+    return b"".join(parts) + len(footer).to_bytes(8, "little")
+
+
+def test_tables_refuse_types_in_their_messages():
+    """Of a column and of its bounds, which are the same message here: the type is in the footer."""
+    stored = Column.of([7, 7], "i32").to_bytes()
+    typed = message_of("tdD", stored)
+    assert Table.from_bytes(table_of(stored, stored))["a"].to_list() == [date(1970, 1, 8)] * 2
+    for message, bounds in [(typed, stored), (stored, typed), (typed, typed)]:
+        with pytest.raises(errors.BadMetadata, match="^Table.from_bytes: the bytes are not what Table.to_bytes writes$"):
+            Table.from_bytes(table_of(message, bounds))
+
+
 def test_pickles_of_earlier_versions():
     """As 1.0 and its followers made them: the storage, and the format."""
     old = io.BytesIO()
