@@ -19,7 +19,7 @@ from pathlib import Path
 ROOT = Path(__file__).resolve().parent.parent
 LIST = ROOT / "tools" / "surface.txt"
 # of these crates each public name is listed
-LISTED = ("column_base", "runend_array", "vortex_runend")
+LISTED = ("column_base", "runend_array", "tables", "vortex_runend")
 ITEM = re.compile(r"^(pub(?:\([a-z]+\))? )?(?:const )?(?:unsafe )?(fn|struct|enum|trait|type|const) (\w+)", re.M)
 MODULE = re.compile(r"^(pub )?mod (\w+);", re.M)
 USE = re.compile(r"^pub use ([\w:]+?)(?:::\{([^}]*)\}|( as \w+)?);", re.M)

@@ -22,7 +22,7 @@ pub record AreChanges {B : Type 0} (item : ℕ → B) (count : ℕ) (ends : List
   pub change : (run : ℕ) → run < length ends → slice_index ends run < count → item (slice_index ends run - 1) ≡ item (slice_index ends run) → ⊥
   pub stay : (k : ℕ) → 0 < k → k < count → ((run : ℕ) → run < length ends → slice_index ends run ≡ k → ⊥) → item (k - 1) ≡ item k
 
-ascend : (ends : List ℕ) (i j : ℕ) → IsStrictlyIncreasing ends → i < j → j < length ends → slice_index ends i < slice_index ends j
+pub ascend : (ends : List ℕ) (i j : ℕ) → IsStrictlyIncreasing ends → i < j → j < length ends → slice_index ends i < slice_index ends j
 ascend ends i j up before within = AllPairs-from_increasing ends up i j 0 before within
 
 -- no end is past the number of items

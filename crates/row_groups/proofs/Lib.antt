@@ -4,3 +4,6 @@ pub mod PlaceOrders
 pub mod Layouts
 pub mod Cuts
 pub mod Merged
+pub mod GroupRuns
+pub mod RankLaws
+pub mod RankedOrders

@@ -1,5 +1,5 @@
 -- Groups of equal neighbouring rows of several columns.
-use Rattle.std.specs.Prelude.{◌≡◌, ◌<◌, ◌⊎◌, ℕ, ◌∷◌, All, Contains, List, None, Option, length, map, slice_index, slice_index_or}
+use Rattle.std.specs.Prelude.{◌≡◌, ◌+◌, ◌<◌, ◌⊎◌, ℕ, ◌∷◌, All, Contains, List, None, Option, length, map, slice_index, slice_index_or}
 use Rattle.std.specs.List.{range_with_len}
 use Rattle.column_core.specs.Value.{Value}
 use Rattle.runend_windows.specs.Cover.{IsTightCover}
@@ -36,3 +36,7 @@ pub record AreCommonEnds (ends others : List ℕ) (count : ℕ) (made : List ℕ
 -- the rows of a group
 abbrev pub group_stretch : List ℕ → ℕ → Stretch
 group_stretch ends group = record { start = slice_index (0 ∷ ends) group; stop = slice_index ends group }
+
+-- a stretch of one row
+abbrev pub row_alone : ℕ → Stretch
+row_alone row = record { start = row; stop = row + 1 }

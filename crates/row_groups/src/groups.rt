@@ -1,12 +1,13 @@
 //! Groups of equal neighbouring rows of several columns: where each ends, and where it begins.
-ghost use Rattle.std.specs.Prelude.{◌≡◌, List, [], ◌∷◌, ◌++◌, Option, IfOk, IsOkUnless, length};
+ghost use Rattle.std.specs.Prelude.{◌≡◌, ◌+◌, ◌^◌, ◌<◌, All, List, [], ◌∷◌, ◌++◌, Option, IfOk, IsOkUnless, length, map};
 ghost use Rattle.column_core.specs.Value.{IsLists, Value};
 ghost use Rattle.runend_array.specs.Array.{dtype_of, rows};
 ghost use Rattle.runend_windows.specs.Starts.{starts_from};
-ghost use Rattle.row_groups.specs.Groups.{AreEndsOf, AreGroupEnds};
+ghost use Rattle.row_groups.specs.Groups.{AreEndsOf, AreGroupEnds, row_alone};
 
 use crate::common_ends::common_ends;
 use column_core::{VortexError, VortexResult};
+use row_stretches::Stretch;
 use runend_array::ArrayRef;
 use runend_builder::row_runs;
 use std::alloc::Allocator;
@@ -59,4 +60,19 @@ pub fn starts_of<A: Allocator>(alloc: A, ends: &[u64]) -> VortexResult<Vec<u64, 
         start = *end;
     }
     Ok(starts)
+}
+
+/// Returns a stretch of one row for each of these rows. Refused only as `OutOfMemory`.
+pub fn rows_alone<A: Allocator>(alloc: A, rows: &[u64]) -> VortexResult<Vec<Stretch, A>>
+    requires { All (λ row. row + 1 < 2 ^ 64) rows.now }
+    ensures only { IsOkUnless result VortexError.OutOfMemory }
+    ensures stretches { IfOk result (λ order. order.items ≡ map row_alone rows.now) }
+{
+    let mut order = Vec::with_capacity(alloc, rows.len())?;
+    for row in rows {
+        let start = *row as usize;
+        let stop = start + 1;
+        order.push_reserved(Stretch { start, stop });
+    }
+    Ok(order)
 }

@@ -3,10 +3,13 @@
 #![tactic(auto)]
 
 mod common_ends;
+mod folds;
 mod groups;
 mod keys;
 mod orders;
+mod ranks;
 
-pub use groups::{cut_groups, one_group, starts_of};
+pub use folds::fold_groups;
+pub use groups::{cut_groups, one_group, rows_alone, starts_of};
 pub use keys::{RowOrder, SortKey};
 pub use orders::sorted_groups;

@@ -9,3 +9,6 @@ pub mod Appends
 pub mod Puts
 pub mod Keyed
 pub mod Ordered
+pub mod ValidMasks
+pub mod ValidTables
+pub mod MaskBits

@@ -78,7 +78,7 @@ zip_with_copies : (f : Option Value → Option Value → Option Value) (all : Li
 zip_with_copies f [] value = refl
 zip_with_copies f (row ∷ all) value = ap (λ (l : List (Option Value)). f row value ∷ l) (zip_with_copies f all value)
 
-same_counts : (n : ℕ) → length_fault n n ≡ None
+pub same_counts : (n : ℕ) → length_fault n n ≡ None
 same_counts n = ap (λ (b : Bool). if b then None else Some (ColumnLength n n)) ((Decides-eqb n n).1 refl)
 
 module _ (all : List (Option Value)) (constant : Constant) (copy value : ScalarForm) (count : ℕ) (made : constant ≡ record { dtype = copy.dtype; value = copy.value; count = count }) (same : copy ≡ value) (counted : count ≡ length all) where

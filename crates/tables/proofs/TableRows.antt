@@ -65,6 +65,10 @@ first_by_none fault own error (Ok value) none plain passed refused = absurd pass
 first_by_none fault own error (Err other) none plain passed refused =
     ap (λ (f : Option VortexError). option_or f (Some OutOfMemory)) none ∙ ap Some (sym (passed ∙ short_of own error plain refused))
 
+pub short_by : {T : Type 0} (own : Option VortexError) (error : VortexError) (result : Result T VortexError) → own ≡ None → IsErrAnd result (λ passed. passed ≡ error) → IsErrorFor own error → IsOkUnless result OutOfMemory
+short_by own error (Ok value) plain passed refused = absurd passed
+short_by own error (Err other) plain passed refused = passed ∙ short_of own error plain refused
+
 -- work that does the same to columns of one number of rows
 pub same_work : (work other : List (Option Value) → List (Option Value)) (count : ℕ) (columns : List TypedForm) → AreEven columns count → ((all : List (Option Value)) → length all ≡ count → work all ≡ other all)
     → map work (map (λ (c : TypedForm). column_rows c.column) columns) ≡ map other (map (λ (c : TypedForm). column_rows c.column) columns)

@@ -5,3 +5,5 @@ pub mod Selected
 pub mod Put
 pub mod KeyFaults
 pub mod Sorting
+pub mod WithoutNull
+pub mod MaskWords

@@ -1,34 +1,26 @@
 //! Tables as values: each call lends one and returns another.
-ghost use Rattle.std.specs.Prelude.{◌≡◌, ◌-◌, ◌^◌, ◌<◌, ◌≤◌, [], All, IfErr, IfNone, IfOk, IfSome, IsOkUnless, None, OnErr, OnOk, count_by, length, map, option_map, slice_range};
+ghost use Rattle.std.specs.Prelude.{◌≡◌, ◌-◌, ◌^◌, ◌<◌, ◌≤◌, [], All, IfErr, IfNone, IfOk, IfSome, IsOkUnless, None, OnErr, OnOk, length, map, slice_range};
 ghost use Rattle.std.specs.List.{AllZip};
-ghost use Rattle.std.specs.Option.{option_or};
 ghost use Rattle.std.specs.String.{string_bytes};
 ghost use Rattle.column_core.specs.PrimitiveForm.{optional_numbers, primitive_dtype};
 ghost use Rattle.column_core.specs.Refusal.{range_fault};
-ghost use Rattle.column_core.specs.Value.{Single};
-ghost use Rattle.column_ops.specs.Filter.{filter_fault, filter_rows};
 ghost use Rattle.column_ops.specs.Take.{take_fault};
-ghost use Rattle.runend_array.specs.Array.{dtype_of, rows};
-ghost use Rattle.row_stretches.specs.Masks.{mask_fault, truths_of};
+ghost use Rattle.runend_array.specs.Array.{rows};
 ghost use Rattle.row_stretches.specs.Stretches.{IsWithin, stretch_places, stretch_rows};
 ghost use Rattle.tables.specs.Appended.{IsAppendError, IsAppendable, IsAppended};
 ghost use Rattle.tables.specs.Put.{IsPut, IsPutError};
-ghost use Rattle.tables.specs.Selected.{IsFilterByError, IsFilteredBy, IsTaken};
+ghost use Rattle.tables.specs.Selected.{IsTaken};
 ghost use Rattle.tables.specs.TableFaults.{IsNamingError, IsRefusedFirstBy, IsRenameError, IsSelectError, IsTableError};
 ghost use Rattle.tables.specs.Tables.{IsKept, IsKnown, IsNamed, IsPlaceOf, IsRenaming, IsSelection, IsTable, IsUnknown, rows_of, table_with};
 ghost use Rattle.typed_columns.specs.Typed.{typed_of};
 
 use crate::columns::{copies_of_each, part_of_each, stretches_of_each};
-use crate::comparisons::truths_by;
 use crate::fault::TableError;
 use crate::names::{Named, copies_of, first_repeated, place_for, place_of, renamed};
-use crate::refusals::{
-    fault_of_indices, fault_of_mask, fault_of_names, fault_of_parts, fault_of_range,
-};
+use crate::refusals::{fault_of_indices, fault_of_names, fault_of_parts, fault_of_range};
 use crate::taken::taken_of_each;
-use column_core::{PrimitiveArray, Scalar, VortexError, VortexResult};
-use column_ops::{CompareOperator, kind_fault};
-use row_stretches::{Stretch, row_count, true_stretches};
+use column_core::{PrimitiveArray, VortexError, VortexResult};
+use row_stretches::{Stretch, row_count};
 use runend_array::{ArrayRef, ExecutionCtx};
 use std::alloc::Allocator;
 use std::marker::Model;
@@ -202,60 +194,6 @@ impl<A: Allocator + Copy> Table<A> {
             return Err(error);
         }
         self.part(range.start, range.end, ctx)
-    }
-
-    /// Returns the rows at which a mask of any form is true, in order, of each column, under the same names and
-    /// formats. Null selects nothing. The mask is read once, for all columns.
-    ///
-    /// Refused as `TypeMismatch` unless the mask is of booleans, then as `MaskLength`, with the mask's length and the
-    /// number of rows, where they differ, both however little memory there is; else only as `OutOfMemory`.
-    pub fn filter(&self, mask: &ArrayRef<A>, ctx: &mut ExecutionCtx<A>) -> VortexResult<Table<A>>
-        ensures refused { IsRefusedFirstBy (option_or (mask_fault (dtype_of mask.now))
-            (filter_fault (length (rows mask.now)) self.now.count)) result }
-        ensures rows { IfOk result (λ table. rows_of table ≡
-            map (filter_rows (truths_of (rows mask.now))) (rows_of self.now)) }
-        ensures count { IfOk result (λ table. table.count ≡ count_by (λ bit. bit) (truths_of (rows mask.now))) }
-        ensures kept { IfOk result (IsKept self.now) }
-        ensures session { ctx.new ≡ ctx.old }
-    {
-        if let Some(error) = fault_of_mask(mask.dtype(), mask.len(), self.rows) {
-            return Err(error);
-        }
-        let order = true_stretches(mask, ctx)?;
-        let kept = self.rows_in(&order, ctx);
-        drop(order);
-        kept
-    }
-
-    /// Returns the rows at which the operator holds of the row of the column of this name and the value, in order, of
-    /// each column, under the same names and formats. It does not hold where either is null. Takes a step for each run.
-    ///
-    /// Refused as `UnknownName` where no column has the name, then as `Refused(Unsupported)` where that column has
-    /// lists, and as `Refused(TypeMismatch)` for a value of another kind, however little memory there is; else only as
-    /// `Refused(OutOfMemory)`.
-    pub fn filter_by(
-        &self,
-        name: &str,
-        operator: CompareOperator,
-        value: &Scalar<A>,
-        ctx: &mut ExecutionCtx<A>,
-    ) -> Result<Table<A>, TableError>
-        ensures filtered { IfOk result (IsFilteredBy self.now name.now operator value.now.dtype
-            (option_map Single value.now.value)) }
-        ensures refused { IfErr result (IsFilterByError self.now name.now value.now.dtype) }
-        ensures kept { IfOk result (IsKept self.now) }
-        ensures session { ctx.new ≡ ctx.old }
-    {
-        let Some(column) = self.column(name) else {
-            return Err(TableError::UnknownName { name: 0 });
-        };
-        if let Some(error) = kind_fault(column.array.dtype(), value.dtype()) {
-            return Err(TableError::Refused(error));
-        }
-        let mask = truths_by(&column.array, operator, value, ctx)?;
-        let kept = self.filter(&mask, ctx);
-        drop(mask);
-        Ok(kept?)
     }
 
     /// Returns the row of each column at each index, null at a null index, under the same names and formats. The types

@@ -25,5 +25,3 @@ pub use runend_column::{
 pub use runend_commands::{
     Answer, Command, KERNELS, default_thresholds, execute, execute_one, initialize,
 };
-pub use tables::{KeyOrder, RowOrder, Table, TableError};
-pub use typed_columns::TypedColumn;
