@@ -27,14 +27,6 @@ mod run_tables;
 #[cfg(test)]
 mod shown;
 #[cfg(test)]
-mod table_append;
-#[cfg(test)]
-mod table_parts;
-#[cfg(test)]
-mod table_put;
-#[cfg(test)]
-mod table_rows;
-#[cfg(test)]
-mod table_sort;
+mod table_usage;
 #[cfg(test)]
 mod usage;

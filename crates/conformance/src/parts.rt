@@ -54,33 +54,10 @@ pub(crate) fn three_texts<A: Allocator + Copy>(alloc: A) -> VortexResult<VarBinV
     VarBinViewArray::try_new(views, buffers, VarBinKind::Utf8, Validity::Bits(flags))
 }
 
-/// Returns the letters of a word of ASCII, a text for each, all in one buffer.
-pub(crate) fn letters<A: Allocator + Copy>(
-    alloc: A,
-    word: &str,
-) -> VortexResult<VarBinViewArray<A>> {
-    let parts = both(letter_views(alloc, word.len()), buffer_of(alloc, word));
-    let (views, buffers) = parts?;
-    VarBinViewArray::try_new(views, buffers, VarBinKind::Utf8, Validity::NonNullable)
-}
-
 // One buffer of the bytes of a word.
 fn buffer_of<A: Allocator + Copy>(alloc: A, word: &str) -> VortexResult<Vec<Bytes<A>, A>> {
     let mut buffers = Vec::with_capacity(alloc, 1)?;
     let bytes = Bytes::copy_from_slice(alloc, word.as_bytes())?;
     buffers.push_reserved(bytes);
     Ok(buffers)
-}
-
-// A byte for each view, one after the other.
-fn letter_views<A: Allocator + Copy>(alloc: A, count: usize) -> VortexResult<Vec<View, A>> {
-    let mut views = Vec::with_capacity(alloc, count)?;
-    for start in 0..count {
-        views.push(View {
-            buffer: 0,
-            start,
-            size: 1,
-        })?;
-    }
-    Ok(views)
 }
