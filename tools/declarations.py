@@ -7,7 +7,7 @@ declarations are made from it.
 
 Made are the exports and the inline calls of C (include/), the exports as Rust declares them (rust/src/raw.rs, which the
 bench uses too) and as ctypes does (python/hivevigil/_calls.py), each between two lines that say so. The calls of
-tables are declared in include/hivevigil_tables.h, which has their exports and inline calls too. The types in the
+tables are declared in include/hivevigil_tables.h, which has their exports and inline calls in C too. The types in the
 header are held against the functions of crates/hivevigil that are exported. The sentences of refusals are those of
 include/hivevigil_errors.h: Rust's (rust/src/error.rs) and Python's (python/hivevigil/_sentences.py) are made of them.
 """
@@ -19,31 +19,32 @@ from pathlib import Path
 
 ROOT = Path(__file__).resolve().parent.parent
 HEADER, ERRORS, TABLES = "include/hivevigil.h", "include/hivevigil_errors.h", "include/hivevigil_tables.h"
+BOTH = "include/hivevigil.h and hivevigil_tables.h"
 BEGIN, END = "made by tools/declarations.py from", "end of what tools/declarations.py makes"
 WIDTH = 120
 # The inline calls that do more than pass their arguments on: they are written by hand in hivevigil_calls.h.
-BY_HAND = {"hv_session_initial", "hv_free", "hv_builder_free", "hv_frame_free"}
+BY_HAND = {"hv_session_initial", "hv_free", "hv_builder_free", "hv_table_free"}
 # The handles that the library owns: an export takes what one holds out, and puts it back before it returns.
-HANDLES = {"hv_column": "hv_lent", "hv_builder": "hv_lent_builder", "hv_frame": "hv_lent_frame"}
+HANDLES = {"hv_column": "hv_lent", "hv_builder": "hv_lent_builder", "hv_table": "hv_lent_table"}
 # The inline calls whose refusals of offsets and rows say what they are about, in the third field.
 ABOUT = {"hv_texts": "HV_ABOUT_TEXTS", "hv_large_texts": "HV_ABOUT_TEXTS", "hv_lists": "HV_ABOUT_LISTS"}
 # What stands for a type of the exports in another language. Rust's and Python's names are those of their modules.
 RUST = {
     "uint8_t": "u8", "uint16_t": "u16", "uint32_t": "u32", "uint64_t": "u64", "int8_t": "i8", "int16_t": "i16",
     "int32_t": "i32", "int64_t": "i64", "size_t": "usize", "hv_column": "Handle", "hv_builder": "BuilderHandle",
-    "hv_error": "Fields", "hv_settings": "Session", "hv_kind": "Kind", "hv_value": "RawValue", "hv_total": "RawTotal",
-    "hv_pair": "Pair",
+    "hv_table": "TableHandle", "hv_error": "Fields", "hv_settings": "Session", "hv_kind": "Kind", "hv_value": "RawValue",
+    "hv_total": "RawTotal", "hv_pair": "Pair",
 }  # fmt: skip
 PYTHON = {
     **{name: f"c_{name.removesuffix('_t')}" for name in RUST if name.endswith("_t")}, "size_t": "c_size_t",
-    "hv_column": "Handle", "hv_builder": "BuilderHandle", "hv_error": "Fields", "hv_settings": "Session",
-    "hv_kind": "Kind", "hv_value": "Value", "hv_total": "Total", "hv_pair": "Pair",
+    "hv_column": "Handle", "hv_builder": "BuilderHandle", "hv_table": "TableHandle", "hv_error": "Fields",
+    "hv_settings": "Session", "hv_kind": "Kind", "hv_value": "Value", "hv_total": "Total", "hv_pair": "Pair",
 }  # fmt: skip
 # The types of crates/hivevigil, as C has them. A slice is a pointer and a length.
 RATTLE = {
     **{rust: c for c, rust in RUST.items()},
     "Session": "hv_settings", "RowValue": "hv_value", "Total": "hv_total", "ErrorFields": "hv_error",
-    "&mut Handle": "hv_column *", "&mut BuilderHandle": "hv_builder *", "&mut TableHandle": "hv_frame *",
+    "&mut Handle": "hv_column *", "&mut BuilderHandle": "hv_builder *", "&mut TableHandle": "hv_table *",
 }  # fmt: skip
 
 
@@ -197,7 +198,7 @@ def inlines(calls: list[Call]) -> str:
 
 def tables(calls: list[Call]) -> str:
     """All of a header that has its exports and inline calls itself, over hivevigil.h."""
-    free = ["HV_CALL void hv_frame_free(hv_frame *frame) {", "    if (frame) (hv_frame_free)(frame);", "}"]
+    free = ["HV_CALL void hv_table_free(hv_table *table) {", "    if (table) (hv_table_free)(table);", "}"]
     return "\n".join([exports(calls), "#ifndef HV_EXPORTS_ALONE", *free, inlines(calls), "#endif"])
 
 
@@ -278,8 +279,8 @@ def python_sentences(refusals: list[Refusal]) -> str:
 MADE = {
     "include/hivevigil_exports.h": (exports, HEADER, "/* ", " */"),
     "include/hivevigil_calls.h": (inlines, HEADER, "/* ", " */"),
-    "rust/src/raw.rs": (rust, HEADER, "// ", ""),
-    "python/hivevigil/_calls.py": (python, HEADER, "# ", ""),
+    "rust/src/raw.rs": (rust, BOTH, "// ", ""),
+    "python/hivevigil/_calls.py": (python, BOTH, "# ", ""),
     "rust/src/error.rs": (rust_sentences, ERRORS, "// ", ""),
     "python/hivevigil/_sentences.py": (python_sentences, ERRORS, "# ", ""),
     TABLES: (tables, TABLES, "/* ", " */"),
@@ -335,7 +336,7 @@ def main() -> int:
     text_of = lambda path: (ROOT / path).read_text(encoding="utf-8")
     calls = calls_of(text_of(HEADER))
     of_tables = calls_of(text_of(TABLES))
-    read = {HEADER: calls, TABLES: of_tables, ERRORS: refusals_of(text_of(HEADER), text_of(ERRORS))}
+    read = {HEADER: calls, TABLES: of_tables, BOTH: [*calls, *of_tables], ERRORS: refusals_of(text_of(HEADER), text_of(ERRORS))}
     exported: dict[str, tuple[list[str], str]] = {}
     for path in sorted((ROOT / "crates/hivevigil/src").glob("*.rt")):
         exported |= rattle_calls(path.read_text(encoding="utf-8"))

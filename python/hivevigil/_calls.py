@@ -6,9 +6,9 @@ from ctypes import (
 )
 from typing import Any
 
-from ._structs import BuilderHandle, Fields, Handle, Kind, Pair, Session, Total, Value
+from ._structs import BuilderHandle, Fields, Handle, Kind, Pair, Session, TableHandle, Total, Value
 
-# made by tools/declarations.py from hivevigil.h
+# made by tools/declarations.py from hivevigil.h and hivevigil_tables.h
 CALLS: dict[str, tuple[list[Any], Any]] = {
     "hv_session_initial": ([POINTER(Session)], None),
     "hv_u8": ([
@@ -179,5 +179,32 @@ CALLS: dict[str, tuple[list[Any], Any]] = {
     "hv_with_type": ([POINTER(Handle), c_char_p, c_size_t, POINTER(Handle), POINTER(Fields)], c_int32),
     "hv_type": ([POINTER(Handle), POINTER(c_uint8), c_size_t, POINTER(c_size_t), POINTER(Fields)], c_int32),
     "hv_free": ([POINTER(Handle)], None),
+    "hv_table_new": ([c_size_t, POINTER(TableHandle), POINTER(Fields)], c_int32),
+    "hv_table_put": ([POINTER(TableHandle), c_char_p, c_size_t, POINTER(Handle), POINTER(Fields)], c_int32),
+    "hv_table_len": ([POINTER(TableHandle)], c_size_t),
+    "hv_table_width": ([POINTER(TableHandle)], c_size_t),
+    "hv_table_name": ([
+        POINTER(TableHandle), c_size_t, POINTER(c_uint8), c_size_t, POINTER(c_size_t), POINTER(Fields),
+    ], c_int32),
+    "hv_table_place": ([POINTER(TableHandle), c_char_p, c_size_t, POINTER(c_size_t), POINTER(Fields)], c_int32),
+    "hv_table_column": ([POINTER(TableHandle), c_size_t, POINTER(Handle), POINTER(Fields)], c_int32),
+    "hv_table_clone": ([POINTER(TableHandle), POINTER(TableHandle), POINTER(Fields)], c_int32),
+    "hv_table_select": ([POINTER(TableHandle), POINTER(Handle), POINTER(TableHandle), POINTER(Fields)], c_int32),
+    "hv_table_rename": ([
+        POINTER(TableHandle), POINTER(Handle), POINTER(Handle), POINTER(TableHandle), POINTER(Fields),
+    ], c_int32),
+    "hv_table_slice": ([POINTER(TableHandle), c_size_t, c_size_t, POINTER(TableHandle), POINTER(Fields)], c_int32),
+    "hv_table_filter": ([POINTER(TableHandle), POINTER(Handle), POINTER(TableHandle), POINTER(Fields)], c_int32),
+    "hv_table_filter_by": ([
+        POINTER(TableHandle), c_char_p, c_size_t, c_uint8, POINTER(Value), c_char_p, c_size_t, POINTER(TableHandle),
+        POINTER(Fields),
+    ], c_int32),
+    "hv_table_take": ([POINTER(TableHandle), POINTER(Handle), POINTER(TableHandle), POINTER(Fields)], c_int32),
+    "hv_table_append": ([POINTER(TableHandle), POINTER(TableHandle), POINTER(TableHandle), POINTER(Fields)], c_int32),
+    "hv_table_drop_null": ([POINTER(TableHandle), POINTER(Handle), POINTER(TableHandle), POINTER(Fields)], c_int32),
+    "hv_table_sort": ([
+        POINTER(TableHandle), POINTER(Handle), c_char_p, c_size_t, POINTER(TableHandle), POINTER(Fields),
+    ], c_int32),
+    "hv_table_free": ([POINTER(TableHandle)], None),
 }
 # end of what tools/declarations.py makes

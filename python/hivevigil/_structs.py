@@ -13,6 +13,10 @@ class BuilderHandle(ctypes.Structure):
     _fields_ = [("at", c_void_p)]
 
 
+class TableHandle(ctypes.Structure):
+    _fields_ = [("at", c_void_p)]
+
+
 class Fields(ctypes.Structure):
     _fields_ = [("first", c_uint64), ("second", c_uint64), ("third", c_uint64)]
 

@@ -13,6 +13,12 @@ pub struct BuilderHandle {
     pub at: *mut u8,
 }
 
+/// Holds a table that the library owns, or none.
+#[repr(C)]
+pub struct TableHandle {
+    pub at: *mut u8,
+}
+
 #[repr(C)]
 #[derive(Clone, Copy, Debug, Default)]
 pub struct RawValue {
@@ -40,7 +46,7 @@ pub struct Pair {
 
 use crate::{Fields, Kind, Session};
 
-// made by tools/declarations.py from hivevigil.h
+// made by tools/declarations.py from hivevigil.h and hivevigil_tables.h
 extern "C" {
     pub fn hv_session_initial(settings: *mut Session);
     pub fn hv_u8(
@@ -678,5 +684,105 @@ extern "C" {
         error: *mut Fields,
     ) -> i32;
     pub fn hv_free(column: *mut Handle);
+    pub fn hv_table_new(count: usize, out: *mut TableHandle, error: *mut Fields) -> i32;
+    pub fn hv_table_put(
+        table: *mut TableHandle,
+        name: *const u8,
+        name_len: usize,
+        column: *mut Handle,
+        error: *mut Fields,
+    ) -> i32;
+    pub fn hv_table_len(table: *mut TableHandle) -> usize;
+    pub fn hv_table_width(table: *mut TableHandle) -> usize;
+    pub fn hv_table_name(
+        table: *mut TableHandle,
+        place: usize,
+        name: *mut u8,
+        name_len: usize,
+        size: *mut usize,
+        error: *mut Fields,
+    ) -> i32;
+    pub fn hv_table_place(
+        table: *mut TableHandle,
+        name: *const u8,
+        name_len: usize,
+        place: *mut usize,
+        error: *mut Fields,
+    ) -> i32;
+    pub fn hv_table_column(
+        table: *mut TableHandle,
+        place: usize,
+        out: *mut Handle,
+        error: *mut Fields,
+    ) -> i32;
+    pub fn hv_table_clone(
+        table: *mut TableHandle,
+        out: *mut TableHandle,
+        error: *mut Fields,
+    ) -> i32;
+    pub fn hv_table_select(
+        table: *mut TableHandle,
+        names: *mut Handle,
+        out: *mut TableHandle,
+        error: *mut Fields,
+    ) -> i32;
+    pub fn hv_table_rename(
+        table: *mut TableHandle,
+        names: *mut Handle,
+        new_names: *mut Handle,
+        out: *mut TableHandle,
+        error: *mut Fields,
+    ) -> i32;
+    pub fn hv_table_slice(
+        table: *mut TableHandle,
+        start: usize,
+        stop: usize,
+        out: *mut TableHandle,
+        error: *mut Fields,
+    ) -> i32;
+    pub fn hv_table_filter(
+        table: *mut TableHandle,
+        mask: *mut Handle,
+        out: *mut TableHandle,
+        error: *mut Fields,
+    ) -> i32;
+    pub fn hv_table_filter_by(
+        table: *mut TableHandle,
+        name: *const u8,
+        name_len: usize,
+        operator: u8,
+        value: *const RawValue,
+        text: *const u8,
+        text_len: usize,
+        out: *mut TableHandle,
+        error: *mut Fields,
+    ) -> i32;
+    pub fn hv_table_take(
+        table: *mut TableHandle,
+        indices: *mut Handle,
+        out: *mut TableHandle,
+        error: *mut Fields,
+    ) -> i32;
+    pub fn hv_table_append(
+        table: *mut TableHandle,
+        other: *mut TableHandle,
+        out: *mut TableHandle,
+        error: *mut Fields,
+    ) -> i32;
+    pub fn hv_table_drop_null(
+        table: *mut TableHandle,
+        names: *mut Handle,
+        out: *mut TableHandle,
+        error: *mut Fields,
+    ) -> i32;
+    pub fn hv_table_sort(
+        table: *mut TableHandle,
+        names: *mut Handle,
+        flags: *const u8,
+        flags_len: usize,
+        out: *mut TableHandle,
+        error: *mut Fields,
+    ) -> i32;
+    pub fn hv_table_free(table: *mut TableHandle);
 }
 // end of what tools/declarations.py makes

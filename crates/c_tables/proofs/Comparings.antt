@@ -1,5 +1,5 @@
 -- A value of the type of a column is compared with its rows, but for lists.
-use Rattle.std.proofs.Common.{◌≡◌, ◌∙◌, ◌<◌, ℕ, zero, suc, Bool, true, false, List, Option, None, Some, ap, inl, inr, refl, subst, sym}
+use Rattle.std.proofs.Common.{◌≡◌, ◌∙◌, ℕ, zero, suc, Bool, true, false, List, Option, None, Some, ap, inl, inr, refl, subst, sym}
 use Rattle.std.specs.Prelude.{◌⊎◌, if◌then◌else◌, option_map, slice_get}
 use Rattle.std.specs.Option.{option_or}
 use Rattle.column_base.specs.Types.{with_nullability}
@@ -18,10 +18,10 @@ use Rattle.column_ops.specs.declared.operator.CompareOperator.{CompareOperator}
 use Rattle.runend_array.specs.Column.{column_dtype}
 use Rattle.c_columns.specs.Values.{IsPassed, scalar_in}
 use Rattle.c_columns.specs.declared.row_value.RowValue.{RowValue}
-use Rattle.c_tables.specs.TableCalls.{IsComparingError, IsFilterBy, IsFilterByRefusal}
+use Rattle.c_tables.specs.TableCalls.{IsFilterBy, IsFilterByRefusal}
 use Rattle.c_tables.proofs.TableCopies.{one_place, some_same}
 use Rattle.tables.specs.Selected.{IsFilterByError, IsFilteredBy}
-use Rattle.tables.specs.Tables.{IsKept, IsNamed, IsPlaceOf, IsTable, IsUnknown, TableForm}
+use Rattle.tables.specs.Tables.{IsKept, IsNamed, IsTable, TableForm}
 use Rattle.tables.specs.declared.fault.TableError.{TableError}
 use Rattle.tables.specs.declared.fault.TableError.TheVariants.{Refused, NameCount, RowCount, RepeatedName, UnknownName, NewNameCount, RepeatedNewName, OtherNames, OtherType, NoKeys, UnsupportedKey}
 use Rattle.typed_columns.specs.Typed.{TypedForm}

@@ -6,3 +6,4 @@ mod NameRows
 mod IndexRows
 mod Comparings
 mod Refusals
+mod SortKeys

@@ -35,7 +35,7 @@ pub faults_more : (all : List (Option Value)) (row : ℕ) (item : Option Value) 
 faults_more all row item within there none fine =
     ap (first_fault row_name_fault) (rows_more all row item within there) ∙ faults_append row_name_fault (take row all) item ∙ ap (λ (f : Option VortexError). option_or f (row_name_fault item)) none ∙ fine
 
-after_none : (first second : Option VortexError) → option_or first second ≡ None → (first ≡ None) × (second ≡ None)
+pub after_none : (first second : Option VortexError) → option_or first second ≡ None → (first ≡ None) × (second ≡ None)
 after_none None second none = (refl, none)
 after_none (Some why) second none = cc
 

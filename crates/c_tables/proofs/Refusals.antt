@@ -8,11 +8,12 @@ use Rattle.column_base.specs.declared.error.VortexError.{VortexError}
 use Rattle.column_base.specs.declared.error.VortexError.TheVariants.{OutOfMemory, TypeMismatch}
 use Rattle.column_core.specs.Refusal.{IsErrorFor}
 use Rattle.runend_array.specs.declared.array_ref.ArrayRef.{ArrayRef}
-use Rattle.c_tables.specs.TableCalls.{IsNamesRefusal, IsPutRefusal, IsRenameRefusal, IsRenamedBy, IsSelectRefusal, IsSelectedBy, names_fault, names_in}
+use Rattle.c_tables.specs.TableCalls.{IsNamesRefusal, IsNullDropped, IsPutRefusal, IsRenameRefusal, IsRenamedBy, IsSelectRefusal, IsSelectedBy, names_fault, names_in}
 use Rattle.c_tables.specs.TableEnding.{IsFault, IsFaultFirst, IsMemory}
 use Rattle.tables.specs.Put.{IsPutError}
-use Rattle.tables.specs.TableFaults.{IsRenameError, IsSelectError}
-use Rattle.tables.specs.Tables.{IsRenaming, IsSelection, TableForm}
+use Rattle.tables.specs.TableFaults.{AreAsked, IsRenameError, IsSelectError}
+use Rattle.tables.specs.Tables.{IsKept, IsRenaming, IsSelection, TableForm}
+use Rattle.tables.specs.WithoutNull.{IsWithoutNull, chosen_names}
 use Rattle.tables.specs.declared.fault.TableError.{TableError}
 use Rattle.tables.specs.declared.fault.TableError.TheVariants.{Refused}
 use Rattle.typed_columns.specs.Typed.{TypedForm}
@@ -32,17 +33,17 @@ second_of_two first second error none refused = subst (λ (f : Option VortexErro
 no_two : (first second : Option VortexError) → first ≡ None → second ≡ None → option_or first second ≡ None
 no_two first second none other = ap (λ (f : Option VortexError). option_or f second) none ∙ other
 
-by_fault : (fault : Option VortexError) (Why : Kind) (error : VortexError) → IsErrorFor fault error → IsNamesRefusal fault Why (Refused error)
+pub by_fault : (fault : Option VortexError) (Why : Kind) (error : VortexError) → IsErrorFor fault error → IsNamesRefusal fault Why (Refused error)
 by_fault None Why error (inl short) = inl (ap Refused short)
 by_fault None Why error (inr has) = cc
 by_fault (Some why) Why error (inl short) = inl (ap Refused short)
 by_fault (Some why) Why error (inr has) = let same : error ≡ why = cc in inr (ap Refused same)
 
-by_memory : (fault : Option VortexError) (Why : Kind) (error : TableError) → IsMemory error → IsNamesRefusal fault Why error
+pub by_memory : (fault : Option VortexError) (Why : Kind) (error : TableError) → IsMemory error → IsNamesRefusal fault Why error
 by_memory None Why error short = inl short
 by_memory (Some why) Why error short = inl short
 
-by_table : (fault : Option VortexError) (Why : Kind) (error : TableError) → fault ≡ None → Why error → IsNamesRefusal fault Why error
+pub by_table : (fault : Option VortexError) (Why : Kind) (error : TableError) → fault ≡ None → Why error → IsNamesRefusal fault Why error
 by_table fault Why error none refused = subst (λ (f : Option VortexError). IsNamesRefusal f Why error) (sym none) (inr refused)
 
 -- columns that are chosen
@@ -59,6 +60,10 @@ module _ (t : TableForm) (names : ArrayRef Global) where
 
   pub select_made : (asked : List (List ℕ)) (after : TableForm) → names_fault names ≡ None → asked ≡ names_in names → IsSelection t asked after → IsSelectedBy t names after
   select_made asked after none same chosen = record { accepted = none; selected = subst (λ (l : List (List ℕ)). IsSelection t l after) same chosen }
+
+  pub null_dropped : (asked : List (List ℕ)) (after : TableForm) → names_fault names ≡ None → asked ≡ names_in names → AreAsked t.names asked → IsWithoutNull t (chosen_names t.names asked) after → IsKept t after → IsNullDropped t names after
+  null_dropped asked after none same allowed valid kept =
+      record { accepted = none; allowed = subst (AreAsked t.names) same allowed; valid = subst (λ (l : List (List ℕ)). IsWithoutNull t (chosen_names t.names l) after) same valid; kept = kept }
 
 -- columns that are renamed
 module _ (t : TableForm) (names new_names : ArrayRef Global) where

@@ -3,7 +3,6 @@ use Rattle.std.proofs.Common.{◌≡◌, ◌∙◌, ◌+◌, ◌<◌, ℕ, zero,
 use Rattle.std.specs.Prelude.{slice_get, unwrap_or}
 use Rattle.std.specs.List.{AllZip}
 use Rattle.std.proofs.lemmas.Bool.{cases_lt}
-use Rattle.column_base.specs.declared.error.VortexError.TheVariants.{OutOfMemory}
 use Rattle.tables.specs.TableFaults.{IsFirstRepeated, IsFirstUnknown, IsSelectError}
 use Rattle.tables.specs.Tables.{AreDistinct, IsNamed, IsSelection, IsTable, TableForm, table_with}
 use Rattle.tables.specs.declared.fault.TableError.{TableError}

@@ -6,7 +6,7 @@ use Rattle.c_columns.specs.declared.error_fields.ErrorFields.{ErrorFields}
 use Rattle.c_tables.specs.TableEnding.{EndsFor, EndsOnBoth, EndsOnOne, EndsOnThree, HasTableFields, table_number}
 use Rattle.c_tables.specs.TableHandle.{typed_in}
 use Rattle.tables.specs.declared.fault.TableError.{TableError}
-use Rattle.typed_columns.specs.Typed.{TypedForm, typed_of}
+use Rattle.typed_columns.specs.Typed.{typed_of}
 use Rattle.typed_columns.specs.declared.typed_column.TypedColumn.{TypedColumn}
 
 abbrev Kind : Type 1

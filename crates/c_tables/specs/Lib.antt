@@ -1,3 +1,4 @@
 pub mod TableHandle
 pub mod TableEnding
 pub mod TableCalls
+pub mod Sorts

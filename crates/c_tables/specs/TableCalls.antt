@@ -24,8 +24,9 @@ use Rattle.c_columns.specs.declared.row_value.RowValue.{RowValue}
 use Rattle.c_tables.specs.TableEnding.{IsFault, IsMemoryOr}
 use Rattle.tables.specs.Put.{IsPut, IsPutError}
 use Rattle.tables.specs.Selected.{IsFilteredBy, IsTaken}
-use Rattle.tables.specs.TableFaults.{IsRenameError, IsSelectError}
+use Rattle.tables.specs.TableFaults.{AreAsked, IsRenameError, IsSelectError}
 use Rattle.tables.specs.Tables.{IsKept, IsNamed, IsRenaming, IsSelection, IsUnknown, TableForm, rows_of}
+use Rattle.tables.specs.WithoutNull.{IsWithoutNull, chosen_names}
 use Rattle.tables.specs.declared.fault.TableError.{TableError}
 use Rattle.tables.specs.declared.fault.TableError.TheVariants.{Refused, UnknownName}
 use Rattle.typed_columns.specs.Typed.{TypedForm}
@@ -119,6 +120,13 @@ pub record IsSelectedBy (before : TableForm) (names : ArrayRef Global) (after : 
 -- why columns of the names in a column are not chosen
 abbrev pub IsSelectRefusal : TableForm → ArrayRef Global → TableError → Type 0
 IsSelectRefusal t names error = IsNamesRefusal (names_fault names) (IsSelectError t.names (names_in names)) error
+
+-- the rows at which none of the columns of the names in a column is null, or no column at all where none is named
+pub record IsNullDropped (before : TableForm) (names : ArrayRef Global) (after : TableForm) : Type 0 where
+  pub accepted : names_fault names ≡ None
+  pub allowed : AreAsked before.names (names_in names)
+  pub valid : IsWithoutNull before (chosen_names before.names (names_in names)) after
+  pub kept : IsKept before after
 
 -- the columns of the names in a column each under the name at its place in another one
 pub record IsRenamedBy (before : TableForm) (names new_names : ArrayRef Global) (after : TableForm) : Type 0 where

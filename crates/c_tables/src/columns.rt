@@ -1,6 +1,6 @@
 //! Tables without columns, columns put into a table and read out of it, and tables of some of the columns of another.
 ghost use Rattle.std.specs.Prelude.{◌≡◌, [], IfErr, IfOk, OnErr, OnOk};
-ghost use Rattle.c_tables.specs.TableCalls.{IsColumnAt, IsPutRefusal, IsPutUnder, IsRenameRefusal, IsRenamedBy, IsSelectRefusal, IsSelectedBy, place_fault};
+ghost use Rattle.c_tables.specs.TableCalls.{IsColumnAt, IsNullDropped, IsPutRefusal, IsPutUnder, IsRenameRefusal, IsRenamedBy, IsSelectRefusal, IsSelectedBy, place_fault};
 ghost use Rattle.c_tables.specs.TableEnding.{IsFaultFirst, IsMemory};
 ghost use Rattle.tables.specs.Tables.{table_with};
 ghost use Rattle.typed_columns.specs.Typed.{typed_of};
@@ -91,6 +91,23 @@ pub fn selected(
     let chosen = table.select(&names, &mut usual_context(alloc));
     drop(names);
     Ok(boxed(alloc, chosen?)?)
+}
+
+/// Returns the rows at which none of the columns of the names in a column of texts is null, or no column at all where
+/// none is named, of each column. Refused as `selected` is.
+#[tactic(auto, using(crate::proofs::Refusals::select_refused, crate::proofs::Refusals::select_short, crate::proofs::Refusals::select_by_table, crate::proofs::Refusals::null_dropped))]
+pub fn without_null(
+    alloc: Global,
+    table: &Table<Global>,
+    names: &ArrayRef<Global>,
+) -> Result<BoxedTable, TableError>
+    ensures dropped { IfOk result (λ made. IsNullDropped table.now names.now made.value) }
+    ensures refused { IfErr result (IsSelectRefusal table.now names.now) }
+{
+    let names = names_of(alloc, names)?;
+    let kept = table.drop_null(&names, &mut usual_context(alloc));
+    drop(names);
+    Ok(boxed(alloc, kept?)?)
 }
 
 /// Returns the same columns, those of `names`, a column of texts, each under the text at its place in `new_names`.

@@ -9,4 +9,5 @@ mod indices;
 pub mod names;
 mod raw_box;
 pub mod rows;
+pub mod sorts;
 pub mod table_handle;

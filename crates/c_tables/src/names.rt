@@ -92,8 +92,8 @@ pub(crate) fn names_of(alloc: Global, array: &ArrayRef<Global>) -> VortexResult<
     Ok(names)
 }
 
-// `TypeMismatch` unless it is the type of texts.
-fn fault_of_texts(dtype: DType) -> Option<VortexError>
+/// Returns `TypeMismatch` unless it is the type of texts.
+pub(crate) fn fault_of_texts(dtype: DType) -> Option<VortexError>
     ensures { result ≡ text_fault dtype }
 {
     match dtype {
@@ -102,9 +102,13 @@ fn fault_of_texts(dtype: DType) -> Option<VortexError>
     }
 }
 
-// A copy of the text of a row. Refused as `NullNotAllowed` where it is null, and as `TypeMismatch` where it is another
-// value than a text, or for memory.
-fn name_at(alloc: Global, array: &ArrayRef<Global>, row: usize) -> VortexResult<String<Global>>
+/// Returns a copy of the text of a row. Refused as `NullNotAllowed` where it is null, and as `TypeMismatch` where it is
+/// another value than a text, or for memory.
+pub(crate) fn name_at(
+    alloc: Global,
+    array: &ArrayRef<Global>,
+    row: usize,
+) -> VortexResult<String<Global>>
     requires { row < length (rows array.now) }
     ensures { (item : Option Value) × (slice_get (rows array.now) row ≡ Some item)
         × IsRefusedBy (row_name_fault item) result × IfOk result (λ made. string_bytes made ≡ bytes_of item) }

@@ -1,6 +1,6 @@
 pub mod BuilderEndings
 pub mod EndsEndings
-pub mod FrameEndings
+pub mod TableAnswers
 pub mod FormatEndings
 pub mod PartEndings
 pub mod ReadEndings

@@ -17,7 +17,7 @@ use std::alloc::Global;
 /// Makes the table without columns that has `count` rows. Refused only for memory.
 #[tactic(auto, using(c_tables::proofs::TableEndings::for_done, c_tables::proofs::TableEndings::for_refused))]
 #[unsafe(no_mangle)]
-pub extern "C" fn hv_frame_new(
+pub extern "C" fn hv_table_new(
     alloc: Global,
     count: usize,
     out: &mut TableHandle,
@@ -34,57 +34,57 @@ pub extern "C" fn hv_frame_new(
 /// where none has it. Refused as `put_column` is.
 #[tactic(auto, using(c_tables::proofs::TableEndings::no_first, c_tables::proofs::TableEndings::no_second, c_tables::proofs::TableEndings::both_done, c_tables::proofs::TableEndings::both_refused, c_tables::proofs::TableEndings::typed_none, c_tables::proofs::TableEndings::typed_some))]
 #[unsafe(no_mangle)]
-pub extern "C" fn hv_frame_put(
+pub extern "C" fn hv_table_put(
     alloc: Global,
-    frame: &mut TableHandle,
+    table: &mut TableHandle,
     name: &[u8],
     column: &mut Handle,
     error: &mut ErrorFields,
 ) -> i32
     ensures same { column.new.column ≡ column.old.column }
-    ensures put { result ≡ pos 0 → WhereAll (IsPutUnder name.now) frame.old.table (typed_in column.old.column)
-        frame.new.table }
-    ensures kept { result ≢ pos 0 → frame.new.table ≡ frame.old.table }
-    ensures ended { EndsOnBoth (IsPutRefusal name.now) frame.old.table (typed_in column.old.column) result error.new }
+    ensures put { result ≡ pos 0 → WhereAll (IsPutUnder name.now) table.old.table (typed_in column.old.column)
+        table.new.table }
+    ensures kept { result ≢ pos 0 → table.new.table ≡ table.old.table }
+    ensures ended { EndsOnBoth (IsPutRefusal name.now) table.old.table (typed_in column.old.column) result error.new }
 {
-    let Some(mut held) = frame.take(alloc) else {
+    let Some(mut held) = table.take(alloc) else {
         return NO_COLUMN;
     };
     let Some(lent) = column.take(alloc) else {
-        frame.put(held);
+        table.put(held);
         return NO_COLUMN;
     };
     let outcome = put_column(alloc, &mut held, name, &lent);
-    frame.put(held);
+    table.put(held);
     column.put(lent);
     write_table_status(outcome, error)
 }
 
 /// Returns how many rows each column has; 0 of no table.
 #[unsafe(no_mangle)]
-pub extern "C" fn hv_frame_len(alloc: Global, frame: &mut TableHandle) -> usize
-    ensures same { frame.new.table ≡ frame.old.table }
-    ensures shown { MatchOption frame.old.table (result ≡ 0) (λ t. result ≡ t.count) }
+pub extern "C" fn hv_table_len(alloc: Global, table: &mut TableHandle) -> usize
+    ensures same { table.new.table ≡ table.old.table }
+    ensures shown { MatchOption table.old.table (result ≡ 0) (λ t. result ≡ t.count) }
 {
-    let Some(held) = frame.take(alloc) else {
+    let Some(held) = table.take(alloc) else {
         return 0;
     };
     let found = held.len();
-    frame.put(held);
+    table.put(held);
     found
 }
 
 /// Returns how many columns there are; 0 of no table.
 #[unsafe(no_mangle)]
-pub extern "C" fn hv_frame_width(alloc: Global, frame: &mut TableHandle) -> usize
-    ensures same { frame.new.table ≡ frame.old.table }
-    ensures shown { MatchOption frame.old.table (result ≡ 0) (λ t. result ≡ length t.columns) }
+pub extern "C" fn hv_table_width(alloc: Global, table: &mut TableHandle) -> usize
+    ensures same { table.new.table ≡ table.old.table }
+    ensures shown { MatchOption table.old.table (result ≡ 0) (λ t. result ≡ length t.columns) }
 {
-    let Some(held) = frame.take(alloc) else {
+    let Some(held) = table.take(alloc) else {
         return 0;
     };
     let found = held.columns().len();
-    frame.put(held);
+    table.put(held);
     found
 }
 
@@ -93,50 +93,50 @@ pub extern "C" fn hv_frame_width(alloc: Global, frame: &mut TableHandle) -> usiz
 /// has this place, and then 11, with the number of bytes and the room, where they have no room there.
 #[tactic(auto, using(c_tables::proofs::TableEndings::one_empty, c_tables::proofs::TableEndings::one_done, c_tables::proofs::TableEndings::one_refused))]
 #[unsafe(no_mangle)]
-pub extern "C" fn hv_frame_name(
+pub extern "C" fn hv_table_name(
     alloc: Global,
-    frame: &mut TableHandle,
+    table: &mut TableHandle,
     place: usize,
     name: &mut [u8],
     size: &mut usize,
     error: &mut ErrorFields,
 ) -> i32
-    ensures same { frame.new.table ≡ frame.old.table }
+    ensures same { table.new.table ≡ table.old.table }
     ensures shown { result ≡ pos 0 →
-        IsSomeAnd frame.old.table (λ t. IsNameAtFront place t size.new name.new) }
+        IsSomeAnd table.old.table (λ t. IsNameAtFront place t size.new name.new) }
     ensures after { result ≡ pos 0 → drop size.new name.new ≡ drop size.new name.old }
     ensures kept { result ≢ pos 0 → name.new ≡ name.old }
     ensures kept_size { result ≢ pos 0 → size.new ≡ size.old }
-    ensures ended { EndsOnOne (λ t. IsFault (name_fault place (length name.old) t)) frame.old.table result error.new }
+    ensures ended { EndsOnOne (λ t. IsFault (name_fault place (length name.old) t)) table.old.table result error.new }
 {
-    let Some(held) = frame.take(alloc) else {
+    let Some(held) = table.take(alloc) else {
         return NO_COLUMN;
     };
     let outcome = put_name(&held, place, name);
-    frame.put(held);
+    table.put(held);
     write_table_answer(outcome, size, error)
 }
 
 /// Writes the place of the column of a name. Takes no memory. Answers 201 exactly where no column has it.
 #[tactic(auto, using(c_tables::proofs::TableEndings::one_empty, c_tables::proofs::TableEndings::one_done, c_tables::proofs::TableEndings::one_refused))]
 #[unsafe(no_mangle)]
-pub extern "C" fn hv_frame_place(
+pub extern "C" fn hv_table_place(
     alloc: Global,
-    frame: &mut TableHandle,
+    table: &mut TableHandle,
     name: &[u8],
     place: &mut usize,
     error: &mut ErrorFields,
 ) -> i32
-    ensures same { frame.new.table ≡ frame.old.table }
-    ensures shown { result ≡ pos 0 → IsSomeAnd frame.old.table (λ t. IsPlaceOf t.names name.now place.new) }
+    ensures same { table.new.table ≡ table.old.table }
+    ensures shown { result ≡ pos 0 → IsSomeAnd table.old.table (λ t. IsPlaceOf t.names name.now place.new) }
     ensures kept { result ≢ pos 0 → place.new ≡ place.old }
-    ensures ended { EndsOnOne (IsNoName name.now) frame.old.table result error.new }
+    ensures ended { EndsOnOne (IsNoName name.now) table.old.table result error.new }
 {
-    let Some(held) = frame.take(alloc) else {
+    let Some(held) = table.take(alloc) else {
         return NO_COLUMN;
     };
     let outcome = place_of(&held, name);
-    frame.put(held);
+    table.put(held);
     write_table_answer(outcome, place, error)
 }
 
@@ -144,52 +144,52 @@ pub extern "C" fn hv_frame_place(
 /// number of columns, exactly where there is none, else refused only for memory.
 #[tactic(auto, using(c_tables::proofs::TableEndings::one_empty, c_tables::proofs::TableEndings::one_done, c_tables::proofs::TableEndings::one_refused, c_tables::proofs::TableEndings::typed_some))]
 #[unsafe(no_mangle)]
-pub extern "C" fn hv_frame_column(
+pub extern "C" fn hv_table_column(
     alloc: Global,
-    frame: &mut TableHandle,
+    table: &mut TableHandle,
     place: usize,
     out: &mut Handle,
     error: &mut ErrorFields,
 ) -> i32
-    ensures same { frame.new.table ≡ frame.old.table }
-    ensures made { result ≡ pos 0 → WhereBoth (IsColumnAt place) frame.old.table (typed_in out.new.column) }
+    ensures same { table.new.table ≡ table.old.table }
+    ensures made { result ≡ pos 0 → WhereBoth (IsColumnAt place) table.old.table (typed_in out.new.column) }
     ensures kept { result ≢ pos 0 → out.new.column ≡ out.old.column }
-    ensures ended { EndsOnOne (λ t. IsFaultFirst (place_fault place t)) frame.old.table result error.new }
+    ensures ended { EndsOnOne (λ t. IsFaultFirst (place_fault place t)) table.old.table result error.new }
 {
-    let Some(held) = frame.take(alloc) else {
+    let Some(held) = table.take(alloc) else {
         return NO_COLUMN;
     };
     let outcome = column_at(alloc, &held, place);
-    frame.put(held);
+    table.put(held);
     answer_column(outcome, out, error)
 }
 
 /// Makes a table that is equal in form. Refused only for memory.
 #[tactic(auto, using(c_tables::proofs::TableEndings::one_empty, c_tables::proofs::TableEndings::one_done, c_tables::proofs::TableEndings::one_refused))]
 #[unsafe(no_mangle)]
-pub extern "C" fn hv_frame_clone(
+pub extern "C" fn hv_table_clone(
     alloc: Global,
-    frame: &mut TableHandle,
+    table: &mut TableHandle,
     out: &mut TableHandle,
     error: &mut ErrorFields,
 ) -> i32
-    ensures same { frame.new.table ≡ frame.old.table }
-    ensures made { result ≡ pos 0 → out.new.table ≡ frame.old.table }
+    ensures same { table.new.table ≡ table.old.table }
+    ensures made { result ≡ pos 0 → out.new.table ≡ table.old.table }
     ensures kept { result ≢ pos 0 → out.new.table ≡ out.old.table }
-    ensures ended { EndsOnOne (λ t. IsMemory) frame.old.table result error.new }
+    ensures ended { EndsOnOne (λ t. IsMemory) table.old.table result error.new }
 {
-    let Some(held) = frame.take(alloc) else {
+    let Some(held) = table.take(alloc) else {
         return NO_COLUMN;
     };
     let outcome = copied(alloc, &held);
-    frame.put(held);
+    table.put(held);
     answer_table(outcome, out, error)
 }
 
 /// Frees the table, if there is one. The handle is empty after.
 #[unsafe(no_mangle)]
-pub extern "C" fn hv_frame_free(alloc: Global, frame: &mut TableHandle)
-    ensures { frame.new.table ≡ None }
+pub extern "C" fn hv_table_free(alloc: Global, table: &mut TableHandle)
+    ensures { table.new.table ≡ None }
 {
-    drop(frame.take(alloc));
+    drop(table.take(alloc));
 }

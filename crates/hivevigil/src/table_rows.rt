@@ -4,7 +4,8 @@ ghost use Rattle.column_core.specs.Refusal.{range_fault};
 ghost use Rattle.c_columns.specs.Ending.{WhereAll, WhereBoth};
 ghost use Rattle.c_columns.specs.Handle.{array_in};
 ghost use Rattle.c_columns.specs.Kinds.{operator_by};
-ghost use Rattle.c_tables.specs.TableCalls.{IsFilterBy, IsFilterByRefusal, IsFilterOf, IsRenameRefusal, IsRenamedBy, IsSelectRefusal, IsSelectedBy, IsSliceOf, IsTakeRefusal, IsTakenAt, masking_fault};
+ghost use Rattle.c_tables.specs.Sorts.{IsSortRefusal, IsSortedBy};
+ghost use Rattle.c_tables.specs.TableCalls.{IsFilterBy, IsFilterByRefusal, IsFilterOf, IsNullDropped, IsRenameRefusal, IsRenamedBy, IsSelectRefusal, IsSelectedBy, IsSliceOf, IsTakeRefusal, IsTakenAt, masking_fault};
 ghost use Rattle.c_tables.specs.TableEnding.{EndsOnBoth, EndsOnOne, EndsOnThree, IsFaultFirst};
 ghost use Rattle.c_tables.specs.TableHandle.{WhereFour};
 ghost use Rattle.tables.specs.Appended.{IsAppendError, IsAppended};
@@ -14,8 +15,9 @@ use c_columns::handle::Handle;
 use c_columns::kinds;
 use c_columns::row_value::RowValue;
 use c_tables::answers::answer_table;
-use c_tables::columns::{renamed, selected};
+use c_tables::columns::{renamed, selected, without_null};
 use c_tables::rows::{appended, filtered, filtered_by, sliced, taken};
+use c_tables::sorts::sorted;
 use c_tables::table_handle::TableHandle;
 use column_ops::CompareOperator;
 use std::alloc::Global;
@@ -24,29 +26,29 @@ use std::alloc::Global;
 /// is.
 #[tactic(auto, using(c_tables::proofs::TableEndings::no_first, c_tables::proofs::TableEndings::no_second, c_tables::proofs::TableEndings::both_done, c_tables::proofs::TableEndings::both_refused))]
 #[unsafe(no_mangle)]
-pub extern "C" fn hv_frame_select(
+pub extern "C" fn hv_table_select(
     alloc: Global,
-    frame: &mut TableHandle,
+    table: &mut TableHandle,
     names: &mut Handle,
     out: &mut TableHandle,
     error: &mut ErrorFields,
 ) -> i32
-    ensures same { frame.new.table ≡ frame.old.table }
+    ensures same { table.new.table ≡ table.old.table }
     ensures same_names { names.new.column ≡ names.old.column }
-    ensures made { result ≡ pos 0 → WhereAll IsSelectedBy frame.old.table (array_in names.old.column)
+    ensures made { result ≡ pos 0 → WhereAll IsSelectedBy table.old.table (array_in names.old.column)
         out.new.table }
     ensures kept { result ≢ pos 0 → out.new.table ≡ out.old.table }
-    ensures ended { EndsOnBoth IsSelectRefusal frame.old.table (array_in names.old.column) result error.new }
+    ensures ended { EndsOnBoth IsSelectRefusal table.old.table (array_in names.old.column) result error.new }
 {
-    let Some(held) = frame.take(alloc) else {
+    let Some(held) = table.take(alloc) else {
         return NO_COLUMN;
     };
     let Some(lent) = names.take(alloc) else {
-        frame.put(held);
+        table.put(held);
         return NO_COLUMN;
     };
     let outcome = selected(alloc, &held, &lent.array);
-    frame.put(held);
+    table.put(held);
     names.put(lent);
     answer_table(outcome, out, error)
 }
@@ -55,37 +57,37 @@ pub extern "C" fn hv_frame_select(
 /// Refused as `renamed` is.
 #[tactic(auto, using(c_tables::proofs::TableEndings::none_of_three, c_tables::proofs::TableEndings::one_of_three, c_tables::proofs::TableEndings::two_of_three, c_tables::proofs::TableEndings::three_done, c_tables::proofs::TableEndings::three_refused))]
 #[unsafe(no_mangle)]
-pub extern "C" fn hv_frame_rename(
+pub extern "C" fn hv_table_rename(
     alloc: Global,
-    frame: &mut TableHandle,
+    table: &mut TableHandle,
     names: &mut Handle,
     new_names: &mut Handle,
     out: &mut TableHandle,
     error: &mut ErrorFields,
 ) -> i32
-    ensures same { frame.new.table ≡ frame.old.table }
+    ensures same { table.new.table ≡ table.old.table }
     ensures same_names { names.new.column ≡ names.old.column }
     ensures same_new_names { new_names.new.column ≡ new_names.old.column }
-    ensures made { result ≡ pos 0 → WhereFour IsRenamedBy frame.old.table (array_in names.old.column)
+    ensures made { result ≡ pos 0 → WhereFour IsRenamedBy table.old.table (array_in names.old.column)
         (array_in new_names.old.column) out.new.table }
     ensures kept { result ≢ pos 0 → out.new.table ≡ out.old.table }
-    ensures ended { EndsOnThree IsRenameRefusal frame.old.table (array_in names.old.column)
+    ensures ended { EndsOnThree IsRenameRefusal table.old.table (array_in names.old.column)
         (array_in new_names.old.column) result error.new }
 {
-    let Some(held) = frame.take(alloc) else {
+    let Some(held) = table.take(alloc) else {
         return NO_COLUMN;
     };
     let Some(lent) = names.take(alloc) else {
-        frame.put(held);
+        table.put(held);
         return NO_COLUMN;
     };
     let Some(given) = new_names.take(alloc) else {
-        frame.put(held);
+        table.put(held);
         names.put(lent);
         return NO_COLUMN;
     };
     let outcome = renamed(alloc, &held, &lent.array, &given.array);
-    frame.put(held);
+    table.put(held);
     names.put(lent);
     new_names.put(given);
     answer_table(outcome, out, error)
@@ -95,24 +97,24 @@ pub extern "C" fn hv_frame_rename(
 /// only for memory.
 #[tactic(auto, using(c_tables::proofs::TableEndings::one_empty, c_tables::proofs::TableEndings::one_done, c_tables::proofs::TableEndings::one_refused))]
 #[unsafe(no_mangle)]
-pub extern "C" fn hv_frame_slice(
+pub extern "C" fn hv_table_slice(
     alloc: Global,
-    frame: &mut TableHandle,
+    table: &mut TableHandle,
     start: usize,
     stop: usize,
     out: &mut TableHandle,
     error: &mut ErrorFields,
 ) -> i32
-    ensures same { frame.new.table ≡ frame.old.table }
-    ensures made { result ≡ pos 0 → WhereBoth (IsSliceOf start stop) frame.old.table out.new.table }
+    ensures same { table.new.table ≡ table.old.table }
+    ensures made { result ≡ pos 0 → WhereBoth (IsSliceOf start stop) table.old.table out.new.table }
     ensures kept { result ≢ pos 0 → out.new.table ≡ out.old.table }
-    ensures ended { EndsOnOne (λ t. IsFaultFirst (range_fault start stop t.count)) frame.old.table result error.new }
+    ensures ended { EndsOnOne (λ t. IsFaultFirst (range_fault start stop t.count)) table.old.table result error.new }
 {
-    let Some(held) = frame.take(alloc) else {
+    let Some(held) = table.take(alloc) else {
         return NO_COLUMN;
     };
     let outcome = sliced(alloc, &held, start, stop);
-    frame.put(held);
+    table.put(held);
     answer_table(outcome, out, error)
 }
 
@@ -120,29 +122,29 @@ pub extern "C" fn hv_frame_slice(
 /// booleans, and then 10, with its length and the number of rows, where they differ, else refused only for memory.
 #[tactic(auto, using(c_tables::proofs::TableEndings::no_first, c_tables::proofs::TableEndings::no_second, c_tables::proofs::TableEndings::both_done, c_tables::proofs::TableEndings::both_refused))]
 #[unsafe(no_mangle)]
-pub extern "C" fn hv_frame_filter(
+pub extern "C" fn hv_table_filter(
     alloc: Global,
-    frame: &mut TableHandle,
+    table: &mut TableHandle,
     mask: &mut Handle,
     out: &mut TableHandle,
     error: &mut ErrorFields,
 ) -> i32
-    ensures same { frame.new.table ≡ frame.old.table }
+    ensures same { table.new.table ≡ table.old.table }
     ensures same_mask { mask.new.column ≡ mask.old.column }
-    ensures made { result ≡ pos 0 → WhereAll IsFilterOf frame.old.table (array_in mask.old.column) out.new.table }
+    ensures made { result ≡ pos 0 → WhereAll IsFilterOf table.old.table (array_in mask.old.column) out.new.table }
     ensures kept { result ≢ pos 0 → out.new.table ≡ out.old.table }
-    ensures ended { EndsOnBoth (λ t c. IsFaultFirst (masking_fault t c)) frame.old.table (array_in mask.old.column)
+    ensures ended { EndsOnBoth (λ t c. IsFaultFirst (masking_fault t c)) table.old.table (array_in mask.old.column)
         result error.new }
 {
-    let Some(held) = frame.take(alloc) else {
+    let Some(held) = table.take(alloc) else {
         return NO_COLUMN;
     };
     let Some(lent) = mask.take(alloc) else {
-        frame.put(held);
+        table.put(held);
         return NO_COLUMN;
     };
     let outcome = filtered(alloc, &held, &lent.array);
-    frame.put(held);
+    table.put(held);
     mask.put(lent);
     answer_table(outcome, out, error)
 }
@@ -150,9 +152,9 @@ pub extern "C" fn hv_frame_filter(
 /// Returns the rows at which the operator, by its number, holds of the row of the column of this name and a value of
 /// its type. Answers 23 for a number of no operator, then 22 for an empty handle; else refused as `filtered_by` is.
 #[unsafe(no_mangle)]
-pub extern "C" fn hv_frame_filter_by(
+pub extern "C" fn hv_table_filter_by(
     alloc: Global,
-    frame: &mut TableHandle,
+    table: &mut TableHandle,
     name: &[u8],
     operator: u8,
     value: &RowValue,
@@ -160,15 +162,15 @@ pub extern "C" fn hv_frame_filter_by(
     out: &mut TableHandle,
     error: &mut ErrorFields,
 ) -> i32
-    ensures same { frame.new.table ≡ frame.old.table }
+    ensures same { table.new.table ≡ table.old.table }
     ensures made { result ≡ pos 0 → IsSomeAnd (operator_by operator)
-        (λ op. WhereBoth (IsFilterBy name.now op value.now text.now) frame.old.table out.new.table) }
+        (λ op. WhereBoth (IsFilterBy name.now op value.now text.now) table.old.table out.new.table) }
     ensures kept { result ≢ pos 0 → out.new.table ≡ out.old.table }
     ensures ended { MatchOption (operator_by operator) (result ≡ pos 23)
-        (λ op. EndsOnOne (IsFilterByRefusal name.now value.now text.now) frame.old.table result error.new) }
+        (λ op. EndsOnOne (IsFilterByRefusal name.now value.now text.now) table.old.table result error.new) }
 {
     match kinds::operator_by(operator) {
-        Some(operator) => filter_held(alloc, frame, name, operator, value, text, out, error),
+        Some(operator) => filter_held(alloc, table, name, operator, value, text, out, error),
         None => BAD_NUMBER,
     }
 }
@@ -176,29 +178,29 @@ pub extern "C" fn hv_frame_filter_by(
 /// Returns the row of each column at each index, integers in any form, null at a null one. Refused as `taken` is.
 #[tactic(auto, using(c_tables::proofs::TableEndings::no_first, c_tables::proofs::TableEndings::no_second, c_tables::proofs::TableEndings::both_done, c_tables::proofs::TableEndings::both_refused))]
 #[unsafe(no_mangle)]
-pub extern "C" fn hv_frame_take(
+pub extern "C" fn hv_table_take(
     alloc: Global,
-    frame: &mut TableHandle,
+    table: &mut TableHandle,
     indices: &mut Handle,
     out: &mut TableHandle,
     error: &mut ErrorFields,
 ) -> i32
-    ensures same { frame.new.table ≡ frame.old.table }
+    ensures same { table.new.table ≡ table.old.table }
     ensures same_indices { indices.new.column ≡ indices.old.column }
-    ensures made { result ≡ pos 0 → WhereAll IsTakenAt frame.old.table (array_in indices.old.column)
+    ensures made { result ≡ pos 0 → WhereAll IsTakenAt table.old.table (array_in indices.old.column)
         out.new.table }
     ensures kept { result ≢ pos 0 → out.new.table ≡ out.old.table }
-    ensures ended { EndsOnBoth IsTakeRefusal frame.old.table (array_in indices.old.column) result error.new }
+    ensures ended { EndsOnBoth IsTakeRefusal table.old.table (array_in indices.old.column) result error.new }
 {
-    let Some(held) = frame.take(alloc) else {
+    let Some(held) = table.take(alloc) else {
         return NO_COLUMN;
     };
     let Some(lent) = indices.take(alloc) else {
-        frame.put(held);
+        table.put(held);
         return NO_COLUMN;
     };
     let outcome = taken(alloc, &held, &lent.array);
-    frame.put(held);
+    table.put(held);
     indices.put(lent);
     answer_table(outcome, out, error)
 }
@@ -207,29 +209,93 @@ pub extern "C" fn hv_frame_take(
 /// `appended` is.
 #[tactic(auto, using(c_tables::proofs::TableEndings::no_first, c_tables::proofs::TableEndings::no_second, c_tables::proofs::TableEndings::both_done, c_tables::proofs::TableEndings::both_refused))]
 #[unsafe(no_mangle)]
-pub extern "C" fn hv_frame_append(
+pub extern "C" fn hv_table_append(
     alloc: Global,
-    frame: &mut TableHandle,
+    table: &mut TableHandle,
     other: &mut TableHandle,
     out: &mut TableHandle,
     error: &mut ErrorFields,
 ) -> i32
-    ensures same { frame.new.table ≡ frame.old.table }
+    ensures same { table.new.table ≡ table.old.table }
     ensures same_other { other.new.table ≡ other.old.table }
-    ensures made { result ≡ pos 0 → WhereAll IsAppended frame.old.table other.old.table out.new.table }
+    ensures made { result ≡ pos 0 → WhereAll IsAppended table.old.table other.old.table out.new.table }
     ensures kept { result ≢ pos 0 → out.new.table ≡ out.old.table }
-    ensures ended { EndsOnBoth IsAppendError frame.old.table other.old.table result error.new }
+    ensures ended { EndsOnBoth IsAppendError table.old.table other.old.table result error.new }
 {
-    let Some(held) = frame.take(alloc) else {
+    let Some(held) = table.take(alloc) else {
         return NO_COLUMN;
     };
     let Some(lent) = other.take(alloc) else {
-        frame.put(held);
+        table.put(held);
         return NO_COLUMN;
     };
     let outcome = appended(alloc, &held, &lent);
-    frame.put(held);
+    table.put(held);
     other.put(lent);
+    answer_table(outcome, out, error)
+}
+
+/// Returns the rows at which none of the columns of the names in a column of texts is null, or no column at all where
+/// none is named. Refused as `without_null` is.
+#[tactic(auto, using(c_tables::proofs::TableEndings::no_first, c_tables::proofs::TableEndings::no_second, c_tables::proofs::TableEndings::both_done, c_tables::proofs::TableEndings::both_refused))]
+#[unsafe(no_mangle)]
+pub extern "C" fn hv_table_drop_null(
+    alloc: Global,
+    table: &mut TableHandle,
+    names: &mut Handle,
+    out: &mut TableHandle,
+    error: &mut ErrorFields,
+) -> i32
+    ensures same { table.new.table ≡ table.old.table }
+    ensures same_names { names.new.column ≡ names.old.column }
+    ensures made { result ≡ pos 0 → WhereAll IsNullDropped table.old.table (array_in names.old.column)
+        out.new.table }
+    ensures kept { result ≢ pos 0 → out.new.table ≡ out.old.table }
+    ensures ended { EndsOnBoth IsSelectRefusal table.old.table (array_in names.old.column) result error.new }
+{
+    let Some(held) = table.take(alloc) else {
+        return NO_COLUMN;
+    };
+    let Some(lent) = names.take(alloc) else {
+        table.put(held);
+        return NO_COLUMN;
+    };
+    let outcome = without_null(alloc, &held, &lent.array);
+    table.put(held);
+    names.put(lent);
+    answer_table(outcome, out, error)
+}
+
+/// Returns the rows in order by the columns of the names in a column of texts, each in the order of its flags. Refused
+/// as `sorted` is.
+#[tactic(auto, using(c_tables::proofs::TableEndings::no_first, c_tables::proofs::TableEndings::no_second, c_tables::proofs::TableEndings::both_done, c_tables::proofs::TableEndings::both_refused))]
+#[unsafe(no_mangle)]
+pub extern "C" fn hv_table_sort(
+    alloc: Global,
+    table: &mut TableHandle,
+    names: &mut Handle,
+    flags: &[u8],
+    out: &mut TableHandle,
+    error: &mut ErrorFields,
+) -> i32
+    ensures same { table.new.table ≡ table.old.table }
+    ensures same_names { names.new.column ≡ names.old.column }
+    ensures made { result ≡ pos 0 → WhereAll (λ before asked. IsSortedBy asked flags.now before) table.old.table
+        (array_in names.old.column) out.new.table }
+    ensures kept { result ≢ pos 0 → out.new.table ≡ out.old.table }
+    ensures ended { EndsOnBoth (λ t asked. IsSortRefusal asked flags.now t) table.old.table
+        (array_in names.old.column) result error.new }
+{
+    let Some(held) = table.take(alloc) else {
+        return NO_COLUMN;
+    };
+    let Some(lent) = names.take(alloc) else {
+        table.put(held);
+        return NO_COLUMN;
+    };
+    let outcome = sorted(alloc, &held, &lent.array, flags);
+    table.put(held);
+    names.put(lent);
     answer_table(outcome, out, error)
 }
 
@@ -237,7 +303,7 @@ pub extern "C" fn hv_frame_append(
 #[tactic(auto, using(c_tables::proofs::TableEndings::one_empty, c_tables::proofs::TableEndings::one_done, c_tables::proofs::TableEndings::one_refused))]
 fn filter_held(
     alloc: Global,
-    frame: &mut TableHandle,
+    table: &mut TableHandle,
     name: &[u8],
     operator: CompareOperator,
     value: &RowValue,
@@ -245,16 +311,16 @@ fn filter_held(
     out: &mut TableHandle,
     error: &mut ErrorFields,
 ) -> i32
-    ensures same { frame.new.table ≡ frame.old.table }
+    ensures same { table.new.table ≡ table.old.table }
     ensures made { result ≡ pos 0 →
-        WhereBoth (IsFilterBy name.now operator value.now text.now) frame.old.table out.new.table }
+        WhereBoth (IsFilterBy name.now operator value.now text.now) table.old.table out.new.table }
     ensures kept { result ≢ pos 0 → out.new.table ≡ out.old.table }
-    ensures ended { EndsOnOne (IsFilterByRefusal name.now value.now text.now) frame.old.table result error.new }
+    ensures ended { EndsOnOne (IsFilterByRefusal name.now value.now text.now) table.old.table result error.new }
 {
-    let Some(held) = frame.take(alloc) else {
+    let Some(held) = table.take(alloc) else {
         return NO_COLUMN;
     };
     let outcome = filtered_by(alloc, &held, name, operator, value, text);
-    frame.put(held);
+    table.put(held);
     answer_table(outcome, out, error)
 }

@@ -1,4 +1,4 @@
-use Rattle.std.proofs.Common.{◌∙◌, List, ap, arith, map, sym, ℕ}
+use Rattle.std.proofs.Common.{◌∙◌, ap, arith, map, sym}
 use Rattle.std.specs.String.{string_bytes}
 use Rattle.std.proofs.lemmas.List.{map-append}
 use Rattle.runend_array.specs.Array.{rows}

@@ -4,15 +4,15 @@ use Rattle.c_columns.specs.Handle.{array_in}
 use Rattle.c_columns.proofs.Held.{lent_array}
 use Rattle.c_tables.specs.TableCalls.{IsTakeRefusal}
 use Rattle.c_tables.specs.TableEnding.{EndsOnBoth}
-use Rattle.hivevigil.proofs.FrameEndings.{both_answered}
-use Rattle.hivevigil.proofs.table_rows.hv_frame_take.Goals as goal
+use Rattle.hivevigil.proofs.TableAnswers.{both_answered}
+use Rattle.hivevigil.proofs.table_rows.hv_table_take.Goals as goal
 
 pub returns-clause-ended : goal.returns-clause-ended
 returns-clause-ended c =
-    let frame = c.args.frame.now.table in
+    let table = c.args.table.now.table in
     let indices = array_in c.args.indices.now.column in
     let back = to_z-of_z w32 c.answer_table.result (record { sfits = c.answer_table.type_inv }) in
     let held = c.in-Some.ensures.found ∙ ap Some (sym c.deref.ensures) in
     let lent = lent_array c.deref-2.ensures c.in-Some-take.ensures.array in
-    subst (λ (code : ℤ). EndsOnBoth IsTakeRefusal frame indices code c.answer_table.new.error) (sym back)
-    (both_answered IsTakeRefusal frame indices c.deref.result.now c.deref-2.result.now.array c.taken-outcome.result c.answer_table.result c.answer_table.new.error _ _ held lent c.taken-outcome.ensures.refused c.answer_table.ensures.ok c.answer_table.ensures.err)
+    subst (λ (code : ℤ). EndsOnBoth IsTakeRefusal table indices code c.answer_table.new.error) (sym back)
+    (both_answered IsTakeRefusal table indices c.deref.result.now c.deref-2.result.now.array c.taken-outcome.result c.answer_table.result c.answer_table.new.error _ _ held lent c.taken-outcome.ensures.refused c.answer_table.ensures.ok c.answer_table.ensures.err)
