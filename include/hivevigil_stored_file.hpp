@@ -11,7 +11,7 @@ namespace hv {
 class TableError : public Error {
 public:
     using Error::Error;
-    // "HV_TABLE_NO_COLUMN"
+    // "HV_TABLE_UNKNOWN_NAME"
     const char *name() const override { return hv_table_error_name(number); }
 };
 

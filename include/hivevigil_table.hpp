@@ -1,4 +1,5 @@
-// Tables: several named columns of one number of rows, over hivevigil.hpp. Headers only, C++17; nothing here is proved.
+// Tables: several named columns of one number of rows, which the library holds, over hivevigil_tables.h. Headers only,
+// C++17. The calls of the library are proved, and nothing here is.
 //
 //     hv::Table table{{"station", stations}, {"level", levels}}; // columns, or what Column::of takes, or floats
 //     hv::Table high = table.filter_by("level", ">=", 902).select({"station", "level"});
@@ -9,7 +10,8 @@
 //
 // Each call makes another table, whose columns share buffers with those of this one, and leaves this one as it was,
 // also where it is refused: by an hv::TableError, or by the hv::Error of a call of a column, in whose sentence the
-// column is named. Any thread may use a table, one thread at a time.
+// column is named. Any thread may use a table, one thread at a time. References to its columns, which are copied out of
+// the library when the first of them is asked for, are valid as long as the table is neither assigned to nor moved.
 #ifndef HIVEVIGIL_TABLE_HPP
 #define HIVEVIGIL_TABLE_HPP
 #if __cplusplus < 201703L
@@ -17,9 +19,10 @@
 #else
 #include "hivevigil_stored_file.hpp"
 #include "hivevigil_arrow_errors.h"
-#include "hivevigil_float_bits.hpp"
+#include "hivevigil_table_conditions.hpp"
 #include "hivevigil_table_file.h"
 #include "hivevigil_table_groups.h"
+#include "hivevigil_tables.h"
 #include <map>
 
 namespace hv {
@@ -38,12 +41,15 @@ enum class Order { ascending, descending };
 // Where null comes in sorted rows, in either order.
 enum class Nulls { first, last };
 
-// A column by whose rows a table is sorted: "level", or {"level", hv::Order::descending}.
+// A column by whose rows a table is sorted: "level", {"level", hv::Order::descending}, or, where its nulls come
+// elsewhere than the call says of all columns, {"level", hv::Order::descending, hv::Nulls::last}.
 struct SortKey {
     std::string name;
     Order order = Order::ascending;
+    std::optional<Nulls> nulls = {};
     SortKey(const char *of) : name(of) {}
-    SortKey(std::string of, Order by = Order::ascending) : name(std::move(of)), order(by) {}
+    SortKey(std::string of, Order by = Order::ascending, std::optional<Nulls> where = {})
+        : name(std::move(of)), order(by), nulls(where) {}
 };
 
 // A column of a table, with the logical type that it has.
@@ -77,8 +83,8 @@ class Table {
 public:
     // No columns and no rows.
     Table() = default;
-    // The columns, copied, each of as many rows as the first. Refused as HV_COLUMN_LENGTH, as HV_TABLE_NAME_TWICE, and
-    // as HV_TYPE_MISMATCH for a name that is not UTF-8.
+    // The columns, copied, each of as many rows as the first. Refused for the first column whose name is not UTF-8, as
+    // HV_TYPE_MISMATCH, or that has another number of rows, as HV_COLUMN_LENGTH; then as HV_TABLE_NAME_TWICE.
     Table(std::initializer_list<NamedColumn> columns);
     explicit Table(std::vector<NamedColumn> columns);
     // The same, of this number of rows: also without columns.
@@ -86,35 +92,34 @@ public:
     // A table that was moved away has no columns and no rows.
     Table(Table &&other) noexcept { *this = std::move(other); }
     Table &operator=(Table &&other) noexcept {
-        if (this == &other) return *this;
-        all = std::move(other.all), count = std::exchange(other.count, 0);
-        other.all.clear();
+        hv_table taken = std::exchange(other.handle, hv_table HV_EMPTY);
+        hv_table_free(&handle);
+        handle = taken, copies = std::exchange(other.copies, {});
         return *this;
     }
-    Table clone() const {
-        return each([](const Column &column) { return column.clone(); });
-    }
+    ~Table() { hv_table_free(&handle); }
+    Table clone() const { return made({}, {}, hv_call_table_clone); }
 
     // ---- Names and columns ----
 
-    size_t rows() const { return count; }
+    size_t rows() const { return hv_table_len(&handle); }
     // How many columns there are.
-    size_t size() const { return all.size(); }
-    bool empty() const { return all.empty(); }
+    size_t size() const { return hv_table_width(&handle); }
+    bool empty() const { return size() == 0; }
     std::vector<std::string> names() const;
     bool contains(const std::string &name) const;
-    // The column of a name, refused as HV_TABLE_NO_COLUMN; so is [].
-    const NamedColumn &at(const std::string &name) const;
+    // The column of a name, refused as HV_TABLE_UNKNOWN_NAME; so is [].
+    const NamedColumn &at(const std::string &name) const { return columns()[place_of(name)]; }
     const Column &operator[](const std::string &name) const { return at(name).column; }
     // The columns in their order.
-    std::vector<NamedColumn>::const_iterator begin() const { return all.begin(); }
-    std::vector<NamedColumn>::const_iterator end() const { return all.end(); }
+    std::vector<NamedColumn>::const_iterator begin() const { return columns().begin(); }
+    std::vector<NamedColumn>::const_iterator end() const { return columns().end(); }
     // Whether names and their order, types, logical types and rows are the same, in whatever forms. So do == and !=.
     bool equals(const Table &other) const;
     friend bool operator==(const Table &left, const Table &right) { return left.equals(right); }
     friend bool operator!=(const Table &left, const Table &right) { return !left.equals(right); }
 
-    // The columns of these names, in this order; refused as HV_TABLE_NO_COLUMN and HV_TABLE_NAME_TWICE.
+    // The columns of these names, in this order; refused as HV_TABLE_UNKNOWN_NAME and HV_TABLE_NAME_TWICE.
     Table select(const std::vector<std::string> &names) const;
     // All others.
     Table drop(const std::vector<std::string> &names) const;
@@ -123,7 +128,7 @@ public:
     // The same columns, one of which has another name.
     Table rename(const std::string &from, const std::string &to) const;
 
-    // ---- Rows: a mask or indices are read once, and tested before any column ----
+    // ---- Rows: a mask or indices are read once for all columns ----
 
     // Rows `start` to `stop` - 1; refused as HV_BAD_RANGE.
     Table slice(size_t start, size_t stop) const;
@@ -133,7 +138,7 @@ public:
     template <class T, class = std::enable_if_t<detail::is_number<T>>> Table take(const std::vector<T> &indices) const {
         return take(Column::of(indices));
     }
-    // The rows at which the mask is true; null selects nothing. Refused as HV_MASK_LENGTH and HV_TYPE_MISMATCH.
+    // The rows at which the mask is true; null selects nothing. Refused as HV_TYPE_MISMATCH and HV_MASK_LENGTH.
     Table filter(const Column &mask) const;
     Table filter(const std::vector<bool> &mask) const { return filter(Column::truths(mask)); }
     // The rows at which `row by value` is true of the column of a name: any number next to integers, decimals and
@@ -141,14 +146,18 @@ public:
     // to floats is null. The sign is one of == = != < <= > >=.
     template <class T> Table filter_by(const std::string &name, Operator by, const T &value) const;
     template <class T> Table filter_by(const std::string &name, const std::string &sign, const T &value) const;
+    // The rows that are null in none of the columns of these names, or of all columns for no name; refused as select.
+    Table drop_null(const std::vector<std::string> &names = {}) const;
     // The rows in order by these columns, of which the first counts most; rows that are equal in all of them stay in
     // their order. Texts are ordered by their bytes, floats by their total order. What is sorted are runs over which
-    // none of these columns changes. Refused as HV_UNSUPPORTED for lists, and for no key.
+    // none of these columns changes. Refused as HV_UNSUPPORTED for no key, as HV_TABLE_NAME_TWICE, as
+    // HV_TABLE_UNKNOWN_NAME, and as HV_UNSUPPORTED for lists.
     Table sort(const std::vector<SortKey> &keys, Nulls nulls = Nulls::first) const;
-    // The rows of this table, then those of another, which has columns of the same names and types; a type has null
-    // where it has in one of them, and decimals of two types become those of hv_decimal_common_kind. Refused as
-    // HV_TABLE_NO_COLUMN and HV_TYPE_MISMATCH, as HV_CAST_OUT_OF_RANGE for a row that has more digits there, and as
-    // HV_WINDOW_OVERFLOW for 2^64 rows or more.
+    // The rows of this table, then those of another, which has columns of the same names and types, in runs, as few as
+    // possible. Where a type has null in one of them only, or decimals are of two types, columns are joined as batches
+    // of Arrow are: a type has null where it has in one of them, and decimals become those of hv_decimal_common_kind.
+    // So are the columns of tables that have lists. Refused as HV_TABLE_UNKNOWN_NAME, then as HV_TYPE_MISMATCH, as
+    // HV_CAST_OUT_OF_RANGE for a row that has more digits there, and as HV_WINDOW_OVERFLOW for 2^64 rows or more.
     Table append(const Table &other) const;
     // The rows by runs of neighbours that are equal in these columns (hivevigil_table_groups.hpp).
     TableGroups group_by(const std::vector<std::string> &names) const;
@@ -182,27 +191,34 @@ public:
     static Table from_arrow(ArrowArrayStream *stream);
     static Table from_arrow(const ArrowSchema *schema, const ArrowArray *array);
 
-private:
-    std::vector<NamedColumn> all;
-    size_t count = 0;
+    // The handle, to lend to calls of hivevigil_tables.h; it stays this table's, into which nothing is put.
+    hv_table *raw() const;
 
-    // What a function makes of each column, columns of one length.
-    template <class Work> Table each(Work work) const;
+private:
+    mutable hv_table handle = HV_EMPTY;      // none where there are neither columns nor rows, until a call needs one
+    mutable std::vector<NamedColumn> copies; // of all columns, or none yet
+
+    // The columns, copied once.
+    const std::vector<NamedColumn> &columns() const;
+    // Puts columns into this table, which has none yet.
+    template <class Columns> void put_all(const Columns &given, size_t rows);
+    void put(const NamedColumn &named);
+    std::string name_at(size_t place) const;
+    Column column_at(size_t place) const;
+    std::optional<size_t> find(const std::string &name) const;
+    size_t place_of(const std::string &name) const;
+    // Names as a column; one that is not UTF-8 is that of no column.
+    Column texts_of(const std::vector<std::string> &given) const;
+    // What a call makes of this table and of what else is lent; refused in words about these names, or of a type.
+    template <class Call, class... Lent>
+    Table made(const std::vector<std::string> &given, const std::string &of_type, Call call, Lent... lent) const;
+    Table joined(const Table &other) const;
 };
 
 namespace detail {
 
-// ---- Texts ----
-
 inline hv_table_span span_of(const std::string &text) {
     return {reinterpret_cast<const uint8_t *>(text.data()), text.size()};
-}
-
-inline bool is_utf8(const std::string &text) {
-    hv_error fields{};
-    const int32_t answer = hv_table_check_span(span_of(text), &fields);
-    if (answer && answer != HV_BAD_METADATA) throw Error(answer, fields);
-    return !answer;
 }
 
 // ---- Refusals ----
@@ -218,7 +234,29 @@ inline std::string no_column_words(const std::string &name, const std::vector<st
 }
 
 inline TableError no_column(const std::string &name, const std::vector<std::string> &names) {
-    return {HV_TABLE_NO_COLUMN, {}, no_column_words(name, names)};
+    return {HV_TABLE_UNKNOWN_NAME, {}, no_column_words(name, names)};
+}
+
+inline TableError name_twice(const std::string &name, size_t earlier, size_t place) {
+    return {HV_TABLE_NAME_TWICE, {earlier, place, 0}, "two columns have the name '" + name + "'"};
+}
+
+inline TableError other_rows(const std::string &name, size_t rows, size_t wanted) {
+    return {HV_COLUMN_LENGTH, {wanted, rows, 0},
+            "column '" + name + "' has " + std::to_string(rows) + " rows, and the table " + std::to_string(wanted)};
+}
+
+// What a call of the library refused of a table and names.
+inline TableError refusal(int32_t answer, hv_error fields, const Table &table, const std::vector<std::string> &given) {
+    switch (answer) {
+    case HV_TABLE_UNKNOWN_NAME: return no_column(given[fields.first], table.names());
+    case HV_TABLE_NAME_TWICE: return name_twice(given[fields.second], fields.first, fields.second);
+    case HV_TABLE_NEW_NAME_TWICE: return name_twice(given.back(), fields.first, fields.second);
+    case HV_TABLE_NO_KEYS: return {HV_UNSUPPORTED, {}, "at least one column says the order"};
+    case HV_TABLE_KEY_OF_LISTS:
+        return {HV_UNSUPPORTED, {}, "column '" + given[fields.first] + "': lists have no order"};
+    default: return {answer, fields};
+    }
 }
 
 // A refusal within says of which column it is.
@@ -234,8 +272,7 @@ inline void refuse_twice(const std::vector<std::string> &names) {
     std::map<std::string, size_t> places;
     for (size_t at = 0; at < names.size(); at++) {
         const auto [found, is_new] = places.emplace(names[at], at);
-        if (is_new) continue;
-        throw TableError(HV_TABLE_NAME_TWICE, {found->second, at, 0}, "two columns have the name '" + names[at] + "'");
+        if (!is_new) throw name_twice(names[at], found->second, at);
     }
 }
 
@@ -246,70 +283,6 @@ template <class Columns> size_t place_of(const Columns &columns, const std::stri
     std::vector<std::string> names;
     for (const auto &column : columns) names.push_back(column.name);
     throw no_column(name, names);
-}
-
-// ---- Comparisons by what rows mean ----
-
-inline int width_of_floats(const std::string &format) { return format == "e" ? 16 : format == "f" ? 32 : 64; }
-
-// Does the column have keys of floats, by its logical type?
-inline bool is_float(const Column &column) {
-    const std::string format = column.logical_type();
-    const uint8_t number = format == "e" ? HV_I16 : format == "f" ? HV_I32 : format == "g" ? HV_I64 : HV_LIST;
-    return column.kind().number == number && number != HV_LIST;
-}
-
-// Does a format of Arrow say what integers mean: dates, times, timestamps, durations, or floats by their keys?
-inline bool is_logical_type(const std::string &format) {
-    if (format == "e" || format == "f" || format == "g") return true;
-    const std::string sort = format.substr(0, 2), unit = format.substr(std::min<size_t>(2, format.size()));
-    const bool is_unit = !unit.empty() && std::string("smun").find(unit[0]) != std::string::npos;
-    if (sort == "td") return unit == "D" || unit == "m";
-    if (sort == "ts") return is_unit && unit.size() > 1 && unit[1] == ':' && unit.find('\0') == std::string::npos;
-    return (sort == "tt" || sort == "tD") && is_unit && unit.size() == 1;
-}
-
-// Is a row NaN? In the total order these lie outside of all numbers.
-inline bool has_nan(const Column &column) {
-    if (!is_float(column)) return false;
-    uint8_t is_found = 0;
-    uint64_t least = 0, greatest = 0;
-    ask([&](auto *error) { return hv_float_min_max(column.raw(), 0, &is_found, &least, &greatest, error); });
-    const int width = width_of_floats(column.logical_type());
-    return is_found && (std::isnan(float_of_bits(least, width)) || std::isnan(float_of_bits(greatest, width)));
-}
-
-inline Column compare_floats(const Column &column, FloatComparison asked) {
-    Column mask;
-    ask([&](auto *error) {
-        return hv_float_compare(column.raw(), static_cast<uint8_t>(asked.by), asked.bits, 1, mask.raw(), error);
-    });
-    return mask;
-}
-
-// Row by row whether `row by value`, null where the row is.
-template <class T> Column compare_rows(const Column &column, Operator by, const T &value) {
-    const int width = width_of_floats(column.logical_type());
-    if (column.kind().number == HV_LIST) throw Error(HV_UNSUPPORTED, {});
-    if constexpr (std::is_floating_point_v<T>) {
-        const hv_kind kind = column.kind();
-        if (is_float(column)) return compare_floats(column, float_comparison(by, double{value}, width));
-        if (!has_numbers(kind) || scale_of(kind) < 0 || scale_of(kind) > 38)
-            throw Error(HV_TYPE_MISMATCH, {}, to_string(kind) + " is not compared with a float");
-        const Comparison asked = comparison(by, double{value}, kind);
-        return column.compare(asked.by, asked.right);
-    } else if constexpr (is_number<T>) {
-        if (is_float(column)) return compare_floats(column, float_comparison(by, Wide{value}, width));
-        return column.compare(by, value);
-    } else if constexpr (is_text<T>) {
-        if (is_float(column)) throw Error(HV_TYPE_MISMATCH, {}, "a float is not compared with a text");
-        return column.compare(by, value);
-    } else {
-        const Value other(value);
-        if (is_float(column) && !std::holds_alternative<Null>(other))
-            throw Error(HV_TYPE_MISMATCH, {}, "a float is compared with a number of C++");
-        return column.compare(by, other);
-    }
 }
 
 inline Operator operator_of(const std::string &sign) {
@@ -329,147 +302,147 @@ inline Operator operator_of(const std::string &sign) {
 inline NamedColumn::NamedColumn(std::string of, const Column &rows, std::string_view format)
     : name(std::move(of)), column(detail::about_column(name, [&] { return rows.with_logical_type(format); })) {}
 
-inline Table::Table(std::vector<NamedColumn> columns, size_t rows) {
-    std::vector<std::string> given;
-    for (const NamedColumn &named : columns) {
-        given.push_back(named.name);
-        const size_t other = named.column.size();
-        if (!named.column) throw TableError(HV_NO_COLUMN, {}, "column '" + named.name + "' was moved away");
-        if (other != rows)
-            throw TableError(HV_COLUMN_LENGTH, {rows, other, 0},
-                             "column '" + named.name + "' has " + std::to_string(other) + " rows, and the table " +
-                                 std::to_string(rows));
-        if (!detail::is_utf8(named.name)) throw TableError(HV_TYPE_MISMATCH, {}, "the name of a column is not UTF-8");
+inline hv_table *Table::raw() const {
+    if (!handle.at) detail::ask([&](auto *error) { return hv_table_new(0, &handle, error); });
+    return &handle;
+}
+
+inline void Table::put(const NamedColumn &named) {
+    const hv_table_span name = detail::span_of(named.name);
+    hv_error fields{};
+    switch (const int32_t answer = hv_table_put(raw(), name.at, name.size, named.column.raw(), &fields)) {
+    case HV_OK: return;
+    case HV_NO_COLUMN: throw TableError(answer, fields, "column '" + named.name + "' was moved away");
+    case HV_TYPE_MISMATCH: throw TableError(answer, fields, "the name of a column is not UTF-8");
+    case HV_TABLE_ROW_COUNT: throw detail::other_rows(named.name, fields.second, fields.third);
+    default: throw TableError(answer, fields);
     }
-    detail::refuse_twice(given);
-    all = std::move(columns), count = rows;
 }
-inline Table::Table(std::vector<NamedColumn> columns) {
-    const size_t rows = columns.empty() ? 0 : columns.front().column.size();
-    *this = Table(std::move(columns), rows);
+
+template <class Columns> void Table::put_all(const Columns &given, size_t rows) {
+    std::optional<TableError> twice;
+    size_t place = 0;
+    detail::ask([&](auto *error) { return hv_table_new(rows, &handle, error); });
+    for (const NamedColumn &named : given) {
+        const size_t before = size();
+        put(named);
+        if (this->rows() != rows) throw detail::other_rows(named.name, this->rows(), rows); // one without rows took it
+        if (size() == before && !twice) twice.emplace(detail::name_twice(named.name, place_of(named.name), place));
+        place++;
+    }
+    if (twice) throw *twice;
 }
-inline Table::Table(std::initializer_list<NamedColumn> columns) {
-    std::vector<NamedColumn> copies;
-    for (const NamedColumn &named : columns) copies.push_back(named.clone());
-    *this = Table(std::move(copies));
+
+inline Table::Table(std::vector<NamedColumn> columns, size_t rows) : Table() { put_all(columns, rows); }
+inline Table::Table(std::vector<NamedColumn> columns) : Table() {
+    put_all(columns, columns.empty() ? 0 : columns.front().column.size());
+}
+inline Table::Table(std::initializer_list<NamedColumn> columns) : Table() {
+    put_all(columns, columns.size() ? columns.begin()->column.size() : 0);
+}
+
+template <class Call, class... Lent>
+Table Table::made(const std::vector<std::string> &given, const std::string &of_type, Call call, Lent... lent) const {
+    Table out;
+    hv_error fields{};
+    const int32_t answer = call(raw(), lent..., &out.handle, &fields);
+    if (answer == HV_TYPE_MISMATCH && !of_type.empty()) throw TableError(answer, fields, of_type);
+    if (answer) throw detail::refusal(answer, fields, *this, given);
+    return out;
 }
 
 // ---- Names and columns ----
 
+inline std::string Table::name_at(size_t place) const {
+    Bytes bytes(64);
+    size_t used = 0;
+    hv_error fields{};
+    const auto read = [&] { return hv_table_name(raw(), place, bytes.data(), bytes.size(), &used, &fields); };
+    int32_t answer = read();
+    if (answer == HV_COLUMN_LENGTH) bytes.resize(fields.first), answer = read();
+    if (answer) throw TableError(answer, fields);
+    return {bytes.begin(), bytes.begin() + static_cast<std::ptrdiff_t>(used)};
+}
 inline std::vector<std::string> Table::names() const {
     std::vector<std::string> found;
-    for (const NamedColumn &named : all) found.push_back(named.name);
+    for (size_t place = 0; place < size(); place++) found.push_back(name_at(place));
     return found;
 }
-inline bool Table::contains(const std::string &name) const {
-    return std::any_of(all.begin(), all.end(), [&](const NamedColumn &named) { return named.name == name; });
+inline std::optional<size_t> Table::find(const std::string &name) const {
+    const hv_table_span text = detail::span_of(name);
+    size_t place = 0;
+    hv_error fields{};
+    const int32_t answer = hv_table_place(raw(), text.at, text.size, &place, &fields);
+    if (answer && answer != HV_TABLE_UNKNOWN_NAME) throw TableError(answer, fields);
+    return answer ? std::nullopt : std::optional(place);
 }
-inline const NamedColumn &Table::at(const std::string &name) const { return all[detail::place_of(all, name)]; }
+inline bool Table::contains(const std::string &name) const { return find(name).has_value(); }
+inline size_t Table::place_of(const std::string &name) const {
+    if (const auto place = find(name)) return *place;
+    throw detail::no_column(name, names());
+}
+inline Column Table::column_at(size_t place) const {
+    Column column;
+    detail::ask([&](auto *error) { return hv_table_column(raw(), place, column.raw(), error); });
+    return column;
+}
+inline const std::vector<NamedColumn> &Table::columns() const {
+    if (copies.size() == size()) return copies;
+    std::vector<NamedColumn> found;
+    for (size_t place = 0; place < size(); place++) found.emplace_back(name_at(place), column_at(place));
+    return copies = std::move(found);
+}
 
 inline bool Table::equals(const Table &other) const {
     const auto are_equal = [](const NamedColumn &left, const NamedColumn &right) {
         return left.name == right.name && left.logical_type() == right.logical_type() && left.column == right.column;
     };
-    return count == other.count && std::equal(all.begin(), all.end(), other.all.begin(), other.all.end(), are_equal);
-}
-
-inline Table Table::select(const std::vector<std::string> &names) const {
-    detail::refuse_twice(names);
-    std::vector<NamedColumn> chosen;
-    for (const std::string &name : names) chosen.push_back(at(name).clone());
-    return Table(std::move(chosen), count);
-}
-inline Table Table::drop(const std::vector<std::string> &names) const {
-    for (const std::string &name : names) at(name);
-    std::vector<NamedColumn> kept;
-    for (const NamedColumn &named : all)
-        if (std::find(names.begin(), names.end(), named.name) == names.end()) kept.push_back(named.clone());
-    return Table(std::move(kept), count);
-}
-inline Table Table::with_column(const NamedColumn &named) const {
-    std::vector<NamedColumn> columns;
-    for (const NamedColumn &own : all) columns.push_back((own.name == named.name ? named : own).clone());
-    if (!contains(named.name)) columns.push_back(named.clone());
-    return Table(std::move(columns), all.empty() && count == 0 ? named.column.size() : count);
-}
-inline Table Table::rename(const std::string &from, const std::string &to) const {
-    const size_t place = detail::place_of(all, from);
-    Table made = clone();
-    made.all[place].name = to;
-    return Table(std::move(made.all), count);
-}
-
-// ---- Rows ----
-
-template <class Work> Table Table::each(Work work) const {
-    Table made;
-    for (const NamedColumn &named : all) made.all.push_back({named.name, work(named.column)});
-    // of no columns there is one all the same, which is asked
-    const Column rows = all.empty() ? work(Column::constant(kinds::u8, uint64_t{0}, count)) : Column();
-    made.count = all.empty() ? rows.size() : made.all.front().column.size();
-    return made;
-}
-
-inline Table Table::slice(size_t start, size_t stop) const {
-    return each([=](const Column &column) { return column.slice(start, stop); });
-}
-inline Table Table::take(const Column &indices) const {
-    if (!detail::is_integer(indices.kind()))
-        throw TableError(HV_TYPE_MISMATCH, {}, "indices are integers, not " + to_string(indices.kind()));
-    return each([&](const Column &column) { return column.take(indices); });
-}
-inline Table Table::filter(const Column &mask) const {
-    if (mask.kind().number != HV_BOOL)
-        throw TableError(HV_TYPE_MISMATCH, {}, "a mask is of type bool, not " + to_string(mask.kind()));
-    if (mask.size() != count) throw TableError(HV_MASK_LENGTH, {mask.size(), count, 0});
-    return each([&](const Column &column) { return column.filter(mask); });
-}
-template <class T> Table Table::filter_by(const std::string &name, Operator by, const T &value) const {
-    const Column &column = (*this)[name];
-    return filter(detail::about_column(name, [&] { return detail::compare_rows(column, by, value); }));
-}
-template <class T> Table Table::filter_by(const std::string &name, const std::string &sign, const T &value) const {
-    return filter_by(name, detail::operator_of(sign), value);
+    return rows() == other.rows() && std::equal(begin(), end(), other.begin(), other.end(), are_equal);
 }
 
 namespace detail {
 
-// The rows of a column, then those of another of its type, or of decimals of another scale.
-inline Column joined(const Column &first, const Column &second) {
-    if (are_of_two_scales(first, second)) {
-        const auto both = aligned(first, second);
-        return joined(both.first, both.second);
+// Texts as a column; where one is not UTF-8, what `refuse` throws.
+template <class Refuse> Column texts_or(const std::vector<std::string> &texts, Refuse refuse) {
+    try {
+        return Column::texts(std::vector<std::string_view>(texts.begin(), texts.end()));
+    } catch (const Error &error) {
+        if (error.number == HV_TYPE_MISMATCH) refuse();
+        throw;
     }
-    hv_column lent[] = {*first.raw(), *second.raw()};
-    Column out;
-    ask([&](auto *error) { return hv_arrow_concat(&initial_session(), lent, 2, out.raw(), error); },
-        words_of_two(first.kind(), " is not joined with ", second.kind()));
-    return out;
 }
 
 } // namespace detail
 
-inline Table Table::append(const Table &other) const {
-    for (const NamedColumn &named : other.all)
-        if (!contains(named.name)) throw detail::no_column(named.name, names());
-    Table made;
-    for (const NamedColumn &named : all) {
-        const NamedColumn &second = other.at(named.name);
-        const std::string format = named.logical_type(), other_format = second.logical_type();
-        if (format != other_format)
-            throw TableError(HV_TYPE_MISMATCH, {}, "column '" + named.name + "': the logical types are '" + format +
-                                                       "' and '" + other_format + "'");
-        made.all.push_back({named.name, detail::about_column(named.name, [&] {
-                                return detail::joined(named.column, second.column).with_logical_type(format);
-                            })});
-    }
-    if (count > SIZE_MAX - other.count) throw TableError(HV_WINDOW_OVERFLOW, {});
-    made.count = count + other.count;
+inline Column Table::texts_of(const std::vector<std::string> &given) const {
+    return detail::texts_or(given, [&] {
+        for (const std::string &name : given) place_of(name);
+    });
+}
+inline Table Table::select(const std::vector<std::string> &names) const {
+    return made(names, {}, hv_call_table_select, texts_of(names).raw());
+}
+inline Table Table::drop(const std::vector<std::string> &names) const {
+    for (const std::string &name : names) place_of(name);
+    std::vector<std::string> kept;
+    for (const std::string &name : this->names())
+        if (std::find(names.begin(), names.end(), name) == names.end()) kept.push_back(name);
+    return select(kept);
+}
+inline Table Table::with_column(const NamedColumn &named) const {
+    Table made = clone();
+    made.put(named);
     return made;
+}
+inline Table Table::rename(const std::string &from, const std::string &to) const {
+    place_of(from);
+    const Column new_names = detail::texts_or(
+        {to}, [] { throw TableError(HV_TYPE_MISMATCH, {}, "the name of a column is not UTF-8"); });
+    return made({from, to}, {}, hv_call_table_rename, texts_of({from}).raw(), new_names.raw());
 }
 
 } // namespace hv
-#include "hivevigil_table_sort.hpp"
+#include "hivevigil_table_rows.hpp"
 #include "hivevigil_table_groups.hpp"
 #include "hivevigil_table_file.hpp"
 #include "hivevigil_table_arrow.hpp"

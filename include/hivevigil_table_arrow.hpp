@@ -1,5 +1,5 @@
-// Tables in and out of Arrow's C data and stream interfaces, over hivevigil_arrow.h: a part of hivevigil_table.hpp,
-// which includes it.
+// Tables in and out of Arrow's C data and stream interfaces, over hivevigil_table_arrow.h and hivevigil_arrow.h: a part
+// of hivevigil_table.hpp, which includes it.
 //
 //     ArrowArrayStream stream;
 //     table.to_arrow(&stream);                       // the consumer releases it
@@ -7,74 +7,19 @@
 #ifndef HIVEVIGIL_TABLE_ARROW_HPP
 #define HIVEVIGIL_TABLE_ARROW_HPP
 #include "hivevigil_table.hpp"
+#include "hivevigil_table_arrow.h"
 
 namespace hv {
 
 namespace detail {
 
-// Throws what a call of hivevigil_arrow.h refused.
+// Throws what a call of Arrow refused.
 template <class Call> void ask_arrow(Call call) {
     hv_error fields{};
     const int32_t answer = call(&fields);
     char text[HV_ERROR_TEXT];
-    if (answer) throw TableError(answer, fields, hv_arrow_error_text(answer, &fields, text));
+    if (answer) throw TableError(answer, fields, hv_table_error_text(answer, &fields, text));
 }
-
-// ---- Floats, which Arrow has by their bits ----
-
-// The bits of floats, as integers without sign, in the form of the column.
-inline Column bits_of_floats(const Column &column) {
-    const auto decoded = [](const Column &keys) {
-        Column bits;
-        ask([&](auto *error) { return hv_float_decode(keys.raw(), bits.raw(), error); });
-        return bits;
-    };
-    const size_t rows = column.size();
-    if (column.form() == Form::runs)
-        return Column::runs(column.ends(), decoded(column.values()), column.offset(), rows);
-    if (column.form() != Form::constant || rows == 0) return decoded(column);
-    const Column one = decoded(column.slice(0, 1));
-    return Column::constant(one.kind(), one.at(0), rows);
-}
-
-// The floats that have these bits: flat of a flat column, else in runs.
-inline Column floats_of_bits(const Column &bits) {
-    Column floats;
-    ask([&](auto *error) { return hv_float_encode(bits.raw(), 0, floats.raw(), error); });
-    return bits.form() == Form::flat ? floats.decode() : std::move(floats);
-}
-
-// ---- Out ----
-
-// What a call of Arrow takes of each column.
-struct ArrowColumns {
-    std::vector<Column> owned;
-    std::vector<std::string> formats;
-    std::vector<hv_column> lent;
-    std::vector<const char *> names;
-    std::vector<hv_arrow_options> options;
-
-    explicit ArrowColumns(const Table &table) {
-        for (const NamedColumn &named : table) formats.push_back(named.logical_type());
-        for (const NamedColumn &named : table) {
-            const std::string &format = formats[owned.size()];
-            const bool is_float = detail::is_float(named.column);
-            if (named.name.find('\0') != std::string::npos)
-                throw TableError(HV_UNSUPPORTED, {}, "a name of Arrow has no zero byte, and that of a column has");
-            owned.push_back(is_float ? bits_of_floats(named.column) : named.column.clone());
-            lent.push_back(*owned.back().raw());
-            names.push_back(named.name.c_str());
-            hv_arrow_layout layout{};
-            const bool is_format = hv_arrow_is_format_of(format.c_str(), named.column.kind(), &layout);
-            hv_arrow_options settled{};
-            settled.bits_of_float = is_float;
-            settled.format = is_format && !is_float ? format.c_str() : nullptr;
-            options.push_back(settled);
-        }
-    }
-};
-
-// ---- In ----
 
 // A schema or a stream of Arrow that is released with its scope.
 template <class Struct> struct Released {
@@ -93,7 +38,9 @@ struct ArrowChild {
     }
     bool is_float() const { return format.size() == 1; }
     NamedColumn of(Column column) const {
-        return {name, is_float() ? floats_of_bits(column) : std::move(column), format};
+        if (is_float())
+            ask([&](auto *error) { return hv_table_of_bits(&initial_session(), column.raw(), error); });
+        return {name, std::move(column), format};
     }
 };
 
@@ -115,11 +62,8 @@ inline std::vector<ArrowChild> children_of(const ArrowSchema &schema) {
 } // namespace detail
 
 inline void Table::to_arrow(ArrowArrayStream *stream, size_t chunk_rows) const {
-    if (all.empty()) throw TableError(HV_UNSUPPORTED, {}, "a table without columns does not go out to Arrow");
-    detail::ArrowColumns out(*this);
     detail::ask_arrow([&](auto *error) {
-        return hv_arrow_export_stream(&initial_session(), out.lent.data(), out.names.data(), out.lent.size(),
-                                      chunk_rows, out.options.data(), stream, error);
+        return hv_table_export_stream(&initial_session(), raw(), chunk_rows, stream, error);
     });
 }
 

@@ -54,7 +54,7 @@ struct TableFooter {
     size_t rows = 0;
     std::vector<ColumnFooter> columns;
 
-    // The column of a name, refused as HV_TABLE_NO_COLUMN.
+    // The column of a name, refused as HV_TABLE_UNKNOWN_NAME.
     const ColumnFooter &operator[](const std::string &name) const { return columns[detail::place_of(columns, name)]; }
     template <class T> bool may_have(const std::string &name, Operator by, const T &value) const {
         const ColumnFooter &column = (*this)[name];
@@ -165,31 +165,15 @@ inline Table read_table(const StoredFile &file, const std::vector<std::string> *
     return Table(std::move(columns), footer.rows());
 }
 
-// The bytes of a table.
-inline void put_table(Buffer &bytes, const Table &table, bool differences) {
-    std::vector<std::string> formats;
-    for (const NamedColumn &named : table) formats.push_back(named.logical_type());
-    std::vector<hv_table_part> parts;
-    for (const NamedColumn &named : table)
-        parts.push_back({span_of(named.name), span_of(formats[parts.size()]), named.column.raw()});
-    ask([&](auto *error) {
-        return hv_table_put_parts(bytes.raw(), parts.data(), parts.size(), table.rows(), differences, error);
-    });
-}
-
 } // namespace detail
 
 inline Bytes Table::to_bytes(bool differences) const {
     detail::Buffer bytes;
-    detail::put_table(bytes, *this, differences);
+    detail::ask([&](auto *error) { return hv_table_to_bytes(raw(), differences, bytes.raw(), error); });
     return bytes.bytes();
 }
 inline void Table::save(const std::string &path, bool differences) const {
-    detail::Buffer bytes;
-    detail::put_table(bytes, *this, differences);
-    detail::ask_file(path, [&](auto *error) {
-        return hv_save_bytes(bytes.raw()->at, bytes.raw()->size, path.c_str(), error);
-    });
+    detail::ask_file(path, [&](auto *error) { return hv_table_save(raw(), path.c_str(), differences, error); });
 }
 inline Table Table::from_bytes(Bytes bytes) { return from_bytes(std::move(bytes), Limit(HV_TABLE_LIMIT)); }
 inline Table Table::from_bytes(Bytes bytes, Limit limit) {

@@ -18,6 +18,12 @@ struct GroupAnswer {
 
 namespace detail {
 
+// The logical type as a text of C, empty where it has a zero byte: it is none of Arrow then.
+inline std::string format_of_arrow(const NamedColumn &values) {
+    const std::string format = values.logical_type();
+    return format.find('\0') == format.npos ? format : "";
+}
+
 // Where groups of rows stop.
 struct Groups {
     hv_table_groups all = HV_TABLE_NO_GROUPS;
@@ -94,8 +100,8 @@ inline NamedColumn TableGroups::fold(const GroupAnswer &asked) const {
     if (asked.fold == Fold::rows) return {asked.name, sizes()};
     const NamedColumn &values = table.at(asked.column);
     const Column answers = detail::about_column(asked.column, [&] { return answer(values, asked.fold); });
-    const std::string format = values.logical_type();
-    if (asked.fold != Fold::sum && asked.fold != Fold::count) return {asked.name, answers, format};
+    if (asked.fold != Fold::sum && asked.fold != Fold::count) return {asked.name, answers, values.logical_type()};
+    const std::string format = detail::format_of_arrow(values);
     const uint8_t fold = static_cast<uint8_t>(asked.fold);
     return {asked.name, answers, hv_table_type_of_answer(values.column.raw(), format.c_str(), fold)};
 }
@@ -126,9 +132,7 @@ inline std::string words_of_fold(const NamedColumn &values, Fold by, int32_t ans
 } // namespace detail
 
 inline Column TableGroups::answer(const NamedColumn &values, Fold by) const {
-    // a text with a zero byte is not a format of Arrow
-    std::string format = values.logical_type();
-    if (format.find('\0') != std::string::npos) format = "";
+    const std::string format = detail::format_of_arrow(values);
     Column made;
     hv_error fields{};
     const int32_t answer = hv_table_ask(&initial_session(), &groups->all, values.column.raw(), format.c_str(),

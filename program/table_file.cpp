@@ -7,7 +7,7 @@ template <class Work> static auto of_file(const hv::StoredFile &file, Work work)
     try {
         return work();
     } catch (const hv::TableError &error) {
-        const bool is_named = error.number != HV_TABLE_NO_COLUMN, is_over = error.number == HV_TABLE_OVER_LIMIT;
+        const bool is_named = error.number != HV_TABLE_UNKNOWN_NAME, is_over = error.number == HV_TABLE_OVER_LIMIT;
         throw Failure((is_named ? "" : file.path() + ": ") + error.what() + (is_over ? " (--limit)" : ""));
     }
 }

@@ -307,7 +307,8 @@ static void check_appended(const Column &a, const Rows &left, const Column &b, c
     const hv::Table made = first.append(second);
     std::vector<Cell> due = both.left.cells;
     due.insert(due.end(), both.right.cells.begin(), both.right.cells.end());
-    const bool are_runs = a.form() != Form::flat && b.form() != Form::flat;
+    const bool is_one_kind = is_one_type && a.kind().nullable == b.kind().nullable; // which the library appends
+    const bool are_runs = is_one_kind || (a.form() != Form::flat && b.form() != Form::flat);
     check_column(made["price"], due, both.left.kind(), are_runs ? "runs" : "flat");
 }
 

@@ -10,11 +10,10 @@ using namespace cases;
 hv::Table sorted(const hv::Table &table, const Words &words) {
     std::vector<hv::SortKey> keys;
     for (size_t at = 0; at + 2 < words.size(); at += 3) {
-        if (words[at + 2] != words[2]) throw std::runtime_error("not served");
-        const bool is_descending = words[at + 1] == "descending";
-        keys.push_back({text_of(words[at]), is_descending ? hv::Order::descending : hv::Order::ascending});
+        const auto order = words[at + 1] == "descending" ? hv::Order::descending : hv::Order::ascending;
+        keys.push_back({text_of(words[at]), order, words[at + 2] == "last" ? hv::Nulls::last : hv::Nulls::first});
     }
-    return table.sort(keys, !words.empty() && words[2] == "last" ? hv::Nulls::last : hv::Nulls::first);
+    return table.sort(keys);
 }
 
 hv::Table grouped(const hv::Table &table, const Words &words) {

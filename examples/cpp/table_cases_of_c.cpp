@@ -1,48 +1,36 @@
-// Runs the cases of tables over hivevigil_table.h, the calls of C: `table_cases_of_c examples/corpus`. Columns go in
-// and out by C++; what no call of C does is skipped.
+// Runs the cases of tables over hivevigil_tables.h and the headers over it, the calls of C: `table_cases_of_c
+// examples/corpus`. Tables and columns go in and out by C++; what no call of C does is skipped.
 #include "table_cases.hpp"
+#include "hivevigil_table_concat.h"
 
 namespace {
 
 using namespace cases;
-
-// A table of C, which is freed.
-struct Table {
-    hv_table all = HV_TABLE_EMPTY;
-    ~Table() { hv_table_free(&all); }
-};
 
 const hv_session &session() { return hv::initial_session(); }
 
 // Calls, and throws where the call is refused.
 template <class Call> void ask(Call call) { hv::detail::ask(call); }
 
-void put(const hv::Table &table, Table &out) {
-    std::vector<std::string> names = table.names(), formats;
-    std::vector<const char *> texts, types;
-    std::vector<hv_column> columns;
-    for (const hv::NamedColumn &named : table) {
-        formats.push_back(named.logical_type());
-        columns.push_back(*named.column.raw());
-    }
-    for (size_t at = 0; at < names.size(); at++) {
-        if (names[at].size() != std::strlen(names[at].c_str())) throw std::runtime_error("not served");
-        texts.push_back(names[at].c_str()), types.push_back(formats[at].c_str());
-    }
-    ask([&](auto *error) {
-        return hv_table_new(texts.data(), types.data(), columns.data(), columns.size(), &out.all, error);
-    });
-    if (names.empty()) out.all.rows = table.rows();
+// What a call makes, shown.
+template <class Call> std::string made(Call call) {
+    hv::Table out;
+    ask([&](auto *error) { return call(out.raw(), error); });
+    return shown(out);
 }
 
-std::string shown(const Table &table) {
-    std::vector<hv::NamedColumn> columns;
-    for (size_t at = 0; at < table.all.count; at++) {
-        hv::Column column;
-        ask([&](auto *error) { return hv_clone(&table.all.columns[at], column.raw(), error); });
-        columns.emplace_back(table.all.names[at], std::move(column), table.all.logical_types[at]);
+hv::Column names_of(const Words &names) {
+    return hv::Column::texts(std::vector<std::string_view>(names.begin(), names.end()));
+}
+
+// Names as texts of C, which has none with a zero byte.
+std::vector<const char *> texts_of(const Words &names) {
+    std::vector<const char *> texts;
+    for (const std::string &name : names) {
+        if (name.size() != std::strlen(name.c_str())) throw std::runtime_error("not served");
+        texts.push_back(name.c_str());
     }
-    return cases::shown(hv::Table(std::move(columns), table.all.rows));
+    return texts;
 }
 
 // What rows are compared with, where a condition of C can say it of this column.
@@ -70,67 +58,71 @@ struct Condition {
     }
 };
 
-std::string sorted(const Table &table, const Words &words) {
+std::string sorted(const hv::Table &table, const Words &words) {
     Words names;
-    std::vector<hv_table_key> keys;
+    hv::Bytes flags;
     for (size_t at = 0; at + 2 < words.size(); at += 3) {
-        if (words[at + 2] != words[2]) throw std::runtime_error("not served");
-        names.push_back(text_of(words[at]));
+        const int order = words[at + 1] == "descending" ? HV_TABLE_DESCENDING : 0;
+        const int place = words[at + 2] == "last" ? HV_TABLE_NULLS_LAST : 0;
+        names.push_back(text_of(words[at])), flags.push_back(static_cast<uint8_t>(order | place));
     }
-    for (size_t at = 0; at < names.size(); at++)
-        keys.push_back({names[at].c_str(), static_cast<uint8_t>(words[3 * at + 1] == "descending")});
-    const uint8_t are_last = !words.empty() && words[2] == "last";
-    Table out;
-    ask([&](auto *error) {
-        return hv_table_sort(&session(), &table.all, keys.data(), keys.size(), are_last, &out.all, error);
+    const hv::Column keys = names_of(names);
+    return made([&](auto *out, auto *error) {
+        return hv_table_sort(table.raw(), keys.raw(), flags.data(), flags.size(), out, error);
     });
-    return shown(out);
 }
 
-std::string grouped(const Table &table, const Words &names, const Words &words) {
+std::string grouped(const hv::Table &table, const Words &names, const Words &words) {
     static const Words folds{"sum", "rows", "count", "least", "greatest", "first", "last"};
-    std::vector<const char *> keys;
+    const std::vector<const char *> texts = texts_of(names);
     std::vector<hv_table_answer> asked;
-    size_t at = 0;
-    for (; at < words.size() && words[at] != "/"; at++) keys.push_back(names[at].c_str());
-    for (; at < words.size(); at += asked.back().column ? 4 : 3) {
+    size_t keys = 0;
+    while (keys < words.size() && words[keys] != "/") keys++;
+    for (size_t at = keys; at < words.size(); at += asked.back().column ? 4 : 3) {
         const auto fold = static_cast<uint8_t>(std::find(folds.begin(), folds.end(), words[at + 2]) - folds.begin());
-        asked.push_back({names[at + 1].c_str(), fold, fold == HV_FOLD_ROWS ? nullptr : names[at + 3].c_str()});
+        asked.push_back({texts[at + 1], fold, fold == HV_FOLD_ROWS ? nullptr : texts[at + 3]});
     }
-    Table out;
-    ask([&](auto *error) {
-        return hv_table_group_by(&session(), &table.all, keys.data(), keys.size(), asked.data(), asked.size(), &out.all,
-                                 error);
+    return made([&](auto *out, auto *error) {
+        return hv_table_group_by(&session(), table.raw(), texts.data(), keys, asked.data(), asked.size(), out, error);
     });
-    return shown(out);
 }
 
-std::string read(const std::string &call, const Table &table, const hv::Table &of, const Words &names,
-                 const Words &words) {
-    Table out;
+std::string renamed(const hv::Table &table, const Words &names) {
+    const hv::Column from = names_of({names[0]}), to = names_of({names[1]});
+    return made(
+        [&](auto *out, auto *error) { return hv_table_rename(table.raw(), from.raw(), to.raw(), out, error); });
+}
+
+std::string with_column(const hv::Table &table, const std::string &name, const Words &words) {
+    const hv::NamedColumn named = column_of(name, words);
+    return made([&](auto *out, auto *error) {
+        const auto *const bytes = reinterpret_cast<const uint8_t *>(name.data());
+        const int32_t answer = hv_table_clone(table.raw(), out, error);
+        return answer ? answer : hv_table_put(out, bytes, name.size(), named.column.raw(), error);
+    });
+}
+
+std::string read(const std::string &call, const hv::Table &table, const Words &names, const Words &words) {
     if (call == "to_bytes") {
         hv_buffer bytes = HV_BUFFER_EMPTY;
-        ask([&](auto *error) { return hv_table_to_bytes(&table.all, !words.empty(), &bytes, error); });
+        ask([&](auto *error) { return hv_table_to_bytes(table.raw(), !words.empty(), &bytes, error); });
         const std::string word = hex_of({bytes.at, bytes.at + bytes.size});
         hv_buffer_free(&bytes);
         return word;
     }
     if (call == "from_bytes") {
         const hv::Bytes bytes = bytes_of(words[0]);
-        ask([&](auto *error) { return hv_table_from_bytes(bytes.data(), bytes.size(), &out.all, error); });
-        return shown(out);
+        return made(
+            [&](auto *out, auto *error) { return hv_table_from_bytes(bytes.data(), bytes.size(), out, error); });
     }
-    const std::string path = in_file(of);
-    if (call == "load") {
-        std::vector<const char *> texts;
-        for (const std::string &name : names) texts.push_back(name.c_str());
-        ask([&](auto *error) {
-            return hv_table_load_columns(path.c_str(), texts.data(), texts.size(), &out.all, error);
+    const std::string path = in_file(table);
+    const std::vector<const char *> texts = texts_of(names);
+    if (call == "load")
+        return made([&](auto *out, auto *error) {
+            return hv_table_load_columns(path.c_str(), texts.data(), texts.size(), out, error);
         });
-        return shown(out);
-    }
     hv_table_footer footer = HV_TABLE_FOOTER_EMPTY;
-    const Condition asked(names, words, of);
+    const Condition asked(names, words, table);
     uint8_t truth = 0;
     hv_error error{};
     int32_t answer = hv_table_load_footer(path.c_str(), &footer, &error);
@@ -140,36 +132,66 @@ std::string read(const std::string &call, const Table &table, const hv::Table &o
     return truth ? "true" : "false";
 }
 
-std::string answered(const std::string &call, const std::vector<hv::Table> &tables, const Words &words) {
+std::string some_rows(const std::string &call, const hv::Table &table, const Words &names, const Words &words) {
+    if (call == "slice") {
+        const size_t start = std::stoull(words[0]), stop = std::stoull(words[1]);
+        return made([&](auto *out, auto *error) { return hv_table_slice(table.raw(), start, stop, out, error); });
+    }
+    if (call == "filter_by") {
+        const Condition asked(names, words, table);
+        return made([&](auto *out, auto *error) {
+            return hv_table_filter_where(&session(), table.raw(), &asked.all, out, error);
+        });
+    }
+    const hv::Column column = column_of("", words).column.clone();
+    return made([&](auto *out, auto *error) {
+        return call == "take" ? hv_table_take(table.raw(), column.raw(), out, error)
+                              : hv_table_filter(table.raw(), column.raw(), out, error);
+    });
+}
+
+std::string asked_of(const std::string &call, const std::vector<hv::Table> &tables, const Words &words) {
     static const hv::Table none;
-    const hv::Table &of = tables.empty() ? none : tables[0];
+    const hv::Table &table = tables.empty() ? none : tables[0];
     Words names;
-    std::vector<const char *> texts;
-    Table table, other, out;
     for (const std::string &word : words) names.push_back(text_of(word));
-    for (const std::string &name : names) texts.push_back(name.c_str());
-    put(of, table);
+    if (call == "slice" || call == "take" || call == "filter" || call == "filter_by")
+        return some_rows(call, table, names, words);
     if (call == "sort") return sorted(table, words);
     if (call == "group_by") return grouped(table, names, words);
+    if (call == "rename") return renamed(table, names);
+    if (call == "put") return with_column(table, names[0], {words.begin() + 1, words.end()});
     if (call == "to_bytes" || call == "from_bytes" || call == "load" || call == "may_have")
-        return read(call, table, of, names, words);
-    if (call == "append") put(tables[1], other);
-    const bool is_by_column = call == "take" || call == "filter";
-    const hv::Column column = is_by_column ? column_of("", words).column.clone() : hv::Column();
-    ask([&](auto *error) -> int32_t {
-        if (call == "slice") {
-            const size_t start = std::stoull(words[0]), stop = std::stoull(words[1]);
-            return hv_table_slice(&session(), &table.all, start, stop, &out.all, error);
-        }
-        if (call == "take") return hv_table_take(&session(), &table.all, column.raw(), &out.all, error);
-        if (call == "filter") return hv_table_filter(&session(), &table.all, column.raw(), &out.all, error);
-        if (call == "append") return hv_table_append(&session(), &table.all, &other.all, &out.all, error);
-        if (call == "select") return hv_table_select(&table.all, texts.data(), texts.size(), &out.all, error);
-        if (call != "filter_by") throw skipped;
-        const Condition asked(names, words, of);
-        return hv_table_filter_by(&session(), &table.all, &asked.all, &out.all, error);
-    });
-    return shown(out);
+        return read(call, table, names, words);
+    if (call == "append")
+        return made([&](auto *out, auto *error) {
+            return hv_table_concat(&session(), table.raw(), tables[1].raw(), out, error);
+        });
+    if (call != "select") throw skipped;
+    const hv::Column texts = names_of(names);
+    return made([&](auto *out, auto *error) { return hv_table_select(table.raw(), texts.raw(), out, error); });
+}
+
+// The refusals of which C says more than other languages, as those have them.
+hv::Error in_other_languages(const hv::Error &error) {
+    const hv_error &fields = error.fields;
+    switch (error.number) {
+    case HV_TABLE_ROW_COUNT: return {HV_COLUMN_LENGTH, {fields.third, fields.second, 0}};
+    case HV_TABLE_NEW_NAME_TWICE: return {HV_TABLE_NAME_TWICE, fields};
+    case HV_TABLE_OTHER_NAMES: return {HV_TABLE_UNKNOWN_NAME, {}};
+    case HV_TABLE_OTHER_TYPE: return {HV_TYPE_MISMATCH, {}};
+    case HV_TABLE_NO_KEYS:
+    case HV_TABLE_KEY_OF_LISTS: return {HV_UNSUPPORTED, {}};
+    default: return error;
+    }
+}
+
+std::string answered(const std::string &call, const std::vector<hv::Table> &tables, const Words &words) {
+    try {
+        return asked_of(call, tables, words);
+    } catch (const hv::Error &error) {
+        throw in_other_languages(error);
+    }
 }
 
 } // namespace

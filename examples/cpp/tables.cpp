@@ -131,6 +131,8 @@ static void check_rows() {
     CHECK(rows_of(table.take(Column::of(maybe))["at"]) == (std::vector<Value>{int64_t{20}, Null{}}));
     CHECK(rows_of(table.filter(std::vector<bool>{true, false, false, false, true})["level"]) == numbers({900, 40}));
     CHECK(table.filter(table["level"].is_null()).rows() == 1);
+    CHECK(rows_of(table.drop_null()["at"]) == numbers({10, 20, 40, 50}) && table.drop_null({"at"}) == table);
+    CHECK(table.drop_null({"at", "level"}) == table.drop_null() && table.drop_null().at("at").logical_type() == "tts");
     const Table twice = table.append(table);
     CHECK(twice.rows() == 10 && rows_of(twice["at"]) == numbers({10, 20, 30, 40, 50, 10, 20, 30, 40, 50}));
     CHECK(twice.at("share").logical_type() == "g" && twice["price"].form() == hv::Form::runs);
@@ -150,6 +152,8 @@ static void check_order() {
     CHECK(rows_of(table.sort({{"station", hv::Order::descending}, "level"}, hv::Nulls::last)["at"]) ==
           numbers({50, 40, 30, 10, 20}));
     CHECK(rows_of(table.sort({"share"})["at"]) == numbers({20, 40, 10, 50, 30})); // NaN above all else
+    const Table own = table.sort({"station", {"level", hv::Order::ascending, hv::Nulls::last}}); // nulls of one key last
+    CHECK(rows_of(own["at"]) == numbers({10, 20, 50, 40, 30}) && own == table.sort({"station", "level"}, hv::Nulls::last));
     const Table same = table.sort({"at"});
     CHECK(same == table && same["price"].form() == hv::Form::runs);
     CHECK(table.sort({{"price", hv::Order::descending}})["price"].runs().size() == 2);
@@ -197,10 +201,15 @@ static void check_groups() {
                   [&] { groups.fold({"sum", Fold::sum, "at"}); });
     check_refused(HV_UNSUPPORTED, "column 'station': rows of utf8 have no sum",
                   [&] { groups.fold({"sum", Fold::sum, "station"}); });
-    check_refused(HV_TABLE_NO_COLUMN, no_to, [&] { groups.fold({"sum", Fold::sum, "to"}); });
+    check_refused(HV_TABLE_UNKNOWN_NAME, no_to, [&] { groups.fold({"sum", Fold::sum, "to"}); });
     check_refused(HV_TABLE_NAME_TWICE, "two columns have the name 'station'",
                   [&] { groups.agg({{"station", Fold::rows}}); });
     check_refused(HV_UNSUPPORTED, "at least one column has the keys", [&] { table.group_by({}); });
+    const std::string zero("g\0", 2); // none of Arrow, by which these are no floats
+    const hv::TableGroups odds = Table{{"key", {1, 1}}, {"number", {int64_t{5}, int64_t{6}}, zero}}.group_by({"key"});
+    const hv::NamedColumn total = odds.fold({"sum", Fold::sum, "number"});
+    CHECK(rows_of(total.column) == numbers({11}) && total.logical_type().empty());
+    CHECK(odds.fold({"least", Fold::least, "number"}).logical_type() == zero);
     const Table large{{"key", {1, 1, 2}}, {"number", {INT64_MAX, int64_t{1}, int64_t{1}}}};
     check_refused(HV_CAST_OUT_OF_RANGE, "column 'number': integer overflow: the sum of group 0 does not fit i64",
                   [&] { large.group_by({"key"}).fold({"sum", Fold::sum, "number"}); });
@@ -215,10 +224,10 @@ static void check_refusals() {
                   [] { Table{{"a", {1}}, {"b", {1}}, {"a", {1}}}; });
     check_refused(HV_TYPE_MISMATCH, "the name of a column is not UTF-8", [] { Table{{"\xff", {1}}}; });
     check_refused(HV_TYPE_MISMATCH, "column 'a': the logical type is not UTF-8", [] { Table{{"a", {1}, "\xff"}}; });
-    check_refused(HV_TABLE_NO_COLUMN, no_to, [&] { table["to"]; });
-    check_refused(HV_TABLE_NO_COLUMN, no_to, [&] { table.select({"at", "to"}); });
-    check_refused(HV_TABLE_NO_COLUMN, no_to, [&] { table.drop({"to"}); });
-    check_refused(HV_TABLE_NO_COLUMN, no_to, [&] { table.filter_by("to", ">", 1); });
+    check_refused(HV_TABLE_UNKNOWN_NAME, no_to, [&] { table["to"]; });
+    check_refused(HV_TABLE_UNKNOWN_NAME, no_to, [&] { table.select({"at", "to"}); });
+    check_refused(HV_TABLE_UNKNOWN_NAME, no_to, [&] { table.drop({"to"}); });
+    check_refused(HV_TABLE_UNKNOWN_NAME, no_to, [&] { table.filter_by("to", ">", 1); });
     check_refused(HV_TABLE_NAME_TWICE, "two columns have the name 'at'", [&] { table.select({"at", "at"}); });
     check_refused(HV_TABLE_NAME_TWICE, "two columns have the name 'at'", [&] { table.rename("level", "at"); });
     check_refused(HV_COLUMN_LENGTH, "column 'x' has 1 rows, and the table 5", [&] { table.with_column({"x", {1}}); });
@@ -232,19 +241,35 @@ static void check_refusals() {
                   [&] { table.filter_by("station", "<", 1); });
     check_refused(HV_TYPE_MISMATCH, "column 'station': utf8 is not compared with a float",
                   [&] { table.filter_by("station", "<", 1.5); });
-    check_refused(HV_TABLE_NO_COLUMN,
+    check_refused(HV_TABLE_UNKNOWN_NAME,
                   "no column has the name 'at': the names are 'station', 'level', 'price', 'share'",
                   [&] { table.append(table.drop({"at"})); });
-    check_refused(HV_TABLE_NO_COLUMN, "no column has the name 'x': the names are 'station', 'level', 'price', 'at', ...",
+    check_refused(HV_TABLE_UNKNOWN_NAME,
+                  "no column has the name 'x': the names are 'station', 'level', 'price', 'at', ...",
                   [&] { table.append(table.with_column({"x", {1, 2, 3, 4, 5}})); });
+    check_refused(HV_TABLE_UNKNOWN_NAME, no_to, [&] { table.drop_null({"to"}); });
+    check_refused(HV_TABLE_UNKNOWN_NAME, no_to, [&] { table.sort({"at", "to"}); });
+    const std::string odd = "\xff"; // no name of a column
+    CHECK(!table.contains(odd));
+    check_refused(HV_TABLE_UNKNOWN_NAME,
+                  "no column has the name '\xff': the names are 'station', 'level', 'price', 'at', ...",
+                  [&] { table.select({"at", odd}); });
+    check_refused(HV_TYPE_MISMATCH, "the name of a column is not UTF-8", [&] { table.rename("at", odd); });
+    check_refused(HV_TABLE_UNKNOWN_NAME, no_to, [&] { table.rename("to", odd); });
+    check_refused(HV_COLUMN_LENGTH, "column 'a' has 1 rows, and the table 0", [] {
+        std::vector<hv::NamedColumn> one;
+        one.emplace_back("a", Column::of({1}));
+        Table(std::move(one), 0);
+    });
+    check_refused(HV_NO_COLUMN, "column 'a' was moved away", [] { Table{{"a", Column()}}; });
     check_refused(HV_TYPE_MISMATCH, "column 'at': the logical types are 'tts' and ''",
                   [&] { table.append(table.with_column({"at", {1, 2, 3, 4, 5}})); });
     check_refused(HV_TYPE_MISMATCH, "column 'level': i64? is not joined with utf8",
                   [&] { table.append(table.with_column({"level", table["station"]})); });
     try {
         table["to"];
-    } catch (const hv::Error &error) { CHECK(std::string(error.name()) == "HV_TABLE_NO_COLUMN"); }
-    check_refused(HV_TABLE_NO_COLUMN, "no column has the name 'to': the table has none", [] { Table()["to"]; });
+    } catch (const hv::Error &error) { CHECK(std::string(error.name()) == "HV_TABLE_UNKNOWN_NAME"); }
+    check_refused(HV_TABLE_UNKNOWN_NAME, "no column has the name 'to': the table has none", [] { Table()["to"]; });
     CHECK(std::string(hv::TableError(HV_ARROW_STREAM_FAILED, {5, 0, 0}).name()) == "HV_ARROW_STREAM_FAILED");
     CHECK(table == copy && table.to_bytes() == before);
 }
@@ -257,7 +282,7 @@ static void check_many_rows() {
     check_refused(HV_WINDOW_OVERFLOW, said, [&] { most.append(one); });
     check_refused(HV_WINDOW_OVERFLOW, said, [&] { half.append(half); });
     const Table constants{{"a", Column::constant(hv::kinds::u8, uint64_t{7}, SIZE_MAX / 2 + 1)}};
-    check_refused(HV_WINDOW_OVERFLOW, std::string("column 'a': ") + said, [&] { constants.append(constants); });
+    check_refused(HV_WINDOW_OVERFLOW, said, [&] { constants.append(constants); });
 }
 
 // ---- Files ----
@@ -274,7 +299,7 @@ static void check_files() {
     const Table part = Table::load(path, {"level", "station"});
     CHECK(part.names() == (std::vector<std::string>{"level", "station"}) && part == table.select({"level", "station"}));
     CHECK(Table::load(path, std::vector<std::string>()).rows() == 5);
-    check_refused(HV_TABLE_NO_COLUMN, no_to, [&] { Table::load(path, {"at", "to"}); });
+    check_refused(HV_TABLE_UNKNOWN_NAME, no_to, [&] { Table::load(path, {"at", "to"}); });
     check_refused(HV_TABLE_NAME_TWICE, "two columns have the name 'at'", [&] { Table::load(path, {"at", "at"}); });
     const hv::TableFooter footer = Table::footer(path);
     CHECK(footer.rows == 5 && footer.columns.size() == 5 && footer["at"].logical_type == "tts");
@@ -284,7 +309,7 @@ static void check_files() {
     CHECK(!footer.may_have("level", Operator::greater, 903) && footer.may_have("level", Operator::greater, 902));
     CHECK(!footer.may_have("level", Operator::equal, 39) && footer.may_have("level", Operator::equal, 500));
     CHECK(!footer.may_have("station", Operator::less, "north") && footer.may_have("share", Operator::greater, 7));
-    check_refused(HV_TABLE_NO_COLUMN, no_to, [&] { footer["to"]; });
+    check_refused(HV_TABLE_UNKNOWN_NAME, no_to, [&] { footer["to"]; });
     check_refused(HV_TYPE_MISMATCH, "column 'share': a float is not compared with a text",
                   [&] { footer.may_have("share", Operator::equal, "north"); }); // of which a row is NaN
     { std::ofstream(path, std::ios::binary) << "no table"; }
