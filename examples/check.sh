@@ -94,8 +94,8 @@ wraps="-Wl,--wrap=malloc,--wrap=calloc,--wrap=realloc,--wrap=free"
 run "c/refused_memory.c" built "$cc" "$c_flags $level $wraps" examples/c/refused_memory.c
 run "c/formats.c" built "$cc" "$c_flags $level $wraps" examples/c/formats.c
 run "c/helpers.c" built "$cc" "$c_flags $level" examples/c/helpers.c
-run "c/frames.c" built "$cc" "$c_flags $level" examples/c/frames.c
-run "c/frames_memory.c" built "$cc" "$c_flags $level $wraps" examples/c/frames_memory.c
+run "c/tables.c" built "$cc" "$c_flags $level" examples/c/tables.c
+run "c/tables_memory.c" built "$cc" "$c_flags $level $wraps" examples/c/tables_memory.c
 if [ "$quick" ]; then
     has "$cxx" && run "cpp/demo.cpp" built "$cxx" "$cxx_flags -O0" examples/cpp/demo.cpp
     has "$python" && run "python/demo.py" timeout 60 "$python" examples/python/demo.py
@@ -131,8 +131,9 @@ run "c/arrow_memory.c" built "$cc" "$c_flags -O0 $wraps" examples/c/arrow_memory
 # broken messages, in the same way: a hundred thousand here, a million in nine seconds
 run "c/messages_broken.c$arrow_how" built "$cc" "$c_flags $arrow_flags $wraps" examples/c/messages_broken.c
 
-# decimals of two scales, and tables in C, also with each request for memory refused
-for test in decimal_scales tables table_order table_groups; do
+# tables, and, also with each request for memory refused, decimals of two scales and what headers add to tables
+for test in tables table_order; do run "c/$test.c$arrow_how" built "$cc" "$c_flags $arrow_flags" "examples/c/$test.c"; done
+for test in decimal_scales table_conditions table_groups table_arrow; do
     run "c/$test.c$arrow_how" built "$cc" "$c_flags $arrow_flags $wraps" "examples/c/$test.c"
 done
 table_files_read() {
@@ -156,7 +157,7 @@ if has valgrind; then
     for test in answers refusals lists builders arrow_arrays; do run "c/$test.c under valgrind" under_valgrind "$test"; done
     run "c/refused_memory.c under valgrind" under_valgrind refused_memory "$wraps"
     run "c/helpers.c under valgrind" under_valgrind helpers
-    run "c/frames_memory.c under valgrind" under_valgrind frames_memory "$wraps"
+    run "c/tables_memory.c under valgrind" under_valgrind tables_memory "$wraps"
 else
     skip "memory that is read and lost" valgrind
 fi
@@ -165,7 +166,8 @@ fi
 headers_alone() {
     warned="-Wall -Wextra -Wpedantic -Wshadow -Wconversion -Wno-string-conversion -Werror -Iinclude -fsyntax-only"
     for header in hivevigil hivevigil_errors hivevigil_helpers hivevigil_decimals hivevigil_arrow hivevigil_arrow_errors \
-        hivevigil_tables hivevigil_table hivevigil_table_errors hivevigil_table_order hivevigil_table_groups hivevigil_table_file hivevigil_stored_file; do
+        hivevigil_tables hivevigil_table_errors hivevigil_table_helpers hivevigil_table_conditions hivevigil_table_concat \
+        hivevigil_table_groups hivevigil_table_arrow hivevigil_table_file hivevigil_stored_file; do
         echo "#include <$header.h>" >"$work/alone.c"
         cp "$work/alone.c" "$work/alone.cpp"
         $cc -std=c99 $warned "$work/alone.c" && $cxx -std=c++17 $warned "$work/alone.cpp" || return 1
@@ -181,7 +183,7 @@ headers_alone() {
     printf '#include <hivevigil.hpp>\nint main() { hv::Column::of(std::vector<double>{1.5}); }\n' >"$work/refused.cpp"
     $cxx -std=c++17 -Iinclude -fsyntax-only "$work/refused.cpp" 2>"$work/said" && return 1
     grep -q "made by hv::Floats" "$work/said" || return 1
-    for test in demo numbers decimal_casts decimal_scales spans tables table_rows table_tool long_rows; do
+    for test in demo numbers decimal_casts decimal_scales spans tables tables_memory table_rows table_tool long_rows; do
         $cxx -std=c++17 $warned "examples/cpp/$test.cpp" && $cxx -std=c++20 $warned "examples/cpp/$test.cpp" || return 1
     done
     echo "those of C and C++, and what is made of their templates"
@@ -205,6 +207,7 @@ if has "$cxx"; then
     run "headers alone, with every warning" headers_alone
     run "the page of tables, in C++ and C" tables_page
     for test in demo numbers decimal_casts decimal_scales spans tables table_rows long_rows; do run "cpp/$test.cpp" built "$cxx" "$cxx_flags -O2" "examples/cpp/$test.cpp"; done
+    run "cpp/tables_memory.cpp" built "$cxx" "$cxx_flags -O0 $wraps" examples/cpp/tables_memory.cpp
     # the cases of tables, which Rust's and Python's tests run too
     for test in table_cases table_cases_of_c; do run "cpp/$test.cpp$arrow_how" table_cases_agree "$arrow_flags" $test; done
     run "cpp/spans.cpp in C++20" built "$cxx" "$cxx_flags -std=c++20 -O2" examples/cpp/spans.cpp

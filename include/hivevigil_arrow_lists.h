@@ -70,7 +70,8 @@ typedef struct hv_arrow_list_parts {
 static inline int32_t hv_arrow_read_part(int32_t (*call)(hv_column *, hv_column *, hv_error *), hv_column *column,
                                          uint64_t *numbers, size_t rows, hv_error *error) {
     hv_column part = HV_EMPTY;
-    int32_t answer = call(column, &part, error);
+    hv_error ignored;
+    int32_t answer = call(column, &part, error ? error : &ignored); /* an export, which writes the fields */
     if (!answer) answer = hv_read_u64(&part, 0, numbers, rows, error);
     hv_free(&part);
     return answer;

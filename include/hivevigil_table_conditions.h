@@ -1,9 +1,13 @@
-/* What rows of a table are compared with: a part of hivevigil_table.h, which includes it. Nothing here is proved. */
+/* What rows of a table are compared with, also numbers that are not of the column's type. A header only, C11 and C++17,
+ * over hivevigil_tables.h, whose hv_table_filter_by has values of the column's type; nothing here is proved.
+ *
+ *     const hv_table_condition high = {"level", HV_GE, NULL, NULL, 0, 42.5};
+ *     answer = hv_table_filter_where(&session, &table, &high, &found, &error);
+ */
 #ifndef HIVEVIGIL_TABLE_CONDITIONS_H
 #define HIVEVIGIL_TABLE_CONDITIONS_H
-#include "hivevigil_arrow.h"
 #include "hivevigil_decimals.h"
-#include "hivevigil_helpers.h"
+#include "hivevigil_table_formats.h"
 #include <math.h>
 #ifdef __cplusplus
 extern "C" {
@@ -21,11 +25,12 @@ typedef struct hv_table_condition {
     double number;
 } hv_table_condition;
 
-static inline bool hv_table_is_float(const hv_column *column, const char *logical_type) {
-    const uint8_t number = hv_kind_of(column).number;
-    const char letter = number == HV_I16 ? 'e' : number == HV_I32 ? 'f' : number == HV_I64 ? 'g' : 0;
-    return letter && logical_type[0] == letter && !logical_type[1];
-}
+/* The rows at which a condition holds, as hv_table_filter has them. HV_TABLE_UNKNOWN_NAME (0); HV_TYPE_MISMATCH for a
+ * value that the rows are not compared with; HV_UNSUPPORTED for lists; HV_BAD_NUMBER for no operator. */
+HV_ANSWER hv_table_filter_where(const hv_session *session, const hv_table *table, const hv_table_condition *condition,
+                                hv_table *out, hv_error *error);
+
+/* ---- Numbers of any type ---- */
 
 /* A number that rows are compared with: the greatest integer that is not above it, without its sign, and whether the
  * number is not this integer. What is past 64 bits lies past each of them, as 2^64 - 1 with a rest or its negative. */
@@ -122,15 +127,15 @@ static inline bool hv_table_is_of_integer(const hv_table_condition *condition) {
     return condition->value && (condition->value->kind == HV_UNSIGNED || condition->value->kind == HV_SIGNED);
 }
 
-/* Row by row of a column whether the condition holds, null where the row is. */
-static inline int32_t hv_table_mask(const hv_session *session, const hv_column *column, const char *logical_type,
+/* Row by row of a column with this format whether the condition holds, null where the row is. */
+static inline int32_t hv_table_mask(const hv_session *session, const hv_column *column, const char *format,
                                     const hv_table_condition *condition, hv_column *out, hv_error *error) {
     const hv_kind kind = hv_kind_of(column);
     const bool is_number = !condition->value || hv_table_is_of_integer(condition);
-    const bool is_float = hv_table_is_float(column, logical_type);
+    const bool is_float = hv_table_is_float(column, format);
     hv_table_condition asked = *condition;
     hv_value decided = {0, 0, HV_NULL, 0};
-    if (kind.number == HV_LIST) return hv_arrow_refuse(HV_UNSUPPORTED, 0, 0, error);
+    if (kind.number == HV_LIST) return hv_table_refuse(HV_UNSUPPORTED, 0, 0, error);
     if (is_float && is_number) {
         asked.operator_ = hv_table_decided_float(condition, &asked.number);
         return hv_table_compare_floats(column, asked.operator_, asked.number, out, error);
@@ -142,8 +147,22 @@ static inline int32_t hv_table_mask(const hv_session *session, const hv_column *
         asked.value = &decided;
     }
     if (!asked.value || (is_float && asked.value->kind != HV_NULL))
-        return hv_arrow_refuse(HV_TYPE_MISMATCH, 0, 0, error);
+        return hv_table_refuse(HV_TYPE_MISMATCH, 0, 0, error);
     return hv_compare_value(session, column, asked.operator_, asked.value, asked.text, asked.text_len, out, error);
+}
+
+HV_ANSWER hv_table_filter_where(const hv_session *session, const hv_table *table, const hv_table_condition *condition,
+                                hv_table *out, hv_error *error) {
+    hv_column column = HV_EMPTY, mask = HV_EMPTY;
+    hv_table_text format = HV_TABLE_NO_TEXT;
+    int32_t answer = hv_table_column_named(table, condition->column, &column, error);
+    if (!answer) answer = hv_table_format_of(&column, &format, error);
+    if (!answer) answer = hv_table_mask(session, &column, hv_table_format_in(&format), condition, &mask, error);
+    if (!answer) answer = hv_table_filter(table, &mask, out, error);
+    free(format.at);
+    hv_free(&column);
+    hv_free(&mask);
+    return answer;
 }
 
 #ifdef __cplusplus

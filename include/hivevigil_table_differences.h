@@ -4,6 +4,7 @@
 #ifndef HIVEVIGIL_TABLE_DIFFERENCES_H
 #define HIVEVIGIL_TABLE_DIFFERENCES_H
 #include "hivevigil_table_messages.h"
+#include "hivevigil_table_runs.h"
 #ifdef __cplusplus
 extern "C" {
 #endif

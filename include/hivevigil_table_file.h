@@ -1,5 +1,5 @@
 /* Tables in C in files: the messages of their columns and a footer, as docs/table.proto and docs/BYTES.md say it. A
- * header only, C11 and C++17, POSIX, over hivevigil_table.h; nothing here is proved.
+ * header only, C11 and C++17, POSIX, over hivevigil_tables.h; nothing here is proved.
  *
  *     answer = hv_table_save(&table, "readings.hv", 0, &error);
  *     answer = hv_table_load_columns("readings.hv", names, 2, &part, &error);
@@ -17,6 +17,7 @@
 #ifndef HIVEVIGIL_TABLE_FILE_H
 #define HIVEVIGIL_TABLE_FILE_H
 #include "hivevigil_table_footer.h"
+#include "hivevigil_table_conditions.h"
 #ifdef __cplusplus
 extern "C" {
 #endif
@@ -28,8 +29,7 @@ extern "C" {
  * integers as the differences of its rows where that is shorter, and version 2 where one is. 13 for a column of more
  * than 16 levels of runs. */
 HV_ANSWER hv_table_to_bytes(const hv_table *table, uint8_t differences, hv_buffer *out, hv_error *error);
-/* The table that was written so, each column in its form; 17, 204, else 13 for a name or a logical type with a zero
- * byte, which C's texts do not have. */
+/* The table that was written so, each column in its form; 17, 204. */
 HV_ANSWER hv_table_from_bytes(const uint8_t *bytes, size_t size, hv_table *out, hv_error *error);
 /* The same within another limit. */
 HV_ANSWER hv_table_from_bytes_within(const uint8_t *bytes, size_t size, uint64_t limit, hv_table *out,
@@ -38,7 +38,8 @@ HV_ANSWER hv_table_from_bytes_within(const uint8_t *bytes, size_t size, uint64_t
 HV_ANSWER hv_table_save(const hv_table *table, const char *path, uint8_t differences, hv_error *error);
 /* The table of a file; 203, and as hv_table_from_bytes. */
 HV_ANSWER hv_table_load(const char *path, hv_table *out, hv_error *error);
-/* Its columns of these names, in this order, which are read without the others; also 202 (place, place) and 201. */
+/* Its columns of these names, in this order, which are read without the others; also HV_TABLE_NAME_TWICE (place, place)
+ * and HV_TABLE_UNKNOWN_NAME (place). */
 HV_ANSWER hv_table_load_columns(const char *path, const char *const *names, size_t count, hv_table *out,
                                 hv_error *error);
 /* The same within another limit; all columns where `names` is null. */
@@ -46,8 +47,9 @@ HV_ANSWER hv_table_load_within(const char *path, const char *const *names, size_
                                hv_error *error);
 /* What the end of a file says, where no column is read. */
 HV_ANSWER hv_table_load_footer(const char *path, hv_table_footer *out, hv_error *error);
-/* Whether a condition may hold for a row, as hv_table_filter_by has it: where not (0), the column need not be read.
- * 201; 12 for a value that is not of the column's type; 23 for no operator. Lists may have any row. */
+/* Whether a condition may hold for a row, as hv_table_filter_where has it: where not (0), the column need not be read.
+ * HV_TABLE_UNKNOWN_NAME (0); HV_TYPE_MISMATCH for a value that the rows are not compared with; HV_BAD_NUMBER for no
+ * operator. Lists may have any row. */
 HV_ANSWER hv_table_may_have(const hv_session *session, const hv_table_footer *footer,
                             const hv_table_condition *condition, uint8_t *truth, hv_error *error);
 
@@ -115,15 +117,18 @@ static inline int32_t hv_table_put_parts(hv_buffer *out, const hv_table_part *pa
 
 HV_ANSWER hv_table_to_bytes(const hv_table *table, uint8_t differences, hv_buffer *out, hv_error *error) {
     hv_buffer made = HV_BUFFER_EMPTY;
+    hv_table_columns held = HV_TABLE_NO_COLUMNS;
     hv_table_part *parts = NULL;
-    int32_t answer = hv_table_memory(table->count, sizeof *parts, &parts, error);
-    for (size_t i = 0; !answer && i < table->count; i++) {
-        parts[i].name = hv_table_span_of(table->names[i]);
-        parts[i].logical_type = hv_table_span_of(table->logical_types[i]);
-        parts[i].column = &table->columns[i];
+    int32_t answer = hv_table_columns_of(table, &held, error);
+    if (!answer) answer = hv_table_memory(held.count, sizeof *parts, &parts, error);
+    for (size_t i = 0; !answer && i < held.count; i++) {
+        parts[i].name = hv_table_span_in(&held.names[i]);
+        parts[i].logical_type = hv_table_span_in(&held.formats[i]);
+        parts[i].column = &held.columns[i];
     }
-    if (!answer) answer = hv_table_put_parts(&made, parts, table->count, table->rows, differences != 0, error);
+    if (!answer) answer = hv_table_put_parts(&made, parts, held.count, hv_table_len(table), differences != 0, error);
     free(parts);
+    hv_table_columns_free(&held);
     if (answer) return hv_buffer_free(&made), answer;
     hv_buffer_free(out);
     *out = made;
@@ -186,56 +191,58 @@ static inline int32_t hv_table_column_at(const hv_stored_file *file, const hv_ta
     return answer;
 }
 
-/* Has a name or a logical type a zero byte? */
-static inline bool hv_table_has_zero(const hv_column_footer *known) {
-    return strlen(known->name) != known->name_size || strlen(known->logical_type) != known->logical_type_size;
-}
-
-/* Adds a column of a file to a table of room. */
-static inline int32_t hv_table_add_stored(hv_table *made, const hv_stored_file *file, const hv_table_footer *footer,
+/* Puts a column of a file into a table, under its name and its format. */
+static inline int32_t hv_table_put_stored(hv_table *made, const hv_stored_file *file, const hv_table_footer *footer,
                                           size_t place, hv_error *error) {
     const hv_column_footer *const known = &footer->columns[place];
     hv_column column = HV_EMPTY;
     int32_t answer = hv_table_column_at(file, footer, place, &column, error);
-    if (!answer) answer = hv_table_add(made, known->name, known->logical_type, &column, error);
+    if (!answer) answer = hv_table_give_format(&column, known->logical_type, known->logical_type_size, error);
+    if (!answer) answer = hv_table_put(made, (const uint8_t *)known->name, known->name_size, &column, error);
     hv_free(&column);
     return answer;
+}
+
+/* 202 (place, place) for a name that is given twice. */
+static inline int32_t hv_table_check_twice(const char *const *names, size_t count, hv_error *error) {
+    for (size_t i = 0; i < count; i++)
+        for (size_t before = 0; before < i; before++)
+            if (strcmp(names[before], names[i]) == 0)
+                return hv_table_refuse(HV_TABLE_NAME_TWICE, before, i, error);
+    return HV_OK;
 }
 
 /* The places of the columns of these names, or, where `names` is null, of all, in memory of malloc; 202, 201. */
 static inline int32_t hv_table_places(const hv_table_footer *footer, const char *const *names, size_t count,
                                       size_t **places, hv_error *error) {
     int32_t answer = hv_table_memory(count, sizeof **places, places, error);
-    if (!answer && names) answer = hv_table_check_names(names, count, error);
+    if (!answer && names) answer = hv_table_check_twice(names, count, error);
     for (size_t i = 0; !answer && i < count; i++) {
         (*places)[i] = i;
         if (names) answer = hv_table_find_footer(footer, names[i], &(*places)[i], error);
+        if (answer) hv_table_refuse(answer, i, 0, error);
     }
     return answer;
 }
 
-/* The columns of these names of a file that is open, or, where `names` is null, all, within a limit; 13 for a text with
- * a zero byte. */
+/* The columns of these names of a file that is open, or, where `names` is null, all, within a limit. */
 static inline int32_t hv_table_of_file(const hv_stored_file *file, const char *const *names, size_t count,
                                        uint64_t limit, hv_table *out, hv_error *error) {
     hv_table_footer footer = HV_TABLE_FOOTER_EMPTY;
-    hv_table made = HV_TABLE_EMPTY;
+    hv_table made = HV_EMPTY;
     size_t *places = NULL;
-    bool has_zero = false;
     int32_t answer = hv_table_footer_of(file, &footer, error);
     const size_t columns = names ? count : footer.count;
     if (!answer) answer = hv_table_places(&footer, names, columns, &places, error);
     if (!answer) answer = hv_table_check_limit(&footer, places, columns, limit, error);
-    if (!answer) answer = hv_table_room(&made, columns, error);
-    made.rows = footer.rows;
-    for (size_t i = 0; !answer && i < columns; i++) {
-        answer = hv_table_add_stored(&made, file, &footer, places[i], error);
-        has_zero |= hv_table_has_zero(&footer.columns[places[i]]);
-    }
-    if (has_zero && !answer) answer = hv_table_unserved(HV_TABLE_WITH_ZERO_BYTE, error);
+    if (!answer) answer = hv_table_new(footer.rows, &made, error);
+    for (size_t i = 0; !answer && i < columns; i++)
+        answer = hv_table_put_stored(&made, file, &footer, places[i], error);
+    if (!answer) hv_table_replace(out, &made);
     free(places);
     hv_table_footer_free(&footer);
-    return hv_table_done(answer, &made, out);
+    hv_table_free(&made);
+    return answer;
 }
 
 HV_ANSWER hv_table_from_bytes_within(const uint8_t *bytes, size_t size, uint64_t limit, hv_table *out,
@@ -311,14 +318,16 @@ HV_ANSWER hv_table_may_have(const hv_session *session, const hv_table_footer *fo
     if (answer) return answer;
     const hv_column_footer *const known = &footer->columns[place];
     const hv_column *bounds = &known->bounds;
+    const bool has_zero = strlen(known->logical_type) != known->logical_type_size;
+    const char *const format = has_zero ? "" : known->logical_type; /* none of Arrow */
     *truth = 1;
     if (hv_is_empty(bounds)) return HV_OK;
     /* NaN is unequal to all, and no bound of the numbers next to it */
-    if (condition->operator_ != HV_NE && hv_table_is_float(bounds, known->logical_type))
+    if (condition->operator_ != HV_NE && hv_table_is_float(bounds, format))
         answer = hv_table_has_nan(bounds, &has_nan, error);
     if (!answer && has_nan) answer = hv_table_number_bounds(bounds, &numbers, error);
     if (has_nan) bounds = &numbers;
-    if (!answer) answer = hv_table_may_hold(session, bounds, known->logical_type, condition, truth, error);
+    if (!answer) answer = hv_table_may_hold(session, bounds, format, condition, truth, error);
     hv_free(&numbers);
     return answer;
 }

@@ -64,18 +64,17 @@ static inline int32_t hv_table_check_limit(const hv_table_footer *footer, const 
         const uint64_t more = hv_table_kept_bytes(footer, &footer->columns[places ? places[i] : i]);
         bytes = more > UINT64_MAX - bytes ? UINT64_MAX : bytes + more;
     }
-    return bytes <= limit ? HV_OK : hv_arrow_refuse(HV_TABLE_OVER_LIMIT, bytes, limit, error);
+    return bytes <= limit ? HV_OK : hv_table_refuse(HV_TABLE_OVER_LIMIT, bytes, limit, error);
 }
 
-/* The place of a column by its name; 201. */
+/* The place of a column by its name; 201 (0). */
 static inline int32_t hv_table_find_footer(const hv_table_footer *footer, const char *name, size_t *place,
                                            hv_error *error) {
     for (*place = 0; *place < footer->count; ++*place) {
         const hv_column_footer *const known = &footer->columns[*place];
         if (strlen(name) == known->name_size && memcmp(name, known->name, known->name_size) == 0) return HV_OK;
     }
-    hv_arrow_refuse(HV_OK, 0, 0, error);
-    return HV_TABLE_NO_COLUMN;
+    return hv_table_refuse(HV_TABLE_UNKNOWN_NAME, 0, 0, error);
 }
 
 /* ---- Written ---- */

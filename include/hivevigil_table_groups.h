@@ -1,4 +1,4 @@
-/* What is asked of the groups of a table in C. A header only, C11 and C++17, over hivevigil_table.h; nothing here is
+/* What is asked of the groups of a table in C. A header only, C11 and C++17, over hivevigil_tables.h; nothing here is
  * proved.
  *
  *     const char *const keys[] = {"station"};
@@ -7,7 +7,8 @@
  */
 #ifndef HIVEVIGIL_TABLE_GROUPS_H
 #define HIVEVIGIL_TABLE_GROUPS_H
-#include "hivevigil_table_order.h"
+#include "hivevigil_table_formats.h"
+#include "hivevigil_table_ranks.h"
 #ifdef __cplusplus
 extern "C" {
 #endif
@@ -28,14 +29,40 @@ typedef struct hv_table_answer {
  * counts in u64; the least, greatest, first or last value of all but lists: texts by their bytes, false below true, and
  * floats in their total order, where the least and the greatest leave NaN out as they do null.
  *
- * 13 for no key, then for names of `out` 12 where one is not UTF-8 and 202 (place, place) for one twice, 201, 13 for a
- * key of lists; then of the first answer that is refused 201, 13 where the column is not asked this, as a text is not
- * for its sum, 14 (group, from 0) for the first sum that does not fit, 23 for no fold. */
+ * HV_TABLE_NO_KEYS, then for names of `out` HV_TYPE_MISMATCH where one is not UTF-8 and HV_TABLE_NAME_TWICE (place,
+ * place), HV_TABLE_UNKNOWN_NAME (key), HV_TABLE_KEY_OF_LISTS (key); then of the first answer that is refused
+ * HV_TABLE_UNKNOWN_NAME (0), HV_UNSUPPORTED where the column is not asked this, as a text is not for its sum,
+ * HV_CAST_OUT_OF_RANGE (group, from 0) for the first sum that does not fit, HV_BAD_NUMBER for no fold. */
 HV_ANSWER hv_table_group_by(const hv_session *session, const hv_table *table, const char *const *keys,
                             size_t key_count, const hv_table_answer *answers, size_t answer_count, hv_table *out,
                             hv_error *error);
 
 /* ---- Groups ---- */
+
+/* Stops of runs, which rise. */
+typedef struct hv_table_stop_list {
+    size_t count;
+    uint64_t *stops;
+} hv_table_stop_list;
+
+/* The stops of a list and others, each once, in place of the list. */
+static inline int32_t hv_table_add_stops(hv_table_stop_list *list, const uint64_t *others, size_t count,
+                                         hv_error *error) {
+    uint64_t *both = NULL;
+    const int32_t answer = hv_table_memory(list->count + count, sizeof *both, &both, error);
+    if (answer) return answer;
+    size_t made = 0;
+    for (size_t own = 0, other = 0; own < list->count || other < count; made++) {
+        const bool is_own = other == count || (own < list->count && list->stops[own] <= others[other]);
+        both[made] = is_own ? list->stops[own] : others[other];
+        if (own < list->count && list->stops[own] == both[made]) own++;
+        if (other < count && others[other] == both[made]) other++;
+    }
+    free(list->stops);
+    list->stops = both;
+    list->count = made;
+    return HV_OK;
+}
 
 /* Where each group stops, and a column of all rows with one run for each group. */
 typedef struct hv_table_groups {
@@ -154,59 +181,12 @@ static inline int32_t hv_table_count_values(const hv_session *session, const hv_
 
 /* ---- Least, greatest, first and last ---- */
 
-/* The place of each run's value among the distinct ones, from 0, and a row of each of these, for hv_table_ranks. */
-typedef struct hv_table_ranking {
-    size_t count; /* of distinct values */
-    uint64_t *ranks, *rows;
-} hv_table_ranking;
-
-static inline int32_t hv_table_rank(const hv_table_order *order, hv_table_ranking *out, hv_error *error) {
-    const hv_table_runs *const runs = &order->keys->runs;
-    size_t *sorted = NULL;
-    int32_t answer = hv_table_sorted(order, runs->count, &sorted, error);
-    if (!answer) answer = hv_table_memory(runs->count, sizeof *out->ranks, &out->ranks, error);
-    if (!answer) answer = hv_table_memory(runs->count, sizeof *out->rows, &out->rows, error);
-    for (size_t at = 0; !answer && at < runs->count; at++) { /* nulls come first */
-        const size_t run = sorted[at];
-        if (!hv_table_bit(runs->valid, run)) continue;
-        const bool is_new = out->count == 0 || hv_table_compare_stretches(order, sorted[at - 1], run) != 0;
-        if (is_new) out->rows[out->count++] = run ? runs->stops[run - 1] : 0;
-        out->ranks[run] = out->count - 1;
-    }
-    free(sorted);
-    return answer;
-}
-
-/* For each row the place of its value among the distinct ones in order, null where the row is; and these values. */
-static inline int32_t hv_table_ranks(const hv_session *session, const hv_column *column, hv_column *places,
-                                     hv_column *values, hv_error *error) {
-    hv_table_order_key key;
-    const hv_table_order order = {1, &key, false};
-    hv_table_ranking ranking = {0, NULL, NULL};
-    hv_column numbers = HV_EMPTY, rows = HV_EMPTY;
-    memset(&key, 0, sizeof key);
-    int32_t answer = hv_table_runs_of(column, &key.runs, error);
-    const size_t count = key.runs.count;
-    if (!answer) answer = hv_table_rank(&order, &ranking, error);
-    const hv_validity valid = hv_valid_bits((const uint8_t *)key.runs.valid, (count + 63) / 64 * 8, 0);
-    if (!answer) answer = hv_u64(ranking.ranks, count, valid, &numbers, error);
-    if (!answer) answer = hv_table_in_runs(key.runs.stops, &numbers, count, places, error);
-    if (!answer) answer = hv_u64(ranking.rows, ranking.count, hv_not_nullable(), &rows, error);
-    if (!answer) answer = hv_take(session, column, &rows, values, error);
-    hv_table_runs_free(&key.runs);
-    free(ranking.ranks);
-    free(ranking.rows);
-    hv_free(&numbers);
-    hv_free(&rows);
-    return answer;
-}
-
 /* A value of each group: of other values than integers by their places; 13 for lists. */
 static inline int32_t hv_table_choose(const hv_session *session, const hv_table_groups *groups,
                                       const hv_column *column, uint8_t fold, hv_column *out, hv_error *error) {
     hv_column places = HV_EMPTY, values = HV_EMPTY, chosen = HV_EMPTY;
     if (hv_table_is_integer(column)) return hv_table_fold(groups, column, fold, out, error);
-    int32_t answer = hv_table_ranks(session, column, &places, &values, error);
+    int32_t answer = hv_table_ranks(column, &places, &values, error);
     if (!answer) answer = hv_table_fold(groups, &places, fold, &chosen, error);
     if (!answer) answer = hv_take(session, &values, &chosen, out, error);
     hv_free(&places);
@@ -286,7 +266,7 @@ static inline int32_t hv_table_each_sum(const hv_session *session, const hv_tabl
         bool is_valid = false;
         answer = hv_slice(session, column, start, stop, &part, error);
         if (!answer) answer = work(&part, &out->totals[group], &is_valid, error);
-        if (answer == HV_CAST_OUT_OF_RANGE) hv_arrow_refuse(answer, group, 0, error);
+        if (answer == HV_CAST_OUT_OF_RANGE) hv_table_refuse(answer, group, 0, error);
         if (is_valid) out->valid[group / 8] = (uint8_t)(out->valid[group / 8] | 1u << group % 8);
         out->is_any_null |= !is_valid;
         hv_free(&part);
@@ -339,7 +319,7 @@ static inline int32_t hv_table_add_up_floats(const hv_session *session, const hv
 
 /* ---- Answers ---- */
 
-/* What is asked of a column of a logical type in each group. */
+/* What is asked of a column under a format in each group. */
 static inline int32_t hv_table_ask(const hv_session *session, const hv_table_groups *groups, const hv_column *column,
                                    const char *format, uint8_t fold, hv_column *out, hv_error *error) {
     const bool is_float = hv_table_is_float(column, format);
@@ -350,11 +330,15 @@ static inline int32_t hv_table_ask(const hv_session *session, const hv_table_gro
     if (is_float) return hv_table_add_up_floats(session, groups, column, out, error);
     if (hv_kind_of(column).number == HV_DECIMAL) return hv_table_add_up(session, groups, column, out, error);
     const bool is_time = hv_table_is_logical_type(format) && format[0] == 't' && format[1] != 'D';
-    if (is_time || !hv_table_is_integer(column)) return hv_table_unserved(HV_TABLE_WITHOUT_SUM, error);
+    if (is_time || !hv_table_is_integer(column)) {
+        hv_table_refuse(HV_OK, 0, 0, error);
+        if (error) error->third = HV_TABLE_WITHOUT_SUM;
+        return HV_UNSUPPORTED;
+    }
     return hv_table_fold(groups, column, HV_FOLD_SUM, out, error);
 }
 
-/* The logical type of an answer; a sum keeps only that of durations, and has none under formats that nobody serves. */
+/* The format of an answer; a sum keeps only that of durations, and has none under formats that nobody serves. */
 static inline const char *hv_table_type_of_answer(const hv_column *column, const char *format, uint8_t fold) {
     const bool is_duration = hv_table_is_logical_type(format) && strncmp(format, "tD", 2) == 0;
     if (fold == HV_FOLD_ROWS || fold == HV_FOLD_COUNT) return "";
@@ -362,70 +346,99 @@ static inline const char *hv_table_type_of_answer(const hv_column *column, const
     return hv_table_is_float(column, format) ? "g" : "";
 }
 
-static inline int32_t hv_table_add_answer(const hv_session *session, const hv_table *table,
-                                          const hv_table_groups *groups, const hv_table_answer *asked, hv_table *made,
-                                          hv_error *error) {
-    hv_column column = HV_EMPTY;
-    const char *type = "";
-    size_t place = 0;
-    int32_t answer = HV_OK;
-    if (asked->fold == HV_FOLD_ROWS) {
-        answer = hv_table_count_rows(groups, table->rows, &column, error);
-    } else {
-        answer = hv_table_find(table, asked->column, &place, error);
-        const hv_column *const values = answer ? NULL : &table->columns[place];
-        if (!answer) type = hv_table_type_of_answer(values, table->logical_types[place], asked->fold);
-        if (!answer)
-            answer = hv_table_ask(session, groups, values, table->logical_types[place], asked->fold, &column, error);
-    }
-    if (!answer) answer = hv_table_add(made, asked->name, type, &column, error);
-    hv_free(&column);
+/* Gives an answer its format, which a value of the group has from the column. */
+static inline int32_t hv_table_format_answer(const hv_column *values, const hv_table_text *format, uint8_t fold,
+                                             hv_column *answers, hv_error *error) {
+    if (fold != HV_FOLD_SUM && fold != HV_FOLD_COUNT)
+        return hv_table_give_format(answers, format->at, format->size, error);
+    const char *const type = hv_table_type_of_answer(values, hv_table_format_in(format), fold);
+    return hv_table_give_format(answers, type, strlen(type), error);
+}
+
+/* An answer of each group, under its format. */
+static inline int32_t hv_table_answer_of(const hv_session *session, const hv_table *table,
+                                         const hv_table_groups *groups, const hv_table_answer *asked, hv_column *out,
+                                         hv_error *error) {
+    hv_column values = HV_EMPTY;
+    hv_table_text format = HV_TABLE_NO_TEXT;
+    if (asked->fold == HV_FOLD_ROWS) return hv_table_count_rows(groups, hv_table_len(table), out, error);
+    int32_t answer = hv_table_column_named(table, asked->column, &values, error);
+    if (!answer) answer = hv_table_format_of(&values, &format, error);
+    if (!answer)
+        answer = hv_table_ask(session, groups, &values, hv_table_format_in(&format), asked->fold, out, error);
+    if (!answer) answer = hv_table_format_answer(&values, &format, asked->fold, out, error);
+    free(format.at);
+    hv_free(&values);
     return answer;
 }
 
-/* The columns of keys, then the answers, in a table of room. */
-static inline int32_t hv_table_answers(const hv_session *session, const hv_table *table, const hv_table *keys,
-                                       const hv_table_groups *groups, const hv_table_answer *asked, size_t count,
-                                       hv_table *made, hv_error *error) {
-    int32_t answer = HV_OK;
-    made->rows = groups->list.count;
-    for (size_t i = 0; !answer && i < keys->count; i++) {
+/* The key of each group under the names of their columns, then the answers. */
+static inline int32_t hv_table_answers(const hv_session *session, const hv_table *table, const char *const *names,
+                                       const hv_column *keys, size_t key_count, const hv_table_groups *groups,
+                                       const hv_table_answer *asked, size_t count, hv_table *made, hv_error *error) {
+    int32_t answer = hv_table_new(groups->list.count, made, error);
+    for (size_t i = 0; !answer && i < key_count + count; i++) {
         hv_column column = HV_EMPTY;
-        answer = hv_table_key_of(session, groups, &keys->columns[i], &column, error);
-        if (!answer) answer = hv_table_add(made, keys->names[i], keys->logical_types[i], &column, error);
+        const bool is_key = i < key_count;
+        answer = is_key ? hv_table_key_of(session, groups, &keys[i], &column, error)
+                        : hv_table_answer_of(session, table, groups, &asked[i - key_count], &column, error);
+        if (!answer) answer = hv_table_put_named(made, is_key ? names[i] : asked[i - key_count].name, &column, error);
         hv_free(&column);
     }
-    for (size_t i = 0; !answer && i < count; i++)
-        answer = hv_table_add_answer(session, table, groups, &asked[i], made, error);
     return answer;
 }
 
-/* 202 for a name twice among keys and answers. */
+/* 12 for a name of keys or answers that is not UTF-8, 202 (place, place) for one twice, as hv_table_select says it of a
+ * table without columns before it looks for them. */
 static inline int32_t hv_table_check_answers(const char *const *keys, size_t key_count, const hv_table_answer *answers,
                                              size_t answer_count, hv_error *error) {
     const char **names = NULL;
+    hv_column texts = HV_EMPTY;
+    hv_table none = HV_EMPTY, chosen = HV_EMPTY;
     int32_t answer = hv_table_memory(key_count + answer_count, sizeof *names, &names, error);
     for (size_t i = 0; !answer && i < key_count + answer_count; i++)
         names[i] = i < key_count ? keys[i] : answers[i - key_count].name;
-    if (!answer) answer = hv_table_check_names(names, key_count + answer_count, error);
+    if (!answer) answer = hv_table_names(names, key_count + answer_count, &texts, error);
+    if (!answer) answer = hv_table_new(0, &none, error);
+    if (!answer) answer = hv_table_select(&none, &texts, &chosen, error);
     free(names);
+    hv_free(&texts);
+    hv_table_free(&none);
+    return answer == HV_TABLE_UNKNOWN_NAME ? HV_OK : answer;
+}
+
+/* The columns of keys, in memory of the caller; 201 (key), 212 (key). */
+static inline int32_t hv_table_keys_of(const hv_table *table, const char *const *names, hv_column *keys, size_t count,
+                                       hv_error *error) {
+    int32_t answer = HV_OK;
+    for (size_t i = 0; !answer && i < count; i++) {
+        answer = hv_table_column_named(table, names[i], &keys[i], error);
+        if (answer == HV_TABLE_UNKNOWN_NAME) hv_table_refuse(answer, i, 0, error);
+    }
+    for (size_t i = 0; !answer && i < count; i++)
+        if (hv_kind_of(&keys[i]).number == HV_LIST) answer = hv_table_refuse(HV_TABLE_KEY_OF_LISTS, i, 0, error);
     return answer;
 }
 
 HV_ANSWER hv_table_group_by(const hv_session *session, const hv_table *table, const char *const *keys,
                             size_t key_count, const hv_table_answer *answers, size_t answer_count, hv_table *out,
                             hv_error *error) {
-    hv_table by = HV_TABLE_EMPTY, made = HV_TABLE_EMPTY;
+    hv_table made = HV_EMPTY;
+    hv_column *by = NULL;
     hv_table_groups groups = HV_TABLE_NO_GROUPS;
-    if (key_count == 0) return hv_table_unserved(HV_TABLE_WITHOUT_KEYS, error);
+    if (key_count == 0) return hv_table_refuse(HV_TABLE_NO_KEYS, 0, 0, error);
     int32_t answer = hv_table_check_answers(keys, key_count, answers, answer_count, error);
-    if (!answer) answer = hv_table_select(table, keys, key_count, &by, error);
-    if (!answer) answer = hv_table_groups_of(by.columns, by.count, &groups, error);
-    if (!answer) answer = hv_table_room(&made, key_count + answer_count, error);
-    if (!answer) answer = hv_table_answers(session, table, &by, &groups, answers, answer_count, &made, error);
+    if (!answer) answer = hv_table_memory(key_count, sizeof *by, &by, error);
+    if (!answer) answer = hv_table_keys_of(table, keys, by, key_count, error);
+    if (!answer) answer = hv_table_groups_of(by, key_count, &groups, error);
+    if (!answer)
+        answer = hv_table_answers(session, table, keys, by, key_count, &groups, answers, answer_count, &made, error);
+    if (!answer) hv_table_replace(out, &made);
+    for (size_t i = 0; by && i < key_count; i++) hv_free(&by[i]);
+    free(by);
     hv_table_groups_free(&groups);
-    hv_table_free(&by);
-    return hv_table_done(answer, &made, out);
+    hv_table_free(&made);
+    return answer;
 }
 
 #ifdef __cplusplus

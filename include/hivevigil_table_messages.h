@@ -3,7 +3,7 @@
 #ifndef HIVEVIGIL_TABLE_MESSAGES_H
 #define HIVEVIGIL_TABLE_MESSAGES_H
 #include "hivevigil_stored_file.h"
-#include "hivevigil_table_runs.h"
+#include "hivevigil_table_helpers.h"
 #ifdef __cplusplus
 extern "C" {
 #endif
@@ -18,6 +18,10 @@ static inline hv_table_span hv_table_span_of(const char *text) {
     const hv_table_span span = {(const uint8_t *)text, strlen(text)};
     return span;
 }
+static inline hv_table_span hv_table_span_in(const hv_table_text *text) {
+    const hv_table_span span = {(const uint8_t *)text->at, text->size};
+    return span;
+}
 static inline hv_table_span hv_table_bytes_of(const hv_buffer *buffer) {
     const hv_table_span span = {buffer->at, buffer->size};
     return span;
@@ -28,7 +32,7 @@ static inline bool hv_table_same_bytes(hv_table_span left, hv_table_span right) 
 }
 
 /* 17: the bytes are not those of a table. */
-static inline int32_t hv_table_damaged(hv_error *error) { return hv_arrow_refuse(HV_BAD_METADATA, 0, 0, error); }
+static inline int32_t hv_table_damaged(hv_error *error) { return hv_table_refuse(HV_BAD_METADATA, 0, 0, error); }
 
 /* ---- Written ---- */
 

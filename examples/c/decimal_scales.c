@@ -3,7 +3,7 @@
  * request for memory refused, which is linked with the malloc of refusing_malloc.h. */
 #include "check.h"
 #include "hivevigil_decimals.h"
-#include "hivevigil_table.h"
+#include "hivevigil_table_concat.h"
 #include "refusing_malloc.h"
 
 enum { MOST = 24, TRIALS = 6000, FORMS = 4, LEAST_SCALE = -5, GREATEST_SCALE = 20 };
@@ -286,24 +286,24 @@ static void check_worked(const rows *left, const rows *right, hv_column *made) {
 /* Two tables of a column, one after the other, are refused as the columns are. */
 static void check_appended(hv_column *a, const rows *left, hv_column *b, const rows *right) {
     static const char *const names[] = {"price"};
-    hv_table first = HV_TABLE_EMPTY, second = HV_TABLE_EMPTY, made = HV_TABLE_EMPTY;
+    hv_table first = HV_EMPTY, second = HV_EMPTY, made = HV_EMPTY;
+    hv_column all = HV_EMPTY;
     hv_session session;
     rows lefts, rights;
     size_t row;
     hv_session_initial(&session);
-    CHECK(!hv_table_new(names, NULL, a, 1, &first, &error) && !hv_table_new(names, NULL, b, 1, &second, &error));
+    CHECK(!hv_table_of(names, a, 1, &first, &error) && !hv_table_of(names, b, 1, &second, &error));
     if (!align_rows(left, right, &lefts, &rights, &row)) {
-        CHECK_REFUSED(hv_table_append(&session, &first, &second, &made, &error), HV_CAST_OUT_OF_RANGE, row, 0, 0);
-        CHECK(made.count == 0);
+        CHECK_REFUSED(hv_table_concat(&session, &first, &second, &made, &error), HV_CAST_OUT_OF_RANGE, row, 0, 0);
+        CHECK(!made.at);
     } else {
-        const bool are_runs = hv_form(a) != FORM_FLAT && hv_form(b) != FORM_FLAT;
-        CHECK(!hv_table_append(&session, &first, &second, &made, &error) && made.rows == left->count + right->count);
-        const hv_column *all = &made.columns[0];
-        CHECK(hv_form(all) == (are_runs ? FORM_RUNS : FORM_FLAT) && hv_length(all) == made.rows);
-        CHECK(hv_kind_of(all).nullable == (left->nullable || right->nullable));
-        check_rows_from(all, 0, &lefts);
-        check_rows_from(all, left->count, &rights);
+        CHECK(!hv_table_concat(&session, &first, &second, &made, &error) && !hv_table_column(&made, 0, &all, &error));
+        CHECK(hv_table_len(&made) == left->count + right->count && hv_length(&all) == hv_table_len(&made));
+        CHECK(hv_kind_of(&all).nullable == (left->nullable || right->nullable));
+        check_rows_from(&all, 0, &lefts);
+        check_rows_from(&all, left->count, &rights);
     }
+    hv_free(&all);
     hv_table_free(&first), hv_table_free(&second), hv_table_free(&made);
 }
 

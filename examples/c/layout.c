@@ -1,11 +1,13 @@
 /* The sizes and places that docs/ABI.md promises: what was compiled against one version runs with the next. */
-#include "hivevigil_errors.h"
+#include "hivevigil_tables.h"
 #include <stdio.h>
 
 #define SIZE(type, bytes) _Static_assert(sizeof(type) == (bytes), #type)
 #define PLACE(type, field, byte) _Static_assert(offsetof(type, field) == (byte), #type "." #field)
 
 SIZE(hv_column, 8);
+SIZE(hv_builder, 8);
+SIZE(hv_table, 8);
 SIZE(hv_error, 24);
 PLACE(hv_error, third, 16);
 SIZE(hv_kind, 4);
@@ -37,7 +39,9 @@ int main(void) {
     for (size_t byte = 0; byte < sizeof room.behind; byte++) wrong += room.behind[byte] != 0xA5;
     wrong += room.session.prefill_runs == 0xA5A5A5A5A5A5A5A5u;
     hv_column column = HV_EMPTY;
+    hv_table table = HV_EMPTY;
     wrong += hv_kind_of(&column).number != 255 || hv_form(&column) != HV_FORM_NONE;
+    wrong += hv_table_len(&table) != 0 || hv_table_width(&table) != 0;
     puts(wrong ? "layouts differ" : "sizes and places are those of the page");
     return wrong != 0;
 }

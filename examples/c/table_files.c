@@ -4,8 +4,8 @@
  *
  *     table_files FOLDER      FOLDER: examples/corpus */
 #include "hivevigil_table_file.h"
-#include "check.h"
 #include "refusing_malloc.h"
+#include "table_checks.h"
 #include <dirent.h>
 #include <signal.h>
 #include <sys/resource.h>
@@ -62,13 +62,16 @@ static void check_stored_column(const char *folder, const char *name, const hv_c
     static uint8_t bytes[LINE], written[LINE];
     FILE *const file = opened(folder, "messages.txt");
     size_t size = 0, found = 0;
+    hv_column untyped = HV_EMPTY; /* the format is in the footer */
     while (!size && fgets(line, sizeof line, file)) {
         char *parts[4];
         split(line, parts, 4);
         if (!strcmp(parts[0], name)) size = bytes_of(parts[3], bytes);
     }
-    CHECK(size && !hv_write(column, written, sizeof written, &found, &error));
+    CHECK(size && !hv_with_type(column, NULL, 0, &untyped, &error));
+    CHECK(!hv_write(&untyped, written, sizeof written, &found, &error));
     CHECK(found == size && !memcmp(written, bytes, size));
+    hv_free(&untyped);
     fclose(file);
 }
 
@@ -91,21 +94,24 @@ static size_t check_stored(const char *folder, bool differences) {
     size_t count = 0;
     for (; fgets(line, sizeof line, file); count++) {
         char *parts[3];
-        hv_table table = HV_TABLE_EMPTY;
+        hv_table table = HV_EMPTY;
         split(line, parts, 3);
         const size_t size = bytes_of(parts[2], bytes);
         CHECK(!hv_table_from_bytes(bytes, size, &table, &error));
-        CHECK(table.rows == strtoul(parts[0], NULL, 10) && is_written(&table, differences, bytes, size));
+        CHECK(hv_table_len(&table) == strtoul(parts[0], NULL, 10) && is_written(&table, differences, bytes, size));
+        hv_table_columns held = HV_TABLE_NO_COLUMNS;
+        CHECK(!hv_table_columns_of(&table, &held, &error));
         char *words = parts[1];
-        for (size_t i = 0; i < table.count; i++) {
+        for (size_t i = 0; i < held.count; i++) {
             char *const end = strstr(words, differences ? ", " : ",");
             if (end) *end = 0;
-            if (differences) check_described_column(words, table.names[i], &table.columns[i]);
-            else CHECK(!strcmp(words, table.names[i]));
-            if (!differences) check_stored_column(folder, words, &table.columns[i]);
+            if (differences) check_described_column(words, held.names[i].at, &held.columns[i]);
+            else CHECK(!strcmp(words, held.names[i].at));
+            if (!differences) check_stored_column(folder, words, &held.columns[i]);
             words = end ? end + (differences ? 2 : 1) : NULL;
         }
-        CHECK(table.count == 0 || !words);
+        CHECK(held.count == 0 || !words);
+        hv_table_columns_free(&held);
         hv_table_free(&table);
     }
     fclose(file);
@@ -128,7 +134,7 @@ static size_t days_size, times_size;
 
 /* The days 7, 7 and null, as i32 in runs, and the text "ab" three times. */
 static void make_days(hv_table *table) {
-    const char *const names[] = {"day", "place"}, *const formats[] = {"tdD", NULL};
+    const char *const names[] = {"day", "place"};
     const int32_t items[] = {7, 7, 0};
     const uint8_t valid[] = {0x03};
     const hv_kind text = {HV_UTF8, 0, 0, 0};
@@ -136,23 +142,25 @@ static void make_days(hv_table *table) {
     hv_column columns[2] = {HV_EMPTY, HV_EMPTY}, flat = HV_EMPTY;
     CHECK(!hv_i32(items, 3, NULLS_BY(valid, 0), &flat, &error) && !hv_encode_rows(&flat, &columns[0], &error));
     CHECK(!hv_constant(&text, &value, (const uint8_t *)"ab", 2, 3, &columns[1], &error));
-    CHECK(!hv_table_new(names, formats, columns, 2, table, &error));
+    give_format(&columns[0], "tdD");
+    CHECK(!hv_table_of(names, columns, 2, table, &error));
     hv_free(&flat);
     hv_free(&columns[0]);
     hv_free(&columns[1]);
 }
 
 static void make_times(hv_table *table) {
-    const char *const name[] = {"at"}, *const format[] = {"tss:UTC"};
+    const char *const name[] = {"at"};
     const int64_t items[] = {100, 160, 220, 280, 340, 400};
     hv_column column = HV_EMPTY;
     CHECK(!hv_i64(items, 6, NOT_NULLABLE, &column, &error));
-    CHECK(!hv_table_new(name, format, &column, 1, table, &error));
+    give_format(&column, "tss:UTC");
+    CHECK(!hv_table_of(name, &column, 1, table, &error));
     hv_free(&column);
 }
 
 static void check_documented(void) {
-    hv_table table = HV_TABLE_EMPTY;
+    hv_table table = HV_EMPTY;
     days_size = bytes_of(days_digits, days);
     times_size = bytes_of(times_digits, times);
     CHECK(days_size == 164 && times_size == 127);
@@ -160,48 +168,50 @@ static void check_documented(void) {
     CHECK(is_written(&table, 0, days, days_size) && is_written(&table, 1, days, days_size)); /* no shorter */
     make_times(&table);
     CHECK(is_written(&table, 1, times, times_size) && !is_written(&table, 0, times, times_size));
-    CHECK(!hv_table_from_bytes(days, days_size, &table, &error) && table.count == 2);
-    CHECK(!strcmp(table.logical_types[0], "tdD") && hv_form(&table.columns[1]) == HV_FORM_CONSTANT);
-    CHECK_ROWS(&table.columns[0], "7 7 null");
-    CHECK_ROWS(&table.columns[1], "\"ab\" \"ab\" \"ab\"");
-    CHECK(!hv_table_from_bytes(times, times_size, &table, &error) && table.count == 1);
-    CHECK(!strcmp(table.names[0], "at") && hv_form(&table.columns[0]) == HV_FORM_FLAT);
-    CHECK_ROWS(&table.columns[0], "100 160 220 280 340 400");
+    CHECK(!hv_table_from_bytes(days, days_size, &table, &error) && form_at(&table, 1) == HV_FORM_CONSTANT);
+    CHECK_TABLE(&table, "3 | day:tdD 7 7 null | place: \"ab\" \"ab\" \"ab\"");
+    CHECK(!hv_table_from_bytes(times, times_size, &table, &error) && form_at(&table, 0) == HV_FORM_FLAT);
+    CHECK_TABLE(&table, "6 | at:tss:UTC 100 160 220 280 340 400");
     hv_table_free(&table);
 }
 
 /* ---- Damaged ---- */
 
-static hv_table kept = HV_TABLE_EMPTY; /* stays after a refusal */
+static hv_table kept = HV_EMPTY; /* stays after a refusal */
 static long with_zeros = 0;            /* tables that have a zero byte in a name or a logical type */
 
-static bool is_text(const char *text) {
-    const int32_t offsets[] = {0, (int32_t)strlen(text)};
+static bool is_text(const hv_table_text *text) {
+    const int32_t offsets[] = {0, (int32_t)text->size};
     hv_column column = HV_EMPTY;
-    const int32_t answer = hv_texts(0, offsets, 2, (const uint8_t *)text, strlen(text), NOT_NULLABLE, &column, &error);
+    const int32_t answer =
+        hv_texts(0, offsets, 2, (const uint8_t *)text->at, text->size, NOT_NULLABLE, &column, &error);
     hv_free(&column);
     return !answer;
 }
 
+static bool has_zero(const hv_table_text *text) { return strlen(text->at) != text->size; }
+
 /* Bytes are refused, or are those of a table that is written so. */
 static bool is_refused_table(const uint8_t *bytes, size_t size) {
-    const hv_column *const columns = kept.columns;
+    const void *const at = kept.at;
     FILL(error);
     const int32_t answer = hv_table_from_bytes(bytes, size, &kept, &error);
     if (!answer) {
         const bool is_second = bytes[12] == 2; /* of which the writer chooses what is kept as differences */
         CHECK(is_second || is_written(&kept, 0, bytes, size));
-        for (size_t i = 0; i < kept.count; i++) {
-            CHECK(is_text(kept.names[i]) && is_text(kept.logical_types[i]));
-            CHECK(hv_length(&kept.columns[i]) == kept.rows);
+        hv_table_columns held = HV_TABLE_NO_COLUMNS;
+        CHECK(!hv_table_columns_of(&kept, &held, &error));
+        for (size_t i = 0; i < held.count; i++) {
+            CHECK(is_text(&held.names[i]) && is_text(&held.formats[i]));
+            CHECK(hv_length(&held.columns[i]) == hv_table_len(&kept));
+            with_zeros += has_zero(&held.names[i]) + has_zero(&held.formats[i]);
         }
+        hv_table_columns_free(&held);
         make_times(&kept);
         return false;
     }
-    CHECK((answer == HV_BAD_METADATA || answer == HV_UNSUPPORTED) && !error.first && !error.second);
-    CHECK(error.third == (answer == HV_UNSUPPORTED ? HV_TABLE_WITH_ZERO_BYTE : 0));
-    with_zeros += answer == HV_UNSUPPORTED;
-    CHECK(kept.columns == columns && kept.count == 1 && kept.rows == 6);
+    CHECK(answer == HV_BAD_METADATA && !error.first && !error.second && !error.third);
+    CHECK(kept.at == at && has_shape(&kept, 6, 1));
     return true;
 }
 
@@ -306,11 +316,11 @@ static void check_names_twice(void) {
     static uint8_t bytes[512];
     const char *const names[] = {"a", "b"};
     hv_column pair[2] = {HV_EMPTY, HV_EMPTY};
-    hv_table table = HV_TABLE_EMPTY;
+    hv_table table = HV_EMPTY;
     hv_buffer made = HV_BUFFER_EMPTY;
     make_days(&table);
-    CHECK(!hv_clone(&table.columns[0], &pair[0], &error) && !hv_clone(&table.columns[0], &pair[1], &error));
-    CHECK(!hv_table_new(names, NULL, pair, 2, &table, &error) && !hv_table_to_bytes(&table, 0, &made, &error));
+    for (int i = 0; i < 2; i++) CHECK(!hv_table_column(&table, 0, &pair[i], &error));
+    CHECK(!hv_table_of(names, pair, 2, &table, &error) && !hv_table_to_bytes(&table, 0, &made, &error));
     CHECK(made.size < sizeof bytes);
     memcpy(bytes, made.at, made.size);
     size_t changed = 0;
@@ -374,14 +384,17 @@ static void make_differences(int64_t each, uint64_t rows, bool is_fewest, hv_col
 
 static void check_steps(const hv_buffer *bytes, int32_t each, uint64_t rows, uint8_t form) {
     const uint64_t places[] = {0, rows / 2, rows - 1};
-    hv_table table = HV_TABLE_EMPTY;
-    CHECK(!hv_table_from_bytes(bytes->at, bytes->size, &table, &error) && table.rows == rows && table.count == 1);
-    CHECK(hv_form(&table.columns[0]) == (form == HV_TABLE_KEPT_FLAT ? HV_FORM_FLAT : HV_FORM_RUNS));
+    hv_table table = HV_EMPTY;
+    hv_column column = HV_EMPTY;
+    CHECK(!hv_table_from_bytes(bytes->at, bytes->size, &table, &error) && has_shape(&table, rows, 1));
+    CHECK(!hv_table_column(&table, 0, &column, &error));
+    CHECK(hv_form(&column) == (form == HV_TABLE_KEPT_FLAT ? HV_FORM_FLAT : HV_FORM_RUNS));
     for (size_t i = 0; i < COUNT(places); i++) {
         hv_value value;
-        CHECK(!hv_at(&table.columns[0], places[i], &value, NO_TEXT_ROOM, &error));
+        CHECK(!hv_at(&column, places[i], &value, NO_TEXT_ROOM, &error));
         CHECK(value.kind == HV_SIGNED && value.as_signed == each * (int64_t)(places[i] + 1));
     }
+    hv_free(&column);
     hv_table_free(&table);
 }
 
@@ -443,7 +456,7 @@ static void check_limit(uint64_t rows, uint64_t runs, uint8_t form, uint64_t due
     const uint64_t limits[] = {0, due / 2, due - 1, due, due + 1, UINT64_MAX};
     hv_column differences = HV_EMPTY, bounds = HV_EMPTY;
     hv_buffer bytes = HV_BUFFER_EMPTY;
-    hv_table found = HV_TABLE_EMPTY;
+    hv_table found = HV_EMPTY;
     make_differences(7, rows, true, &differences);
     CHECK(!hv_i32(ends, 2, NOT_NULLABLE, &bounds, &error));
     put_differences(&bytes, &differences, &bounds, runs, form);
@@ -455,7 +468,7 @@ static void check_limit(uint64_t rows, uint64_t runs, uint8_t form, uint64_t due
         else CHECK(hv_table_from_bytes_within(bytes.at, bytes.size, limits[i], &found, &error) == HV_BAD_METADATA);
     }
     const int32_t usual = hv_table_from_bytes(bytes.at, bytes.size, &found, &error);
-    CHECK(usual == (due > 1 << 30 ? HV_TABLE_OVER_LIMIT : HV_BAD_METADATA) && !found.columns);
+    CHECK(usual == (due > 1 << 30 ? HV_TABLE_OVER_LIMIT : HV_BAD_METADATA) && !found.at);
     hv_free(&differences);
     hv_free(&bounds);
     hv_buffer_free(&bytes);
@@ -464,7 +477,7 @@ static void check_limit(uint64_t rows, uint64_t runs, uint8_t form, uint64_t due
 static void check_limits(void) {
     const char *const only[] = {"at"};
     char text[HV_ERROR_TEXT];
-    hv_table found = HV_TABLE_EMPTY;
+    hv_table found = HV_EMPTY;
     check_limit(1000, 1000, HV_TABLE_KEPT_FLAT, 4000);
     check_limit(1000, 1000, HV_TABLE_KEPT_RUNS, 12000);
     check_limit(1000, 3, HV_TABLE_KEPT_RUNS, 36); /* and there are more runs than the footer says */
@@ -472,7 +485,7 @@ static void check_limits(void) {
     check_limit(((uint64_t)1 << 28) + 1, 1, HV_TABLE_KEPT_FLAT, ((uint64_t)1 << 30) + 4);
     check_limit((uint64_t)1 << 61, 1, HV_TABLE_KEPT_FLAT, (uint64_t)1 << 63);
     check_limit(9, (uint64_t)1 << 61, HV_TABLE_KEPT_RUNS, UINT64_MAX); /* 2^61 * 12 is past 64 bits */
-    CHECK(!hv_table_from_bytes_within(times, times_size, 48, &found, &error) && found.rows == 6); /* of i64 */
+    CHECK(!hv_table_from_bytes_within(times, times_size, 48, &found, &error) && has_shape(&found, 6, 1)); /* of i64 */
     CHECK_REFUSED(hv_table_from_bytes_within(times, times_size, 47, &found, &error), HV_TABLE_OVER_LIMIT, 48, 47, 0);
     CHECK(!strcmp(hv_table_error_text(HV_TABLE_OVER_LIMIT, &error, text),
                   "the columns kept as differences take 48 bytes in memory, above the limit of 47"));
@@ -482,25 +495,28 @@ static void check_limits(void) {
     CHECK(!hv_table_load_within(path, only, 1, 48, &found, &error));
     CHECK(!hv_table_load_within(path, NULL, 0, 48, &found, &error));
     CHECK_REFUSED(hv_table_load_within(path, only, 1, 9, &found, &error), HV_TABLE_OVER_LIMIT, 48, 9, 0);
-    CHECK(!hv_table_load_within(path, only, 0, 0, &found, &error) && found.count == 0 && found.rows == 6);
+    CHECK(!hv_table_load_within(path, only, 0, 0, &found, &error) && has_shape(&found, 6, 0));
     CHECK(!unlink(path));
     hv_table_free(&found);
 }
 
-/* A name with a zero byte is one of other languages: its footer is read. */
+/* A name may have a zero byte: it is read, and written as it was. */
 static void check_zero_byte(const char *path) {
     static uint8_t bytes[256];
     hv_table_footer footer = HV_TABLE_FOOTER_EMPTY;
     const char *const place[] = {"place"};
+    hv_table_text name = HV_TABLE_NO_TEXT;
     memcpy(bytes, days, days_size);
     bytes[13 + 43 + 16 + 2 + 2 + 2 + 3] = 0; /* the second letter of "day" */
-    CHECK_REFUSED(hv_table_from_bytes(bytes, days_size, &kept, &error), HV_UNSUPPORTED, 0, 0, HV_TABLE_WITH_ZERO_BYTE);
+    CHECK(!hv_table_from_bytes(bytes, days_size, &kept, &error) && is_written(&kept, 0, bytes, days_size));
+    CHECK(!hv_table_name_of(&kept, 0, &name, &error) && name.size == 3 && !memcmp(name.at, "d\0y", 4));
+    free(name.at);
     bytes[13 + 43 + 15] ^= 1; /* the last letter of the second column, which is damaged, so that this is not a table */
     CHECK_REFUSED(hv_table_from_bytes(bytes, days_size, &kept, &error), HV_BAD_METADATA, 0, 0, 0);
     bytes[13 + 43 + 15] ^= 1;
     CHECK(!hv_save_bytes(bytes, days_size, path, &error) && !hv_table_load_footer(path, &footer, &error));
     CHECK(footer.columns[0].name_size == 3 && !memcmp(footer.columns[0].name, "d\0y", 4));
-    CHECK(!hv_table_load_columns(path, place, 1, &kept, &error) && kept.rows == 3);
+    CHECK(!hv_table_load_columns(path, place, 1, &kept, &error) && has_shape(&kept, 3, 1));
     make_times(&kept);
     hv_table_footer_free(&footer);
 }
@@ -544,7 +560,7 @@ static bool has_table(const char *of, const uint8_t *bytes, size_t size) {
 
 static void check_files(void) {
     const char *const turned[] = {"place", "day"}, *const twice[] = {"day", "day"}, *const gone[] = {"day", "at"};
-    hv_table table = HV_TABLE_EMPTY, out = HV_TABLE_EMPTY;
+    hv_table table = HV_EMPTY, out = HV_EMPTY;
     const mode_t before = umask(027);
     make_days(&table);
     CHECK(!hv_table_save(&table, path, 0, &error) && has_table(path, days, days_size));
@@ -555,14 +571,14 @@ static void check_files(void) {
     CHECK(S_ISLNK(mode_of(link_path)) && has_table(path, days, days_size) && files_there() == 2);
     CHECK(mode_of(path) == (S_IFREG | 0604));
     CHECK(!hv_table_load(link_path, &out, &error) && is_written(&out, 0, days, days_size));
-    CHECK(!hv_table_load_columns(path, turned, 2, &out, &error) && !strcmp(out.names[0], "place"));
-    CHECK_ROWS(&out.columns[1], "7 7 null");
-    CHECK(!hv_table_load_columns(path, turned + 1, 1, &out, &error) && out.count == 1 && out.rows == 3);
+    CHECK(!hv_table_load_columns(path, turned, 2, &out, &error));
+    CHECK_TABLE(&out, "3 | place: \"ab\" \"ab\" \"ab\" | day:tdD 7 7 null");
+    CHECK(!hv_table_load_columns(path, turned + 1, 1, &out, &error) && has_shape(&out, 3, 1));
     CHECK_REFUSED(hv_table_load_columns(path, twice, 2, &out, &error), HV_TABLE_NAME_TWICE, 0, 1, 0);
-    CHECK_REFUSED(hv_table_load_columns(path, gone, 2, &out, &error), HV_TABLE_NO_COLUMN, 0, 0, 0);
-    CHECK(out.count == 1 && out.rows == 3);
-    CHECK(!hv_table_load_columns(path, NULL, 0, &out, &error) && out.count == 0 && out.rows == 3);
-    CHECK(!hv_table_save(&out, path, 0, &error) && !hv_table_load(path, &out, &error) && out.rows == 3);
+    CHECK_REFUSED(hv_table_load_columns(path, gone, 2, &out, &error), HV_TABLE_UNKNOWN_NAME, 1, 0, 0);
+    CHECK(has_shape(&out, 3, 1));
+    CHECK(!hv_table_load_columns(path, NULL, 0, &out, &error) && has_shape(&out, 3, 0));
+    CHECK(!hv_table_save(&out, path, 0, &error) && !hv_table_load(path, &out, &error) && has_shape(&out, 3, 0));
     CHECK(masks_set == 1); /* by this test */
     umask(before);
     hv_table_free(&table);
@@ -587,14 +603,14 @@ static void check_refused_files(void) {
     const int32_t answer = hv_save_bytes(days, days_size, path, &error);
     CHECK(!setrlimit(RLIMIT_FSIZE, &before));
     CHECK(answer == HV_TABLE_FILE_REFUSED && error.first == EFBIG && has_table(path, times, times_size));
-    CHECK(files_there() == there && kept.rows == 6);
+    CHECK(files_there() == there && has_shape(&kept, 6, 1));
 }
 
 /* A pipe is read at once. */
 static void check_pipe(void) {
     int ends[2];
     char name[32];
-    hv_table table = HV_TABLE_EMPTY;
+    hv_table table = HV_EMPTY;
     hv_table_footer footer = HV_TABLE_FOOTER_EMPTY;
     for (int turn = 0; turn < 2; turn++) {
         CHECK(!pipe(ends) && write(ends[1], days, days_size) == (ssize_t)days_size && !close(ends[1]));
@@ -617,9 +633,8 @@ static void check_pipe(void) {
  * low    -NaN 1 1 1
  * none   null null null null
  * lists  [1] [] [1] [] */
-static void make_readings(hv_table *table) {
+static void make_measures(hv_table *table) {
     const char *const names[] = {"level", "name", "price", "odd", "none", "lists", "low"};
-    const char *const formats[] = {"", "", "f", "g", "", "", "g"};
     const int16_t levels[] = {3, 8, 0, 5};
     const int32_t offsets[] = {0, 1, 1, 2, 3};
     const uint8_t levels_valid[] = {0x0B}, names_valid[] = {0x0D}, none[] = {0}, items[] = {1};
@@ -641,7 +656,8 @@ static void make_readings(hv_table *table) {
     CHECK(!hv_i16(levels, 4, NULLS_BY(none, 0), &columns[4], &error));
     CHECK(!hv_u8(items, 1, NOT_NULLABLE, &flat, &error));
     CHECK(!hv_lists(&flat, starts, 4, sizes, 4, NOT_NULLABLE, &columns[5], &error));
-    CHECK(!hv_table_new(names, formats, columns, 7, table, &error));
+    give_format(&columns[2], "f"), give_format(&columns[3], "g"), give_format(&columns[6], "g");
+    CHECK(!hv_table_of(names, columns, 7, table, &error));
     for (int i = 0; i < 7; i++) hv_free(&columns[i]);
     hv_free(&flat);
 }
@@ -678,10 +694,10 @@ static bool may_have(const hv_table_footer *footer, hv_table_condition asked) {
 static void check_footers(void) {
     const hv_value text = {0, 0, HV_TEXT, 0}, nine = {0, 9, HV_SIGNED, 0}, null = {0, 0, HV_NULL, 0};
     const uint8_t *const letters = (const uint8_t *)"abcd";
-    hv_table table = HV_TABLE_EMPTY;
+    hv_table table = HV_EMPTY;
     hv_table_footer footer = HV_TABLE_FOOTER_EMPTY;
     uint8_t truth = 9;
-    make_readings(&table);
+    make_measures(&table);
     CHECK(!hv_table_save(&table, path, 0, &error) && !hv_table_load_footer(path, &footer, &error));
     CHECK(footer.rows == 4 && footer.count == 7 && !strcmp(footer.columns[2].logical_type, "f"));
     CHECK(footer.columns[0].nulls == 1 && footer.columns[0].runs == 4 && footer.columns[3].runs == 2);
@@ -705,7 +721,7 @@ static void check_footers(void) {
     }
     const hv_table_condition gone = {"to", HV_EQ, &nine, NULL, 0, 0}, other = {"none", HV_EQ, &text, letters, 1, 0};
     const hv_table_condition floats = {"price", HV_EQ, &text, letters, 1, 0}, none = {"name", HV_EQ, NULL, NULL, 0, 9};
-    CHECK_REFUSED(hv_table_may_have(&session, &footer, &gone, &truth, &error), HV_TABLE_NO_COLUMN, 0, 0, 0);
+    CHECK_REFUSED(hv_table_may_have(&session, &footer, &gone, &truth, &error), HV_TABLE_UNKNOWN_NAME, 0, 0, 0);
     CHECK(hv_table_may_have(&session, &footer, &other, &truth, &error) == HV_TYPE_MISMATCH);
     CHECK(hv_table_may_have(&session, &footer, &floats, &truth, &error) == HV_TYPE_MISMATCH);
     CHECK(hv_table_may_have(&session, &footer, &none, &truth, &error) == HV_TYPE_MISMATCH);
@@ -720,7 +736,7 @@ static void check_footers(void) {
 
 /* ---- Each request for memory refused in turn ---- */
 
-static hv_table lent = HV_TABLE_EMPTY, out = HV_TABLE_EMPTY;
+static hv_table lent = HV_EMPTY, out = HV_EMPTY;
 static hv_table_footer end = HV_TABLE_FOOTER_EMPTY, read_end = HV_TABLE_FOOTER_EMPTY;
 static hv_buffer written = HV_BUFFER_EMPTY;
 static const char *const two_names[] = {"price", "name"};
@@ -753,7 +769,7 @@ static long refuse_each(int32_t (*call)(void)) {
     const size_t there = files_there();
     long tried = 0;
     for (long at = 0;; at++) {
-        CHECK(!hv_table_slice(&session, &lent, 0, 1, &out, &error));
+        CHECK(!hv_table_slice(&lent, 0, 1, &out, &error));
         written.size = 0;
         hv_buffer_put(&written, "kept", 4);
         hv_table_footer_free(&read_end);
@@ -769,9 +785,9 @@ static long refuse_each(int32_t (*call)(void)) {
         tried++;
         CHECK(answer == HV_OUT_OF_MEMORY || !answer);
         if (!answer) continue;
-        CHECK(blocks == before && out.rows == 1 && out.count == 7 && read_end.rows == 0);
+        CHECK(blocks == before && has_shape(&out, 1, 7) && read_end.rows == 0);
         CHECK(has_bytes(&written, (const uint8_t *)"kept", 4));
-        CHECK_ROWS(&out.columns[1], "\"b\"");
+        CHECK_ROWS_AT(&out, 1, "\"b\"");
     }
 }
 
@@ -779,7 +795,7 @@ static void check_memory(void) {
     int32_t (*const calls[])(void) = {calls_to_bytes, calls_to_rows,      calls_from_bytes,  calls_save,     calls_load,
                                       calls_load_pipe, calls_load_columns, calls_load_footer, calls_may_have};
     long tried = 0;
-    make_readings(&lent);
+    make_measures(&lent);
     CHECK(!hv_table_save(&lent, path, 0, &error) && !hv_table_load_footer(path, &end, &error));
     for (size_t i = 0; i < COUNT(calls); i++) tried += refuse_each(calls[i]);
     fields = NULL;

@@ -1,4 +1,4 @@
-/* Groups of tables in C: random tables of every type and form against plain loops over their rows, each refusal with
+/* Groups of tables: random tables of every type and form against plain loops over their rows, each refusal with
  * its fields, and each request for memory refused in turn (linked with the malloc of refusing_malloc.h). */
 #include "hivevigil_table_groups.h"
 #include "refusing_malloc.h"
@@ -103,27 +103,28 @@ static bool same_kind(hv_kind left, hv_kind right) { return memcmp(&left, &right
 
 static void check_answers(const hv_table *found, const size_t *places, size_t keys, const plain_column *asked,
                           uint8_t fold, const size_t *stops, size_t groups) {
-    const hv_column *const answers = &found->columns[keys];
-    CHECK(found->rows == groups && found->count == keys + 1 && hv_form(answers) == HV_FORM_FLAT);
-    CHECK(!strcmp(found->names[keys], "answer"));
-    CHECK(!strcmp(found->logical_types[keys], format_of_answer(asked, fold)));
+    hv_column columns[MOST_COLUMNS] = {HV_EMPTY};
+    hv_column answers = checked_column(found, keys, "answer", format_of_answer(asked, fold));
+    CHECK(hv_table_len(found) == groups && hv_table_width(found) == keys + 1 && hv_form(&answers) == HV_FORM_FLAT);
     hv_kind kind = type_of_answer(asked, fold);
-    if (fold == HV_FOLD_ROWS || fold == HV_FOLD_COUNT) kind.nullable = hv_kind_of(answers).nullable;
-    CHECK(same_kind(hv_kind_of(answers), kind));
+    if (fold == HV_FOLD_ROWS || fold == HV_FOLD_COUNT) kind.nullable = hv_kind_of(&answers).nullable;
+    CHECK(same_kind(hv_kind_of(&answers), kind));
+    for (size_t i = 0; i < keys; i++) {
+        const plain_column *const key = &plain.columns[places[i]];
+        columns[i] = checked_column(found, i, key->name, key->format);
+        CHECK(hv_form(&columns[i]) == HV_FORM_FLAT && same_kind(hv_kind_of(&columns[i]), key->kind));
+    }
     for (size_t group = 0; group < groups; group++) {
         const size_t start = group ? stops[group - 1] : 0;
         const plain_row due = answer_of(asked, fold, start, stops[group]);
         for (size_t i = 0; i < keys; i++) {
             const plain_column *const key = &plain.columns[places[i]];
-            check_value(&found->columns[i], group, &key->rows[start], key->kind);
+            check_value(&columns[i], group, &key->rows[start], key->kind);
         }
-        check_value(answers, group, &due, kind);
+        check_value(&answers, group, &due, kind);
     }
-    for (size_t i = 0; i < keys; i++) {
-        const plain_column *const key = &plain.columns[places[i]];
-        CHECK(!strcmp(found->names[i], key->name) && !strcmp(found->logical_types[i], key->format));
-        CHECK(hv_form(&found->columns[i]) == HV_FORM_FLAT && same_kind(hv_kind_of(&found->columns[i]), key->kind));
-    }
+    for (size_t i = 0; i < keys; i++) hv_free(&columns[i]);
+    hv_free(&answers);
 }
 
 static bool check_random(const hv_table *table) {
@@ -134,19 +135,19 @@ static bool check_random(const hv_table *table) {
     const plain_column *const asked = &plain.columns[chance(plain.count)];
     const uint8_t fold = (uint8_t)chance(7);
     const hv_table_answer answer = {"answer", fold, fold == HV_FOLD_ROWS ? NULL : asked->name};
-    hv_table found = HV_TABLE_EMPTY;
-    bool is_served = is_asked(asked, fold);
-    uint64_t why = fold == HV_FOLD_SUM ? HV_TABLE_WITHOUT_SUM : 0;
-    for (size_t i = 0; i < count; i++) {
+    hv_table found = HV_EMPTY;
+    size_t lists = count;
+    for (size_t i = count; i-- > 0;) {
         places[i] = (first + i) % plain.count;
         keys[i] = plain.columns[places[i]].name;
-        is_served &= plain.columns[places[i]].kind.number != HV_LIST;
-        if (plain.columns[places[i]].kind.number == HV_LIST) why = 0;
+        if (plain.columns[places[i]].kind.number == HV_LIST) lists = i;
     }
-    if (!is_served) {
-        CHECK_REFUSED(hv_table_group_by(&session, table, keys, count, &answer, 1, &found, &error), HV_UNSUPPORTED, 0,
-                      0, why);
-        CHECK(!found.columns);
+    if (lists < count || !is_asked(asked, fold)) {
+        const int32_t number = lists < count ? HV_TABLE_KEY_OF_LISTS : HV_UNSUPPORTED;
+        const uint64_t why = fold == HV_FOLD_SUM && lists == count ? HV_TABLE_WITHOUT_SUM : 0;
+        CHECK_REFUSED(hv_table_group_by(&session, table, keys, count, &answer, 1, &found, &error), number,
+                      lists < count ? lists : 0, 0, why);
+        CHECK(!found.at);
         return false;
     }
     CHECK(!hv_table_group_by(&session, table, keys, count, &answer, 1, &found, &error));
@@ -163,9 +164,8 @@ static bool check_random(const hv_table *table) {
  * text     "b" "a" null null null ""
  * price    1.5 NaN 0.5 -0.5 0.5 null   (64 bits)
  * low      1.5 -NaN 0.5 -0.5 0.5 null */
-static void make_readings(hv_table *table) {
+static void make_measures(hv_table *table) {
     const char *const names[] = {"station", "level", "text", "price", "low"};
-    const char *const formats[] = {"", "", "", "g", "g"};
     const uint8_t stations[] = {1, 1, 2, 2, 2, 1};
     const int64_t levels[] = {7, 0, INT64_MAX, 1, 0, 3};
     const uint8_t levels_valid[] = {0x2D}, texts_valid[] = {0x23}, prices_valid[] = {0x1F};
@@ -183,7 +183,8 @@ static void make_readings(hv_table *table) {
     bits[1] |= (uint64_t)1 << 63;
     CHECK(!hv_u64(bits, 6, NULLS_BY(prices_valid, 0), &flat, &error));
     CHECK(!hv_float_encode(&flat, 0, &columns[4], &error));
-    CHECK(!hv_table_new(names, formats, columns, 5, table, &error));
+    give_format(&columns[3], "g"), give_format(&columns[4], "g");
+    CHECK(!hv_table_of(names, columns, 5, table, &error));
     for (int i = 0; i < 5; i++) hv_free(&columns[i]);
     hv_free(&flat);
 }
@@ -199,32 +200,36 @@ static const hv_table_answer nans[] = {{"high", HV_FOLD_GREATEST, "price"}, {"lo
                                        {"count", HV_FOLD_COUNT, "low"},     {"last", HV_FOLD_LAST, "price"}};
 
 static void check_by_hand(const hv_table *table) {
-    hv_table out = HV_TABLE_EMPTY;
-    CHECK(!hv_table_group_by(&session, table, station, 1, all, COUNT(all), &out, &error) && out.count == 12);
-    CHECK_ROWS(&out.columns[0], "1 2 1");
-    CHECK_ROWS(&out.columns[1], "2 3 1");
-    CHECK_ROWS(&out.columns[2], "1 2 1");
-    CHECK_ROWS(&out.columns[3], "2 0 1");
-    CHECK_ROWS(&out.columns[4], "\"a\" null \"\"");
-    CHECK_ROWS(&out.columns[5], "7 9223372036854775807 3");
-    CHECK_ROWS(&out.columns[6], "\"a\" null \"\"");
-    CHECK_ROWS(&out.columns[7], "4609434218613702656 4602678819172646912 null"); /* 1.5 and 0.5 by their bits */
-    CHECK_ROWS(&out.columns[8], "9221120237041090560 4602678819172646912 null"); /* NaN, and 0.5 */
-    CHECK_ROWS(&out.columns[9], "4609434218613702656 -4602678819172646913 null"); /* 1.5 and -0.5 */
-    CHECK_ROWS(&out.columns[10], "4609434218613702656 4602678819172646912 null");
-    CHECK_ROWS(&out.columns[11], "4609434218613702656 -4602678819172646913 null");
-    CHECK(!strcmp(out.logical_types[7], "g") && !strcmp(out.logical_types[8], "g") && !*out.logical_types[4]);
-    for (int i = 9; i < 12; i++) CHECK(!strcmp(out.logical_types[i], "g") && hv_form(&out.columns[i]) == HV_FORM_FLAT);
+    hv_table out = HV_EMPTY;
+    CHECK(!hv_table_group_by(&session, table, station, 1, all, COUNT(all), &out, &error) && hv_table_width(&out) == 12);
+    CHECK_ROWS_AT(&out, 0, "1 2 1");
+    CHECK_ROWS_AT(&out, 1, "2 3 1");
+    CHECK_ROWS_AT(&out, 2, "1 2 1");
+    CHECK_ROWS_AT(&out, 3, "2 0 1");
+    CHECK_ROWS_AT(&out, 4, "\"a\" null \"\"");
+    CHECK_ROWS_AT(&out, 5, "7 9223372036854775807 3");
+    CHECK_ROWS_AT(&out, 6, "\"a\" null \"\"");
+    CHECK_ROWS_AT(&out, 7, "4609434218613702656 4602678819172646912 null"); /* 1.5 and 0.5 by their bits */
+    CHECK_ROWS_AT(&out, 8, "9221120237041090560 4602678819172646912 null"); /* NaN, and 0.5 */
+    CHECK_ROWS_AT(&out, 9, "4609434218613702656 -4602678819172646913 null"); /* 1.5 and -0.5 */
+    CHECK_ROWS_AT(&out, 10, "4609434218613702656 4602678819172646912 null");
+    CHECK_ROWS_AT(&out, 11, "4609434218613702656 -4602678819172646913 null");
+    for (size_t i = 0; i < COUNT(all); i++) {
+        hv_column column = checked_column(&out, i + 1, all[i].name, i < 6 ? "" : "g");
+        CHECK(hv_form(&column) == HV_FORM_FLAT);
+        hv_free(&column);
+    }
     CHECK(!hv_table_group_by(&session, table, both, 2, nans, COUNT(nans), &out, &error)); /* "a" has only NaN */
-    CHECK_ROWS(&out.columns[2], "4609434218613702656 null 4602678819172646912 null");
-    CHECK_ROWS(&out.columns[3], "4609434218613702656 null -4602678819172646913 null");
-    CHECK_ROWS(&out.columns[4], "1 1 3 0");
-    CHECK_ROWS(&out.columns[5], "4609434218613702656 9221120237041090560 4602678819172646912 null");
-    CHECK(!hv_table_group_by(&session, table, both, 2, all, 1, &out, &error) && out.count == 3);
-    CHECK_ROWS(&out.columns[0], "1 1 2 1");
-    CHECK_ROWS(&out.columns[1], "\"b\" \"a\" null \"\"");
-    CHECK_ROWS(&out.columns[2], "1 1 3 1");
-    CHECK(!hv_table_group_by(&session, table, station, 1, NULL, 0, &out, &error) && out.count == 1 && out.rows == 3);
+    CHECK_ROWS_AT(&out, 2, "4609434218613702656 null 4602678819172646912 null");
+    CHECK_ROWS_AT(&out, 3, "4609434218613702656 null -4602678819172646913 null");
+    CHECK_ROWS_AT(&out, 4, "1 1 3 0");
+    CHECK_ROWS_AT(&out, 5, "4609434218613702656 9221120237041090560 4602678819172646912 null");
+    CHECK(!hv_table_group_by(&session, table, both, 2, all, 1, &out, &error) && hv_table_width(&out) == 3);
+    CHECK_ROWS_AT(&out, 0, "1 1 2 1");
+    CHECK_ROWS_AT(&out, 1, "\"b\" \"a\" null \"\"");
+    CHECK_ROWS_AT(&out, 2, "1 1 3 1");
+    CHECK(!hv_table_group_by(&session, table, station, 1, NULL, 0, &out, &error));
+    CHECK(hv_table_width(&out) == 1 && hv_table_len(&out) == 3);
     hv_table_free(&out);
 }
 
@@ -234,21 +239,44 @@ static void check_refusals(const hv_table *table) {
     static const hv_table_answer none[] = {{"a", HV_FOLD_LAST, "to"}}, bad[] = {{"a", HV_FOLD_LAST + 1, "level"}};
     static const hv_table_answer text[] = {{"a", HV_FOLD_SUM, "text"}}, bytes[] = {{"\xff", HV_FOLD_ROWS, NULL}};
     const char *const twice[] = {"text", "station", "text"}, *const gone[] = {"to"};
-    hv_table out = HV_TABLE_EMPTY;
-    CHECK(!hv_table_slice(&session, table, 0, 1, &out, &error));
-    CHECK_REFUSED(hv_table_group_by(&session, table, station, 0, sum, 1, &out, &error), HV_UNSUPPORTED, 0, 0,
-                  HV_TABLE_WITHOUT_KEYS);
+    hv_table out = HV_EMPTY;
+    CHECK(!hv_table_slice(table, 0, 1, &out, &error));
+    CHECK_REFUSED(hv_table_group_by(&session, table, station, 0, sum, 1, &out, &error), HV_TABLE_NO_KEYS, 0, 0, 0);
     CHECK_REFUSED(hv_table_group_by(&session, table, twice, 3, sum, 1, &out, &error), HV_TABLE_NAME_TWICE, 0, 2, 0);
     CHECK_REFUSED(hv_table_group_by(&session, table, station, 1, names, 2, &out, &error), HV_TABLE_NAME_TWICE, 0, 2, 0);
-    CHECK_REFUSED(hv_table_group_by(&session, table, gone, 1, sum, 1, &out, &error), HV_TABLE_NO_COLUMN, 0, 0, 0);
-    CHECK_REFUSED(hv_table_group_by(&session, table, station, 1, none, 1, &out, &error), HV_TABLE_NO_COLUMN, 0, 0, 0);
+    CHECK_REFUSED(hv_table_group_by(&session, table, gone, 1, sum, 1, &out, &error), HV_TABLE_UNKNOWN_NAME, 0, 0, 0);
+    CHECK_REFUSED(hv_table_group_by(&session, table, station, 1, none, 1, &out, &error), HV_TABLE_UNKNOWN_NAME, 0, 0,
+                  0);
     CHECK_REFUSED(hv_table_group_by(&session, table, station, 1, sum, 2, &out, &error), HV_CAST_OUT_OF_RANGE, 1, 0, 0);
     CHECK_REFUSED(hv_table_group_by(&session, table, station, 1, text, 1, &out, &error), HV_UNSUPPORTED, 0, 0,
                   HV_TABLE_WITHOUT_SUM);
     CHECK(hv_table_group_by(&session, table, station, 1, bad, 1, &out, &error) == HV_BAD_NUMBER);
     CHECK(hv_table_group_by(&session, table, station, 1, bytes, 1, &out, &error) == HV_TYPE_MISMATCH);
-    CHECK(out.rows == 1 && out.count == 5);
+    CHECK(hv_table_len(&out) == 1 && hv_table_width(&out) == 5);
     hv_table_free(&out);
+}
+
+/* A format with a zero byte is none of durations, and stays with the values. */
+static void check_zero_format(void) {
+    const char *const names[] = {"key", "number"}, *const key[] = {"key"};
+    const hv_table_answer asked[] = {{"least", HV_FOLD_LEAST, "number"}, {"sum", HV_FOLD_SUM, "number"}};
+    const uint8_t keys[] = {1, 1};
+    const int64_t numbers[] = {6, 5};
+    uint8_t format[8];
+    size_t size = 0;
+    hv_column columns[2] = {HV_EMPTY, HV_EMPTY};
+    hv_table table = HV_EMPTY, out = HV_EMPTY;
+    CHECK(!hv_u8(keys, 2, NOT_NULLABLE, &columns[0], &error) && !hv_i64(numbers, 2, NO_NULLS, &columns[1], &error));
+    CHECK(!hv_table_give_format(&columns[1], "tDs", 4, &error));
+    CHECK(!hv_table_of(names, columns, 2, &table, &error));
+    CHECK(!hv_table_group_by(&session, &table, key, 1, asked, 2, &out, &error));
+    CHECK(!hv_table_column(&out, 1, &columns[0], &error) && !hv_table_column(&out, 2, &columns[1], &error));
+    CHECK(!hv_type(&columns[0], format, sizeof format, &size, &error) && size == 4 && !memcmp(format, "tDs", 4));
+    CHECK(!hv_type(&columns[1], format, sizeof format, &size, &error) && size == 0);
+    CHECK_ROWS(&columns[0], "5");
+    CHECK_ROWS(&columns[1], "11");
+    for (int i = 0; i < 2; i++) hv_free(&columns[i]);
+    hv_table_free(&table), hv_table_free(&out);
 }
 
 /* Sums of decimals that leave 38 digits, in the second group. */
@@ -259,19 +287,20 @@ static void check_decimals(void) {
     const hv_pair most = {UINT64_MAX, INT64_MAX}, few = {5, 0};
     hv_pair pairs[] = {few, few, most, few};
     hv_column columns[2] = {HV_EMPTY, HV_EMPTY};
-    hv_table table = HV_TABLE_EMPTY, out = HV_TABLE_EMPTY;
+    hv_table table = HV_EMPTY, out = HV_EMPTY;
     for (int is_small = 0; is_small < 2; is_small++) {
         CHECK(!hv_u8(keys, 4, NOT_NULLABLE, &columns[0], &error));
         CHECK(!hv_decimals(pairs, 4, 5, 2, NOT_NULLABLE, &columns[1], &error));
-        CHECK(!hv_table_new(names, NULL, columns, 2, &table, &error));
+        CHECK(!hv_table_of(names, columns, 2, &table, &error));
         if (is_small) CHECK(!hv_table_group_by(&session, &table, key, 1, sum, 1, &out, &error));
         else
             CHECK_REFUSED(hv_table_group_by(&session, &table, key, 1, sum, 1, &out, &error), HV_CAST_OUT_OF_RANGE, 1,
                           0, 0);
         pairs[2] = few;
     }
-    CHECK_ROWS(&out.columns[1], "0:10 0:10");
-    CHECK(hv_kind_of(&out.columns[1]).precision == 38 && hv_kind_of(&out.columns[1]).scale == 2);
+    CHECK(!hv_table_column(&out, 1, &columns[1], &error));
+    CHECK_ROWS(&columns[1], "0:10 0:10");
+    CHECK(hv_kind_of(&columns[1]).precision == 38 && hv_kind_of(&columns[1]).scale == 2);
     for (int i = 0; i < 2; i++) hv_free(&columns[i]);
     hv_table_free(&table);
     hv_table_free(&out);
@@ -280,10 +309,10 @@ static void check_decimals(void) {
 /* ---- Each request for memory refused in turn ---- */
 
 static void check_memory(const hv_table *table) {
-    hv_table out = HV_TABLE_EMPTY;
+    hv_table out = HV_EMPTY;
     long tried = 0;
     for (long at = 0;; at++) {
-        CHECK(!hv_table_slice(&session, table, 0, 1, &out, &error));
+        CHECK(!hv_table_slice(table, 0, 1, &out, &error));
         const long before = blocks;
         requests = refused = 0, refuse_at = at;
         const int32_t answer = hv_table_group_by(&session, table, both, 2, all, COUNT(all), &out, &error);
@@ -294,7 +323,7 @@ static void check_memory(const hv_table *table) {
         }
         tried++;
         CHECK(answer == HV_OUT_OF_MEMORY || !answer);
-        if (answer) CHECK(blocks == before && out.rows == 1 && out.count == 5);
+        if (answer) CHECK(blocks == before && hv_table_len(&out) == 1 && hv_table_width(&out) == 5);
     }
     CHECK(tried > 100);
     printf("%ld requests for memory refused\n", tried);
@@ -302,12 +331,13 @@ static void check_memory(const hv_table *table) {
 }
 
 int main(void) {
-    hv_table table = HV_TABLE_EMPTY;
+    hv_table table = HV_EMPTY;
     size_t grouped = 0;
     hv_session_initial(&session);
-    make_readings(&table);
+    make_measures(&table);
     check_by_hand(&table);
     check_refusals(&table);
+    check_zero_format();
     check_decimals();
     check_memory(&table);
     for (int i = 0; i < TABLES; i++) {

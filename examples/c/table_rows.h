@@ -2,8 +2,7 @@
  * number or a text. What a table answers is held against loops over these. */
 #ifndef HIVEVIGIL_TABLE_ROWS_H
 #define HIVEVIGIL_TABLE_ROWS_H
-#include "check.h"
-#include "hivevigil_table.h"
+#include "table_checks.h"
 
 enum { MOST_ROWS = 600, MOST_ITEMS = MOST_ROWS + 4, MOST_COLUMNS = 6, MOST_LETTERS = 5 };
 __extension__ typedef __int128 plain_number;
@@ -17,7 +16,7 @@ typedef struct plain_row {
 
 typedef struct plain_column {
     hv_kind kind;
-    const char *format; /* logical type */
+    const char *format;
     char name[2];
     plain_row rows[MOST_ROWS];
 } plain_column;
@@ -258,7 +257,7 @@ static void make_column(plain_column *column, size_t count, hv_column *out) {
 static inline void random_table(plain_table *plain, hv_table *out) {
     static const size_t sizes[] = {0, 1, 2, 9, 40, MOST_ROWS};
     hv_column columns[MOST_COLUMNS] = {HV_EMPTY};
-    const char *names[MOST_COLUMNS], *formats[MOST_COLUMNS];
+    const char *names[MOST_COLUMNS];
     plain->rows = sizes[chance(COUNT(sizes))];
     plain->count = 1 + chance(MOST_COLUMNS);
     for (size_t i = 0; i < plain->count; i++) {
@@ -268,10 +267,10 @@ static inline void random_table(plain_table *plain, hv_table *out) {
         column->name[0] = (char)('a' + (int)i);
         fill_rows(column, plain->rows);
         make_column(column, plain->rows, &columns[i]);
+        give_format(&columns[i], column->format);
         names[i] = column->name;
-        formats[i] = column->format;
     }
-    CHECK(!hv_table_new(names, formats, columns, plain->count, out, &error));
+    CHECK(!hv_table_of(names, columns, plain->count, out, &error));
     for (size_t i = 0; i < plain->count; i++) hv_free(&columns[i]);
 }
 
@@ -324,11 +323,13 @@ static void check_rows(const hv_column *column, const plain_column *plain, const
 }
 
 static inline void check_table(const hv_table *table, const plain_table *plain, const size_t *order) {
-    CHECK(table->rows == plain->rows && table->count == plain->count);
+    CHECK(hv_table_len(table) == plain->rows && hv_table_width(table) == plain->count);
     for (size_t i = 0; i < plain->count; i++) {
-        CHECK(!strcmp(table->names[i], plain->columns[i].name));
-        CHECK(!strcmp(table->logical_types[i], plain->columns[i].format));
-        check_rows(&table->columns[i], &plain->columns[i], order, plain->rows);
+        const plain_column *const due = &plain->columns[i];
+        hv_column column = checked_column(table, i, due->name, due->format);
+        CHECK(hv_kind_of(&column).nullable == due->kind.nullable);
+        check_rows(&column, due, order, plain->rows);
+        hv_free(&column);
     }
 }
 

@@ -13,8 +13,10 @@
  *
  * A refusal is written to standard output as its name and its sentence. */
 #include "hivevigil_table_file.h"
-#include "hivevigil_table_groups.h"
 #include "check.h"
+#include "hivevigil_table_arrow.h"
+#include "hivevigil_table_concat.h"
+#include "hivevigil_table_groups.h"
 
 enum { MOST = 64 };
 static hv_session session;
@@ -25,7 +27,7 @@ static int32_t take(const hv_table *table, char **words, size_t count, hv_table 
     hv_column column = HV_EMPTY;
     for (size_t i = 0; i < count; i++) indices[i] = strtoull(words[i], NULL, 10);
     int32_t answer = hv_u64(indices, count, NOT_NULLABLE, &column, &error);
-    if (!answer) answer = hv_table_take(&session, table, &column, out, &error);
+    if (!answer) answer = hv_table_take(table, &column, out, &error);
     hv_free(&column);
     return answer;
 }
@@ -34,25 +36,35 @@ static int32_t filter(const hv_table *table, char **words, hv_table *out) {
     static const char *const signs[] = {"==", "!=", ">", ">=", "<", "<="};
     hv_value value = {strtoull(words[2], NULL, 10), strtoll(words[2], NULL, 10), HV_SIGNED, 0};
     hv_table_condition asked = {words[0], 0, &value, NULL, 0, 0};
-    size_t place = 0;
+    hv_column column = HV_EMPTY;
+    hv_table_text format = HV_TABLE_NO_TEXT;
     while (strcmp(signs[asked.operator_], words[1]) != 0) asked.operator_++;
-    const int32_t answer = hv_table_find(table, words[0], &place, &error);
+    int32_t answer = hv_table_column_named(table, words[0], &column, &error);
+    if (!answer) answer = hv_table_format_of(&column, &format, &error);
     if (answer) return answer;
-    if (hv_kind_of(&table->columns[place]).number < HV_I8) value.kind = HV_UNSIGNED;
-    if (hv_table_is_float(&table->columns[place], table->logical_types[place])) {
+    if (hv_kind_of(&column).number < HV_I8) value.kind = HV_UNSIGNED;
+    if (hv_table_is_float(&column, hv_table_format_in(&format))) {
         asked.value = NULL;
         asked.number = (double)value.as_signed;
     }
-    return hv_table_filter_by(&session, table, &asked, out, &error);
+    free(format.at);
+    hv_free(&column);
+    return hv_table_filter_where(&session, table, &asked, out, &error);
 }
 
 static int32_t sort(const hv_table *table, char **words, size_t count, hv_table *out) {
-    hv_table_key keys[MOST];
+    const char *names[MOST];
+    uint8_t flags[MOST];
+    hv_column texts = HV_EMPTY;
     for (size_t i = 1; i < count; i++) {
-        keys[i - 1].name = words[i] + 1;
-        keys[i - 1].descending = words[i][0] == '-';
+        names[i - 1] = words[i] + 1;
+        flags[i - 1] = (uint8_t)((words[i][0] == '-' ? HV_TABLE_DESCENDING : 0) |
+                                 (strcmp(words[0], "last") == 0 ? HV_TABLE_NULLS_LAST : 0));
     }
-    return hv_table_sort(&session, table, keys, count - 1, strcmp(words[0], "last") == 0, out, &error);
+    int32_t answer = hv_table_names(names, count - 1, &texts, &error);
+    if (!answer) answer = hv_table_sort(table, &texts, flags, count - 1, out, &error);
+    hv_free(&texts);
+    return answer;
 }
 
 static int32_t group(const hv_table *table, char **words, size_t count, hv_table *out) {
@@ -61,9 +73,9 @@ static int32_t group(const hv_table *table, char **words, size_t count, hv_table
 }
 
 static int32_t append(const hv_table *table, const char *path, hv_table *out) {
-    hv_table other = HV_TABLE_EMPTY;
+    hv_table other = HV_EMPTY;
     int32_t answer = hv_table_load(path, &other, &error);
-    if (!answer) answer = hv_table_append(&session, table, &other, out, &error);
+    if (!answer) answer = hv_table_concat(&session, table, &other, out, &error);
     hv_table_free(&other);
     return answer;
 }
@@ -75,27 +87,26 @@ static int32_t through_arrow(const hv_table *table, const char *rows, hv_table *
 }
 
 static int32_t make(const char *command, const char *from, char **words, size_t count, hv_table *out) {
-    hv_table table = HV_TABLE_EMPTY;
+    hv_table table = HV_EMPTY;
     if (!strcmp(command, "select"))
         return hv_table_load_columns(from, (const char *const *)words, count, out, &error);
     int32_t answer = hv_table_load(from, &table, &error);
     if (answer) return answer;
     if (!strcmp(command, "slice"))
-        answer = hv_table_slice(&session, &table, strtoull(words[0], NULL, 10), strtoull(words[1], NULL, 10), out,
-                                &error);
+        answer = hv_table_slice(&table, strtoull(words[0], NULL, 10), strtoull(words[1], NULL, 10), out, &error);
     else if (!strcmp(command, "take")) answer = take(&table, words, count, out);
     else if (!strcmp(command, "filter")) answer = filter(&table, words, out);
     else if (!strcmp(command, "sort")) answer = sort(&table, words, count, out);
     else if (!strcmp(command, "append")) answer = append(&table, words[0], out);
     else if (!strcmp(command, "groups")) answer = group(&table, words, count, out);
     else if (!strcmp(command, "arrow")) answer = through_arrow(&table, words[0], out);
-    else *out = table, memset(&table, 0, sizeof table);
+    else hv_table_replace(out, &table);
     hv_table_free(&table);
     return answer;
 }
 
 int main(int count, char **given) {
-    hv_table made = HV_TABLE_EMPTY;
+    hv_table made = HV_EMPTY;
     char text[HV_ERROR_TEXT];
     if (count < 4 || count > MOST) return 2;
     hv_session_initial(&session);

@@ -1,9 +1,9 @@
-/* Tables of the library, and the same rows in plain arrays: each row is null, a number or a text. What hv_frame_..
+/* Tables, and the same rows in plain arrays: each row is null, a number or a text. What hv_table_..
  * makes is held against loops over these. */
-#ifndef HIVEVIGIL_FRAME_ROWS_H
-#define HIVEVIGIL_FRAME_ROWS_H
+#ifndef HIVEVIGIL_PLAIN_ROWS_H
+#define HIVEVIGIL_PLAIN_ROWS_H
 #include "check.h"
-#include "hivevigil_tables.h"
+#include "hivevigil_table_errors.h"
 
 enum { MOST_ROWS = 120, MOST_COLUMNS = 6, NAMES = 8 };
 enum { OF_I64, OF_U16, OF_TRUTHS, OF_TEXTS, KINDS };
@@ -107,14 +107,14 @@ static bool is_row(plain_row row, const hv_value *value, const uint8_t *text) {
     }
 }
 
-static void check_column(const hv_frame *frame, size_t place, const plain_column *plain, size_t rows) {
+static void check_column(const hv_table *table, size_t place, const plain_column *plain, size_t rows) {
     hv_column column = HV_EMPTY;
     uint8_t text[32];
     size_t size = 99, found = 99;
-    CHECK(!hv_frame_name(frame, place, text, sizeof text, &size, &error));
+    CHECK(!hv_table_name(table, place, text, sizeof text, &size, &error));
     CHECK(size == strlen(plain->name) && !memcmp(text, plain->name, size));
-    CHECK(!hv_frame_place(frame, text, size, &found, &error) && found == place);
-    CHECK(!hv_frame_column(frame, place, &column, &error) && hv_length(&column) == rows);
+    CHECK(!hv_table_place(table, text, size, &found, &error) && found == place);
+    CHECK(!hv_table_column(table, place, &column, &error) && hv_length(&column) == rows);
     const hv_kind kind = hv_kind_of(&column);
     CHECK(kind.number == kinds[plain->kind].number && kind.nullable == plain->may_be_null);
     CHECK(!hv_type(&column, text, sizeof text, &size, &error));
@@ -127,9 +127,9 @@ static void check_column(const hv_frame *frame, size_t place, const plain_column
 }
 
 /* The table has exactly these columns and rows. */
-static void check_frame(const hv_frame *frame, const plain_table *plain) {
-    CHECK(hv_frame_len(frame) == plain->rows && hv_frame_width(frame) == plain->count);
+static void check_table(const hv_table *table, const plain_table *plain) {
+    CHECK(hv_table_len(table) == plain->rows && hv_table_width(table) == plain->count);
     for (size_t place = 0; place < plain->count; place++)
-        check_column(frame, place, &plain->columns[place], plain->rows);
+        check_column(table, place, &plain->columns[place], plain->rows);
 }
 #endif
