@@ -29,7 +29,11 @@ static LISTS: Mutex<()> = Mutex::new(());
 
 /// Takes the turn of a call that these columns are lent to, if one of them is of lists.
 pub(crate) fn turn_of(columns: &[&Column]) -> Option<MutexGuard<'static, ()>> {
-    let are_lists = columns.iter().any(|column| column.kind().is_list());
+    turn_if(columns.iter().any(|column| column.kind().is_list()))
+}
+
+/// Takes the turn of a call that is lent lists, if these are.
+pub(crate) fn turn_if(are_lists: bool) -> Option<MutexGuard<'static, ()>> {
     are_lists.then(|| LISTS.lock().unwrap_or_else(PoisonError::into_inner))
 }
 

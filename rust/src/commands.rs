@@ -42,33 +42,9 @@ impl Column {
     /// # Ok::<(), hivevigil::Error>(())
     /// ```
     pub fn slice(&self, rows: impl RangeBounds<usize>) -> Result<Column, Error> {
-        let (start, end) = self.ends_of(rows)?;
+        let (start, end) = ends_of(rows, self.len())?;
         self.command(|session, column, out, fields| unsafe {
             raw::hv_slice(session, column, start, end, out, fields)
-        })
-    }
-
-    /// Finds where a range starts and ends; refused as `BadRange` where one of these is past 64 bits.
-    fn ends_of(&self, rows: impl RangeBounds<usize>) -> Result<(usize, usize), Error> {
-        let start = match rows.start_bound() {
-            Bound::Included(start) => Some(*start),
-            Bound::Excluded(before) => before.checked_add(1),
-            Bound::Unbounded => Some(0),
-        };
-        let end = match rows.end_bound() {
-            Bound::Included(last) => last.checked_add(1),
-            Bound::Excluded(end) => Some(*end),
-            Bound::Unbounded => Some(self.len()),
-        };
-        start.zip(end).ok_or_else(|| {
-            let of = |end: Option<usize>| end.map_or(u64::MAX, |end| end as u64);
-            let (first, second, third) = (of(start), of(end), self.len() as u64);
-            let fields = Fields {
-                first,
-                second,
-                third,
-            };
-            Error::new(ErrorKind::BadRange as i32, fields)
         })
     }
 
@@ -267,4 +243,31 @@ impl Column {
             )
         })
     }
+}
+
+/// Finds where a range among these rows starts and ends; refused as `BadRange` where one of these is past 64 bits.
+pub(crate) fn ends_of(
+    range: impl RangeBounds<usize>,
+    rows: usize,
+) -> Result<(usize, usize), Error> {
+    let start = match range.start_bound() {
+        Bound::Included(start) => Some(*start),
+        Bound::Excluded(before) => before.checked_add(1),
+        Bound::Unbounded => Some(0),
+    };
+    let end = match range.end_bound() {
+        Bound::Included(last) => last.checked_add(1),
+        Bound::Excluded(end) => Some(*end),
+        Bound::Unbounded => Some(rows),
+    };
+    start.zip(end).ok_or_else(|| {
+        let of = |end: Option<usize>| end.map_or(u64::MAX, |end| end as u64);
+        let (first, second, third) = (of(start), of(end), rows as u64);
+        let fields = Fields {
+            first,
+            second,
+            third,
+        };
+        Error::new(ErrorKind::BadRange as i32, fields)
+    })
 }

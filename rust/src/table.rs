@@ -1,7 +1,9 @@
 //! Several named columns of one number of rows, in memory and in a file.
-use crate::{Column, Kind};
+use crate::raw::{Handle, TableHandle};
+use crate::{Column, Fields, Kind};
+use held::Held;
 use std::collections::HashSet;
-use std::iter::FusedIterator;
+use std::iter::{FusedIterator, Zip};
 use std::ops::Index;
 use std::slice;
 
@@ -14,6 +16,7 @@ mod error;
 mod floats;
 mod footer;
 mod groups;
+mod held;
 mod keys;
 mod message;
 mod reading;
@@ -54,14 +57,9 @@ pub use writing::SaveOptions;
 /// # Ok::<(), hivevigil::TableError>(())
 /// ```
 pub struct Table {
-    entries: Vec<Entry>,
-    rows: usize,
-}
-
-/// Holds a column of a table under its name.
-struct Entry {
-    name: String,
-    column: Column,
+    held: Held,
+    names: Vec<String>,
+    columns: Vec<Column>, // copies of those that are held, which share their buffers: these are lent
 }
 
 /// Tables made of columns, and what they have.
@@ -71,62 +69,81 @@ impl Table {
     pub fn try_from_iter<N: Into<String>>(
         columns: impl IntoIterator<Item = (N, Column)>,
     ) -> Result<Table, TableError> {
-        let entries = columns.into_iter().map(|(name, column)| Entry {
-            name: name.into(),
-            column,
-        });
-        let entries: Vec<Entry> = entries.collect();
-        let rows = entries.first().map_or(0, |entry| entry.column.len());
-        Table::of(entries, rows)
+        let named = columns
+            .into_iter()
+            .map(|(name, column)| (name.into(), column));
+        let columns: Vec<(String, Column)> = named.collect();
+        let rows = columns.first().map_or(0, |(_, column)| column.len());
+        Table::of(&columns, rows)
     }
 
-    /// Makes a table that has rows, and no columns yet.
+    /// Makes a table that has rows, and no columns yet; panics where memory is refused.
     pub fn without_columns(rows: usize) -> Table {
-        let entries = Vec::new();
-        Table { entries, rows }
+        let made = Held::with_rows(rows).map_err(TableError::from);
+        made.and_then(Table::holding)
+            .unwrap_or_else(|error| panic!("no table is made: {error}"))
     }
 
-    /// Checks the names and the numbers of rows.
-    fn of(entries: Vec<Entry>, rows: usize) -> Result<Table, TableError> {
-        refuse_twice(entries.iter().map(|entry| entry.name.as_str()))?;
-        match entries.iter().find(|entry| entry.column.len() != rows) {
-            None => Ok(Table { entries, rows }),
-            Some(entry) => Err(TableError::UnevenRows {
-                name: entry.name.clone(),
-                rows: entry.column.len(),
-                expected: rows,
-            }),
+    /// Makes a table of columns of this number of rows.
+    fn of(columns: &[(String, Column)], rows: usize) -> Result<Table, TableError> {
+        refuse_twice(columns.iter().map(|(name, _)| name.as_str()))?;
+        let mut held = Held::with_rows(rows)?;
+        for (name, column) in columns {
+            held.put(name, column)?;
         }
+        Table::holding(held)
+    }
+
+    /// Lends the columns of a table that is held.
+    fn holding(held: Held) -> Result<Table, TableError> {
+        let (names, columns) = (held.names(), held.columns()?);
+        Ok(Table {
+            held,
+            names,
+            columns,
+        })
+    }
+
+    /// Makes a table by a call that is lent this one and a column of names.
+    fn by_names(
+        &self,
+        names: impl IntoIterator<Item = impl AsRef<str>>,
+        call: impl FnOnce(*mut TableHandle, *mut Handle, *mut TableHandle, *mut Fields) -> i32,
+    ) -> Result<Table, TableError> {
+        let names: Vec<_> = names.into_iter().collect();
+        let names: Vec<&str> = names.iter().map(AsRef::as_ref).collect();
+        let made = self.held.beside(&Column::texts(&names, None)?, call);
+        Table::holding(made.map_err(|error| self.refusal(error, &names))?)
     }
 
     /// Counts the rows of each column.
     pub fn rows(&self) -> usize {
-        self.rows
+        self.held.rows()
     }
 
     /// Counts the columns.
     pub fn len(&self) -> usize {
-        self.entries.len()
+        self.columns.len()
     }
 
     /// Returns whether the table has no columns.
     pub fn is_empty(&self) -> bool {
-        self.entries.is_empty()
+        self.columns.is_empty()
     }
 
     /// Lists the names in their order.
     pub fn names(&self) -> impl ExactSizeIterator<Item = &str> {
-        self.entries.iter().map(|entry| entry.name.as_str())
+        self.names.iter().map(String::as_str)
     }
 
     /// Finds the column of a name; `None` where there is none. `table["level"]` is the same, and panics there.
     pub fn get(&self, name: &str) -> Option<&Column> {
-        self.entry(name).ok().map(|entry| &entry.column)
+        self.held.place(name).map(|place| &self.columns[place])
     }
 
     /// Finds the column of a name; refused as `NoSuchColumn`.
     pub fn column(&self, name: &str) -> Result<&Column, TableError> {
-        self.entry(name).map(|entry| &entry.column)
+        self.place(name).map(|place| &self.columns[place])
     }
 
     /// Returns the type of the column of a name; refused as `NoSuchColumn`.
@@ -136,17 +153,16 @@ impl Table {
 
     /// Lists the columns with their names, in their order.
     pub fn iter(&self) -> Columns<'_> {
-        Columns(self.entries.iter())
+        Columns(self.names.iter().zip(&self.columns))
     }
 
     /// Counts the bytes that the columns take for what they show, as [`Column::bytes_used`] does.
     pub fn bytes_used(&self) -> usize {
-        let used = self.entries.iter().map(|entry| entry.column.bytes_used());
-        used.sum()
+        self.columns.iter().map(Column::bytes_used).sum()
     }
 
-    fn entry(&self, name: &str) -> Result<&Entry, TableError> {
-        let found = self.entries.iter().find(|entry| entry.name == name);
+    fn place(&self, name: &str) -> Result<usize, TableError> {
+        let found = self.held.place(name);
         found.ok_or_else(|| no_such(name, self.names()))
     }
 }
@@ -162,13 +178,13 @@ impl Index<&str> for Table {
 
 /// Lists the columns of a table with their names, as [`Table::iter`] makes it.
 #[derive(Clone)]
-pub struct Columns<'a>(slice::Iter<'a, Entry>);
+pub struct Columns<'a>(Zip<slice::Iter<'a, String>, slice::Iter<'a, Column>>);
 
 impl<'a> Iterator for Columns<'a> {
     type Item = (&'a str, &'a Column);
 
     fn next(&mut self) -> Option<Self::Item> {
-        self.0.next().map(Entry::named)
+        self.0.next().map(named)
     }
 
     fn size_hint(&self) -> (usize, Option<usize>) {
@@ -178,7 +194,7 @@ impl<'a> Iterator for Columns<'a> {
 
 impl DoubleEndedIterator for Columns<'_> {
     fn next_back(&mut self) -> Option<Self::Item> {
-        self.0.next_back().map(Entry::named)
+        self.0.next_back().map(named)
     }
 }
 
@@ -194,26 +210,8 @@ impl<'a> IntoIterator for &'a Table {
     }
 }
 
-impl Entry {
-    fn named(&self) -> (&str, &Column) {
-        (&self.name, &self.column)
-    }
-
-    /// Makes an entry of the same name.
-    fn with(&self, column: Column) -> Entry {
-        Entry {
-            name: self.name.clone(),
-            column,
-        }
-    }
-
-    fn try_clone(&self) -> Result<Entry, TableError> {
-        Ok(self.with(
-            self.column
-                .try_clone()
-                .map_err(TableError::of(&self.name))?,
-        ))
-    }
+fn named<'a>((name, column): (&'a String, &'a Column)) -> (&'a str, &'a Column) {
+    (name, column)
 }
 
 fn no_such<'a>(name: &str, names: impl Iterator<Item = &'a str>) -> TableError {

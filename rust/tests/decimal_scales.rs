@@ -317,7 +317,10 @@ fn check_joined(dice: &mut Dice, sides: [&Column; 2], left: &Rows, right: &Rows)
     let [first, second] =
         [a, b].map(|column| Table::try_from_iter([("price", column.clone())]).unwrap());
     match (first.append(&second), joined(&[left, right])) {
-        (Ok(table), due) => check(Ok(table["price"].clone()), due, form),
+        (Ok(table), due) => {
+            let (price, form) = (table["price"].clone(), table["price"].form());
+            check(Ok(price), due, form)
+        }
         (Err(TableError::Column { error, .. }), due) => check(Err(error), due, form),
         (Err(other), _) => panic!("{other:?}"),
     }

@@ -91,6 +91,7 @@ fn names_that_no_column_has_are_refused() -> Result<(), Error> {
         "depth",
         table.filter_by("depth", Operator::Equal, 1)
     ));
+    assert!(is_no_such("depth", table.drop_null(["level", "depth"])));
     assert!(is_no_such("depth", table.sort(["level", "depth"])));
     assert!(is_no_such("depth", table.group_by(["depth"]).map(drop)));
     let groups = table.group_by(["station"]).unwrap();
@@ -112,6 +113,10 @@ fn an_index_panics_where_there_is_no_column() {
 fn names_that_come_twice_are_refused() -> Result<(), Error> {
     let table = readings()?;
     assert!(is_repeated("level", table.select(["level", "level"])));
+    let names = ["depth", "level", "level"]; // which is refused before a name that no column has
+    assert!(is_repeated("level", table.select(names)));
+    assert!(is_repeated("level", table.drop_null(names)));
+    assert!(is_repeated("level", table.sort(names)));
     assert!(is_repeated("station", table.rename([("level", "station")])));
     assert!(is_repeated(
         "level",

@@ -124,6 +124,26 @@ fn filters_by_a_value_keep_the_rows_that_meet_it() -> Result<(), TableError> {
 }
 
 #[test]
+fn rows_with_null_in_named_columns_are_dropped() -> Result<(), TableError> {
+    each_table(10, |dice, table, model| {
+        let mut places: Vec<usize> = (0..model.names.len()).collect();
+        places.rotate_left(dice.below(model.names.len()));
+        places.truncate(dice.below(3));
+        let names: Vec<&String> = places.iter().map(|place| &model.names[*place]).collect();
+        if places.is_empty() {
+            places.extend(0..model.names.len()); // no name means all columns
+        }
+        let is_valid = |row: usize| {
+            let mut rows = places.iter().map(|place| &model.columns[*place][row]);
+            rows.all(|value| *value != Value::Null)
+        };
+        let due = model.rows_where(is_valid);
+        assert_eq!(model_of(&table.drop_null(names)?)?, model.take(&due));
+        Ok(())
+    })
+}
+
+#[test]
 fn appended_rows_come_after() -> Result<(), TableError> {
     each_table(6, |dice, table, model| {
         let rows = dice.below(30);
@@ -188,10 +208,10 @@ fn sorted_rows_are_those_of_a_stable_sort() -> Result<(), TableError> {
         let sorted = table.sort_by(&order.unwrap())?;
         assert_eq!(model_of(&sorted)?, model.take(&due));
         for (name, column) in table {
-            assert_eq!(
-                sorted[name].form() == Form::Runs,
-                column.form() == Form::Runs
-            );
+            match column.form() {
+                Form::Runs => assert_ne!(sorted[name].form(), Form::Constant),
+                form => assert_eq!(sorted[name].form(), form), // nothing is put in runs
+            }
         }
         Ok(())
     })
@@ -221,6 +241,20 @@ fn sorts_by_names_are_from_the_least_row_with_null_first() -> Result<(), TableEr
             in_order(&rows[left.unwrap()], &rows[right.unwrap()], (false, false))
         });
         assert_eq!(model_of(&table.sort([&model.names[0]])?)?, model.take(&due));
+        Ok(())
+    })
+}
+
+#[test]
+fn a_table_is_appended_to_itself_and_filtered_by_its_own_column() -> Result<(), TableError> {
+    each_table(11, |dice, table, model| {
+        let twice = [&model.rows_where(|_| true)[..], &model.rows_where(|_| true)].concat();
+        assert_eq!(model_of(&table.append(table)?)?, model.take(&twice));
+        let open = table_model::random_rows(dice, Kind::BOOL, model.rows());
+        let more = table.with_column("open", in_some_form(dice, Kind::BOOL, &open)?)?;
+        let kept = more.filter(&more["open"])?.without(["open"])?;
+        let due = model.rows_where(|row| open[row] == Value::Truth(true));
+        assert_eq!(model_of(&kept)?, model.take(&due));
         Ok(())
     })
 }
@@ -491,6 +525,40 @@ fn tables_go_to_other_threads() -> Result<(), TableError> {
     for thread in threads {
         let refused = thread.join().unwrap().unwrap_err();
         assert!(matches!(refused, TableError::RepeatedName(name) if name == "level"));
+    }
+    Ok(())
+}
+
+#[test]
+fn tables_of_lists_go_to_other_threads() -> Result<(), TableError> {
+    let mut message = vec![8, 1, 16, 13, 24, 4, 32, 3, 40, 1]; // three lists of u8, as docs/column.proto has them
+    for (key, part) in [
+        (138, Column::new(&[7u8, 8])?),
+        (146, Column::new(&[0u64, 0, 1])?), // where each begins
+        (154, Column::new(&[2u64, 1, 1])?), // how many items it has
+    ] {
+        let part = part.to_bytes()?;
+        message.extend([key, 1, part.len() as u8]);
+        message.extend(part);
+    }
+    let table = Table::try_from_iter([
+        ("list", Column::from_bytes(&message)?),
+        ("row", Column::new(&[0u8, 1, 2])?),
+    ])?;
+    let work = |table: Table| {
+        let due = table.take(&Column::new(&[2u8, 2])?)?;
+        for _ in 0..200 {
+            let last = table.slice(1..)?.append(&table.try_clone()?)?;
+            let last = last.sort(["row"])?.filter_by("row", Operator::Equal, 2)?;
+            assert_eq!(last, due);
+        }
+        Ok(())
+    };
+    let copies = [0; 4].map(|_| table.clone());
+    let threads = copies.map(|copy| std::thread::spawn(move || work(copy)));
+    drop(table);
+    for thread in threads {
+        thread.join().unwrap().map_err(|error: TableError| error)?;
     }
     Ok(())
 }

@@ -1,6 +1,6 @@
 //! Tables in and out of Arrow: a batch is an array of structs, a table a stream of batches.
 use super::floats::{bits, is_float, keys, Stored};
-use super::{refuse_twice, Entry, Table, TableError};
+use super::{refuse_twice, Table, TableError};
 use crate::arrow::{
     ArrowArray, ArrowArrayStream, ArrowError, ArrowOptions, ArrowSchema, Flaw, Reading,
 };
@@ -31,21 +31,21 @@ impl Table {
     /// where it is 0; refused as [`Table::to_arrow`].
     pub fn to_arrow_stream(&self, batch_rows: usize) -> Result<ArrowArrayStream, TableError> {
         let mut parts = Vec::new();
-        for entry in &self.entries {
-            let (column, bits_of_float) = match entry.rows() {
+        for (name, column) in self {
+            let (column, bits_of_float) = match Stored::of(column) {
                 Stored::Floats(keys) => (bits(keys), true),
                 Stored::AsTheyAre(column) => (column.try_clone(), false),
             };
-            let column = column.map_err(TableError::of(&entry.name))?;
-            parts.push((entry, column.logical_type(), column, bits_of_float));
+            let column = column.map_err(TableError::of(name))?;
+            parts.push((name, column.logical_type(), column, bits_of_float));
         }
-        let columns = parts.iter().map(|(entry, format, column, bits_of_float)| {
+        let columns = parts.iter().map(|(name, format, column, bits_of_float)| {
             let options = ArrowOptions {
                 bits_of_float: *bits_of_float,
                 format: format.as_deref(),
                 ..ArrowOptions::default()
             };
-            (entry.name.as_str(), column, options)
+            (*name, column, options)
         });
         let columns: Vec<_> = columns.collect();
         Ok(ArrowArrayStream::of_batches(&columns, batch_rows)?)
@@ -116,7 +116,7 @@ fn of_columns(
     rows: usize,
 ) -> Result<Table, TableError> {
     let pairs = formats.into_iter().zip(columns.into_iter().flatten());
-    let entries = pairs.map(|((name, format), column)| {
+    let columns = pairs.map(|((name, format), column)| {
         let column = match &format {
             format if is_float(format) => {
                 keys(&column).and_then(|keys| keys.with_logical_type(format))
@@ -125,7 +125,7 @@ fn of_columns(
             _ => Ok(column),
         };
         let column = column.map_err(TableError::of(&name))?;
-        Ok(Entry { name, column })
+        Ok((name, column))
     });
-    Table::of(entries.collect::<Result<_, TableError>>()?, rows)
+    Table::of(&columns.collect::<Result<Vec<_>, TableError>>()?, rows)
 }

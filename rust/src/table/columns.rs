@@ -1,11 +1,12 @@
 //! The columns of a table: which there are, under which names, and what their numbers are.
+use super::error::number;
 use super::floats::Stored;
-use super::{refuse_twice, Entry, Table, TableError};
-use crate::{Column, Error, ErrorKind, Float, Floats};
+use super::{Table, TableError};
+use crate::{raw, Column, Error, ErrorKind, Float, Floats};
 
 /// Columns of tables, and their logical types.
 impl Table {
-    /// Returns the columns of these names, in this order, each once; refused as `NoSuchColumn` and `RepeatedName`.
+    /// Returns the columns of these names, in this order, each once; refused as `RepeatedName` and `NoSuchColumn`.
     ///
     /// ```
     /// use hivevigil::{Column, Table, TableError};
@@ -19,10 +20,9 @@ impl Table {
         &self,
         names: impl IntoIterator<Item = impl AsRef<str>>,
     ) -> Result<Table, TableError> {
-        let chosen = names
-            .into_iter()
-            .map(|name| self.entry(name.as_ref())?.try_clone());
-        Table::of(chosen.collect::<Result<_, _>>()?, self.rows)
+        self.by_names(names, |table, names, out, fields| unsafe {
+            raw::hv_table_select(table, names, out, fields)
+        })
     }
 
     /// Returns all columns but those of these names; refused as `NoSuchColumn`.
@@ -32,41 +32,39 @@ impl Table {
     ) -> Result<Table, TableError> {
         let mut left_out = Vec::new();
         for name in names {
-            left_out.push(self.entry(name.as_ref())?.name.as_str());
+            left_out.push(self.place(name.as_ref())?);
         }
-        self.select(self.names().filter(|name| !left_out.contains(name)))
+        let places = (0..self.len()).filter(|place| !left_out.contains(place));
+        self.select(places.map(|place| &self.names[place]))
     }
 
-    /// Returns the same columns, of which those of the first names have the second ones; refused as `NoSuchColumn` and
-    /// `RepeatedName`.
+    /// Returns the same columns, of which those of the first names have the second ones; refused as `RepeatedName` and
+    /// `NoSuchColumn`.
     pub fn rename<'a>(
         &self,
         names: impl IntoIterator<Item = (&'a str, &'a str)>,
     ) -> Result<Table, TableError> {
-        let pairs: Vec<(&str, &str)> = names.into_iter().collect();
-        refuse_twice(pairs.iter().map(|(name, _)| *name))?;
-        let mut renamed = self.try_clone()?;
-        for (name, new) in pairs {
-            let place = self.place(name)?;
-            renamed.entries[place].name = new.to_string();
-        }
-        Table::of(renamed.entries, self.rows)
+        let (names, new_names): (Vec<&str>, Vec<&str>) = names.into_iter().unzip();
+        let others = Column::texts(&new_names, None)?;
+        let made = self.by_names(&names, |table, names, out, fields| unsafe {
+            raw::hv_table_rename(table, names, others.handle.get(), out, fields)
+        });
+        made.map_err(|error| match error {
+            TableError::Refused(error) if error.number == number::NEW_NAME_TWICE => {
+                let name = self.names[error.fields.second as usize].as_str();
+                let place = names.iter().position(|renamed| *renamed == name);
+                TableError::RepeatedName(place.map_or(name, |place| new_names[place]).to_string())
+            }
+            other => other,
+        })
     }
 
     /// Returns the same columns and one more, or another in place of that of this name. Refused as `UnevenRows`, except
     /// where there is neither a column nor a row yet.
     pub fn with_column(&self, name: &str, column: Column) -> Result<Table, TableError> {
-        let is_first = self.is_empty() && self.rows == 0;
-        let rows = if is_first { column.len() } else { self.rows };
-        let mut entries = self.try_clone()?.entries;
-        match entries.iter_mut().find(|other| other.name == name) {
-            Some(other) => other.column = column,
-            None => entries.push(Entry {
-                name: name.to_string(),
-                column,
-            }),
-        }
-        Table::of(entries, rows)
+        let mut held = self.held.try_clone()?;
+        held.put(name, &column)?;
+        Table::holding(held)
     }
 
     /// Returns the same with a column of floats: their keys, which the table knows as floats.
@@ -82,17 +80,15 @@ impl Table {
     /// Returns the column of floats of a name; refused as `NoSuchColumn`, and as `TypeMismatch` where it does not have
     /// floats of this width.
     pub fn floats<T: Float>(&self, name: &str) -> Result<Floats<T>, TableError> {
-        let entry = self.entry(name)?;
+        let column = self.column(name)?;
         let asked = Error::said(
             ErrorKind::TypeMismatch,
             "it does not have floats of this width",
         );
-        let is_float = matches!(entry.rows(), Stored::Floats(_));
-        let keys = is_float
-            .then_some(&entry.column)
-            .ok_or(asked)
-            .and_then(Column::try_clone);
-        keys.and_then(|keys| Floats::of_keys(keys).map_err(|_| asked))
+        let is_float = matches!(Stored::of(column), Stored::Floats(_));
+        let keys = is_float.then_some(column).ok_or(asked);
+        keys.and_then(Column::try_clone)
+            .and_then(|keys| Floats::of_keys(keys).map_err(|_| asked))
             .map_err(TableError::of(name))
     }
 
@@ -115,10 +111,5 @@ impl Table {
     pub fn with_logical_type(&self, name: &str, format: &str) -> Result<Table, TableError> {
         let column = self.column(name)?.with_logical_type(format);
         self.with_column(name, column.map_err(TableError::of(name))?)
-    }
-
-    fn place(&self, name: &str) -> Result<usize, TableError> {
-        self.entry(name)?;
-        Ok(self.names().take_while(|other| *other != name).count())
     }
 }

@@ -1,6 +1,7 @@
 //! Refusals of tables.
+use super::{no_such, Table};
 use crate::arrow::ArrowError;
-use crate::{Error, Kind};
+use crate::{Error, ErrorKind, Kind};
 use std::fmt;
 use std::io;
 use std::path::PathBuf;
@@ -107,6 +108,43 @@ impl TableError {
         |error| TableError::Column {
             name: name.to_string(),
             error,
+        }
+    }
+
+    /// Names the column that was not put into a table.
+    pub(super) fn of_put(name: &str) -> impl Fn(Error) -> TableError + '_ {
+        |error| match error.number {
+            number::ROW_COUNT => TableError::UnevenRows {
+                name: name.to_string(),
+                rows: error.fields.second as usize,
+                expected: error.fields.third as usize,
+            },
+            _ => TableError::of(name)(error),
+        }
+    }
+}
+
+/// Has the numbers of `hivevigil_tables.h` by which the library refuses.
+pub(super) mod number {
+    pub const UNKNOWN_NAME: i32 = 201;
+    pub const NAME_TWICE: i32 = 202;
+    pub const ROW_COUNT: i32 = 206;
+    pub const OTHER_TYPE: i32 = 209;
+    pub const NEW_NAME_TWICE: i32 = 210;
+    pub const NO_KEYS: i32 = 211;
+    pub const KEY_OF_LISTS: i32 = 212;
+}
+
+impl Table {
+    /// Says what a call refused that was lent this table and a column of these names.
+    pub(super) fn refusal(&self, error: Error, names: &[&str]) -> TableError {
+        let (first, second) = (error.fields.first as usize, error.fields.second as usize);
+        match error.number {
+            number::UNKNOWN_NAME => no_such(names[first], self.names()),
+            number::NAME_TWICE => TableError::RepeatedName(names[second].to_string()),
+            number::NO_KEYS => TableError::NoKeys,
+            number::KEY_OF_LISTS => TableError::of(names[first])(Error::of(ErrorKind::Unsupported)),
+            _ => TableError::Refused(error),
         }
     }
 }

@@ -1,5 +1,4 @@
 //! Columns of floats in tables: keys in a column of integers, and a logical type that says so.
-use super::Entry;
 use crate::{raw, Column, Error, Float, Floats, Kind};
 
 /// Says what the rows of a column are.
@@ -48,12 +47,6 @@ impl<'a> Stored<'a> {
         let kind = keys.kind().not_nullable();
         let found = FORMATS.iter().find(|(_, keys, _)| *keys == kind);
         found.map(|(.., infinity)| -1 - infinity..=*infinity)
-    }
-}
-
-impl Entry {
-    pub(super) fn rows(&self) -> Stored<'_> {
-        Stored::of(&self.column)
     }
 }
 

@@ -1,9 +1,10 @@
 //! What is asked of the groups of a table: runs of neighbouring rows that are equal in some columns.
 use super::differences::is_integer;
 use super::floats::{doubles, Stored};
+use super::held::Held;
 use super::keys::Keys;
 use super::runs::{runs_of, shown_by_name, Shown, Stretches};
-use super::{refuse_twice, Entry, Table, TableError};
+use super::{refuse_twice, Table, TableError};
 use crate::{raw, Column, Error, ErrorKind, Floats, Fold, Kind, Value};
 use std::cmp::Ordering;
 use std::ops::Range;
@@ -39,25 +40,27 @@ impl Table {
         &self,
         names: impl IntoIterator<Item = impl AsRef<str>>,
     ) -> Result<Groups<'_>, TableError> {
-        let mut entries = Vec::new();
+        let mut columns = Vec::new();
         for name in names {
-            entries.push(self.entry(name.as_ref())?);
+            let place = self.place(name.as_ref())?;
+            columns.push((self.names[place].as_str(), &self.columns[place]));
         }
-        if entries.is_empty() {
+        if columns.is_empty() {
             return Err(TableError::NoKeys);
         }
-        refuse_twice(entries.iter().map(|entry| entry.name.as_str()))?;
-        let shown = shown_by_name(entries.iter().map(|entry| entry.named()))?;
+        refuse_twice(columns.iter().map(|(name, _)| *name))?;
+        let shown = shown_by_name(columns.iter().copied())?;
         let stretches = Stretches::of(shown.iter());
         let places: Vec<usize> = (0..stretches.stops.len()).collect();
         let starts = Column::new(&stretches.starts())?;
-        let keys = entries.iter().map(|entry| {
-            let first_rows = entry.column.take(&starts).and_then(|rows| rows.decode());
-            Ok(entry.with(first_rows.map_err(TableError::of(&entry.name))?))
+        let keys = columns.iter().map(|(name, column)| {
+            let first_rows = column.take(&starts).and_then(|rows| rows.decode());
+            Ok((name.to_string(), first_rows.map_err(TableError::of(name))?))
         });
+        let keys = keys.collect::<Result<Vec<_>, TableError>>()?;
         Ok(Groups {
             table: self,
-            keys: Table::of(keys.collect::<Result<_, TableError>>()?, places.len())?,
+            keys: Table::of(&keys, places.len())?,
             numbers: runs_of(&stretches.stops, &Column::new(&places)?)?,
             stretches,
         })
@@ -77,7 +80,9 @@ impl Groups<'_> {
 
     /// Counts the rows of each group, in `u64`, under the name `size`.
     pub fn size(&self) -> Result<Table, TableError> {
-        self.keys.try_clone()?.with_new("size", self.sizes()?)
+        let mut found = self.keys.held.try_clone()?;
+        put_new(&mut found, "size", &self.sizes()?)?;
+        Table::holding(found)
     }
 
     /// Counts the rows of a column that are not null in each group, in `u64`, under the name of the column. Refused as
@@ -118,18 +123,17 @@ impl Groups<'_> {
         &self,
         answers: impl IntoIterator<Item = (&'n str, &'n str, Fold)>,
     ) -> Result<Table, TableError> {
-        let mut found = self.keys.try_clone()?;
+        let mut found = self.keys.held.try_clone()?;
         for (name, asked, fold) in answers {
-            let entry = self.table.entry(asked)?;
-            let column = self.answer(entry, fold).map_err(TableError::of(asked))?;
-            found = found.with_new(name, column)?;
+            let answer = self.answer(self.table.column(asked)?, fold);
+            put_new(&mut found, name, &answer.map_err(TableError::of(asked))?)?;
         }
-        Ok(found)
+        Table::holding(found)
     }
 
     /// Answers for the rows of a column. Sums of durations are durations, and rows that are picked mean what they did.
-    fn answer(&self, entry: &Entry, fold: Fold) -> Result<Column, Error> {
-        let (column, rows) = (&entry.column, entry.rows());
+    fn answer(&self, column: &Column, fold: Fold) -> Result<Column, Error> {
+        let rows = Stored::of(column);
         let folded = |column: &Column| Ok(self.numbers.fold_by(column, fold)?.1);
         let is_integer = is_integer(column.kind());
         let is_float = matches!(rows, Stored::Floats(_));
@@ -161,7 +165,7 @@ impl Groups<'_> {
     }
 
     fn sizes(&self) -> Result<Column, Error> {
-        let zeros = Column::constant(Kind::U8, 0, self.table.rows)?;
+        let zeros = Column::constant(Kind::U8, 0, self.table.rows())?;
         Ok(self.numbers.fold_by(&zeros, Fold::Rows)?.1)
     }
 
@@ -257,11 +261,10 @@ fn times_of(column: &Column) -> Option<String> {
     is_served.then(|| times.to_string())
 }
 
-impl Table {
-    /// Adds a column of a name that there is not yet.
-    fn with_new(mut self, name: &str, column: Column) -> Result<Table, TableError> {
-        let name = name.to_string();
-        self.entries.push(Entry { name, column });
-        Table::of(self.entries, self.rows)
+/// Puts a column under a name that there is not yet.
+fn put_new(table: &mut Held, name: &str, column: &Column) -> Result<(), TableError> {
+    match table.place(name) {
+        None => table.put(name, column),
+        Some(_) => Err(TableError::RepeatedName(name.to_string())),
     }
 }

@@ -2,7 +2,7 @@
 use super::footer::ColumnFooter;
 use super::message::{content_head, Damaged, Fields};
 use super::writing::{head, COLUMN, FOOTER, FOOTER_SIZE};
-use super::{differences, refuse_twice, Entry, Table, TableError, TableFooter};
+use super::{differences, refuse_twice, Table, TableError, TableFooter};
 use crate::{Column, Error, ErrorKind};
 use std::fs::File;
 use std::io::{self, Cursor, Read, Seek, SeekFrom};
@@ -80,11 +80,9 @@ impl Table {
             known.push(kept.footer.column(name.as_ref())?);
         }
         kept.check_limit(kept.footer.kept_bytes(known.into_iter()), options)?;
-        let columns = names.iter().map(|name| kept.entry(name.as_ref()));
-        Ok(Table {
-            entries: columns.collect::<Result<_, _>>()?,
-            rows: kept.footer.rows,
-        })
+        let columns = names.iter().map(|name| kept.column(name.as_ref()));
+        let columns: Vec<_> = columns.collect::<Result<_, _>>()?;
+        Table::of(&columns, kept.footer.rows)
     }
 
     /// Reads what the end of a file says, and no column; refused as [`Table::load`].
@@ -198,34 +196,31 @@ impl<'a> Kept<'a> {
 
     fn table(&mut self, options: LoadOptions) -> Result<Table, TableError> {
         self.check_limit(self.footer.kept_bytes(self.footer.columns.iter()), options)?;
-        let (mut entries, mut start) = (Vec::new(), head(self.version).len());
+        let (mut columns, mut start) = (Vec::new(), head(self.version).len());
         for place in 0..self.footer.columns.len() {
-            entries.push(self.entry_at(place, start)?);
+            columns.push(self.column_at(place, start)?);
             start += self.footer.columns[place].part_size();
         }
-        let rows = self.footer.rows;
-        Ok(Table { entries, rows })
+        Table::of(&columns, self.footer.rows)
     }
 
     /// Reads the column of a name that there is.
-    fn entry(&mut self, name: &str) -> Result<Entry, TableError> {
+    fn column(&mut self, name: &str) -> Result<(String, Column), TableError> {
         let columns = self.footer.columns.iter();
         let before = columns.take_while(|column| column.name != name);
         let (place, start) = before
             .fold((0, head(self.version).len()), |(place, start), column| {
                 (place + 1, start + column.part_size())
             });
-        self.entry_at(place, start)
+        self.column_at(place, start)
     }
 
     /// Reads the column of a place, whose field begins there, and holds it against what the footer says of it.
-    fn entry_at(&mut self, place: usize, start: usize) -> Result<Entry, TableError> {
+    fn column_at(&mut self, place: usize, start: usize) -> Result<(String, Column), TableError> {
         let known = self.footer.columns[place].clone();
         let column = known.column(&mut self.source, start as u64, self.footer.rows);
-        Ok(Entry {
-            column: column.map_err(|unread| unread.about(self.path.as_deref()))?,
-            name: known.name,
-        })
+        let column = column.map_err(|unread| unread.about(self.path.as_deref()))?;
+        Ok((known.name, column))
     }
 }
 

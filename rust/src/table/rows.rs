@@ -1,24 +1,38 @@
 //! The rows of a table: those of a range, of a mask, of indices, and those of another table after them.
-use super::{Difference, Entry, Table, TableError, Threshold};
+use super::error::number;
+use super::floats::Stored;
+use super::held::Held;
+use super::{Difference, Table, TableError, Threshold};
 use crate::arrow::concat;
-use crate::{Column, Error, ErrorKind, Fields, Kind, Operator, Value};
+use crate::commands::ends_of;
+use crate::{raw, Column, Error, ErrorKind, Fields, Operator, Value};
 use std::ops::RangeBounds;
 
-/// Rows of tables. What is asked of all columns is refused before any but the first is worked.
+/// Rows of tables.
 impl Table {
     /// Returns the rows of a range of any kind; refused as `BadRange` where they are not all there.
-    pub fn slice(&self, rows: impl RangeBounds<usize> + Clone) -> Result<Table, TableError> {
-        self.each(|column| column.slice(rows.clone()))
+    pub fn slice(&self, rows: impl RangeBounds<usize>) -> Result<Table, TableError> {
+        let (start, end) = ends_of(rows, self.rows())?;
+        let made = self.held.part(|table, out, fields| unsafe {
+            raw::hv_table_slice(table, start, end, out, fields)
+        });
+        Table::holding(made?)
     }
 
     /// Takes the rows at the indices, integers in any form: null at a null index. Refused as `OutOfBounds`, and as
     /// `TypeMismatch` for indices that are not integers.
     pub fn take(&self, indices: &Column) -> Result<Table, TableError> {
-        self.each(|column| column.take(indices))
+        let call = |table, indices, out, fields| unsafe {
+            raw::hv_table_take(table, indices, out, fields)
+        };
+        let made = self.held.beside(indices, call);
+        let words = "indices are integers, not";
+        Table::holding(made.map_err(|error| error.of_other(words, indices.kind()))?)
     }
 
     /// Keeps the rows where the mask, booleans in any form, is true: a null in the mask selects nothing. Refused as
-    /// `MaskLength` for a mask of another length, and as `TypeMismatch` for one that is not of booleans.
+    /// `MaskLength` for a mask of another length, and as `TypeMismatch` for one that is not of booleans. The mask is read
+    /// once, by its runs where it is in runs.
     ///
     /// ```
     /// use hivevigil::{Column, Table};
@@ -30,7 +44,11 @@ impl Table {
     /// # Ok::<(), hivevigil::TableError>(())
     /// ```
     pub fn filter(&self, mask: &Column) -> Result<Table, TableError> {
-        self.each(|column| column.filter(mask))
+        let call =
+            |table, mask, out, fields| unsafe { raw::hv_table_filter(table, mask, out, fields) };
+        let made = self.held.beside(mask, call);
+        let words = "a mask is of type bool, not";
+        Table::holding(made.map_err(|error| error.of_other(words, mask.kind()))?)
     }
 
     /// Keeps the rows where `row operator value` is true of the column of a name, as [`Column::compare_value`]
@@ -51,9 +69,30 @@ impl Table {
         operator: Operator,
         value: impl Into<Threshold>,
     ) -> Result<Table, TableError> {
-        let entry = self.entry(name)?;
-        let mask = value.into().compared(entry.rows(), operator);
+        let rows = Stored::of(self.column(name)?);
+        let mask = value.into().compared(rows, operator);
         self.filter(&mask.map_err(TableError::of(name))?)
+    }
+
+    /// Keeps the rows at which no column of these names is null, or, without a name, no column at all. Refused as
+    /// `RepeatedName` and `NoSuchColumn`.
+    ///
+    /// ```
+    /// use hivevigil::{Column, Table};
+    /// let levels = Column::try_from([Some(900), None, Some(40)])?;
+    /// let doors = Column::try_from([None, Some(true), Some(true)])?;
+    /// let table = Table::try_from_iter([("level", levels), ("open", doors)])?;
+    /// assert_eq!(table.drop_null(["level"])?["level"].options::<i32>()?, [Some(900), Some(40)]);
+    /// assert_eq!(table.drop_null([] as [&str; 0])?["level"].options::<i32>()?, [Some(40)]);
+    /// # Ok::<(), hivevigil::TableError>(())
+    /// ```
+    pub fn drop_null(
+        &self,
+        names: impl IntoIterator<Item = impl AsRef<str>>,
+    ) -> Result<Table, TableError> {
+        self.by_names(names, |table, names, out, fields| unsafe {
+            raw::hv_table_drop_null(table, names, out, fields)
+        })
     }
 
     /// Returns the rows of this table, then those of another, which has columns of the same names, types and logical
@@ -68,19 +107,37 @@ impl Table {
     /// # Ok::<(), hivevigil::TableError>(())
     /// ```
     pub fn append(&self, other: &Table) -> Result<Table, TableError> {
-        if let Some(difference) = self.difference(other) {
-            return Err(TableError::OtherColumns(difference));
+        let next = match other.select(&self.names) {
+            Ok(next) if next.len() == other.len() => next,
+            Ok(_) | Err(TableError::NoSuchColumn { .. }) => other.try_clone()?, // which has other names
+            Err(error) => return Err(error),
+        };
+        let refused = match self.held.append(&next.held) {
+            Ok(joined) => return Table::holding(joined),
+            Err(refused) => refused,
+        };
+        let unsupported = ErrorKind::Unsupported as i32;
+        match self.difference(other) {
+            Some(difference) => Err(TableError::OtherColumns(difference)),
+            None if [number::OTHER_TYPE, unsupported].contains(&refused.number) => {
+                self.append_columns(&next)
+            }
+            None => Err(refused.into()),
         }
+    }
+
+    /// Appends the columns of another table, which are in this order, one by one: where columns have lists, null in one
+    /// table only, or decimals of two types.
+    fn append_columns(&self, other: &Table) -> Result<Table, TableError> {
         let overflow = Error::of(ErrorKind::WindowOverflow);
-        let rows = self.rows.checked_add(other.rows).ok_or(overflow)?;
-        let joined = self.entries.iter().map(|entry| {
-            let next = other.column(&entry.name)?;
-            let joined = concat(&[&entry.column, next]);
-            let typed = joined.and_then(|column| column.typed_as(&entry.column));
-            Ok(entry.with(typed.map_err(TableError::of(&entry.name))?))
-        });
-        let entries = joined.collect::<Result<_, TableError>>()?;
-        Ok(Table { entries, rows })
+        let rows = self.rows().checked_add(other.rows()).ok_or(overflow)?;
+        let mut joined = Held::with_rows(rows)?;
+        for ((name, column), next) in self.iter().zip(&other.columns) {
+            let both = concat(&[column, next]).and_then(|both| both.typed_as(column));
+            let both = both.map_err(TableError::of(name))?;
+            joined.put(name, &both)?;
+        }
+        Table::holding(joined)
     }
 
     /// Looks up a row, by the order of the columns; refused as `OutOfBounds`.
@@ -93,8 +150,8 @@ impl Table {
     /// # Ok::<(), hivevigil::TableError>(())
     /// ```
     pub fn row(&self, row: usize) -> Result<Vec<Value>, TableError> {
-        if row >= self.rows {
-            let (first, second) = (row as u64, self.rows as u64);
+        if row >= self.rows() {
+            let (first, second) = (row as u64, self.rows() as u64);
             let fields = Fields {
                 first,
                 second,
@@ -102,67 +159,43 @@ impl Table {
             };
             return Err(Error::new(ErrorKind::OutOfBounds as i32, fields).into());
         }
-        let found = self.entries.iter().map(|entry| {
-            let row = entry.column.at(row);
-            row.map_err(TableError::of(&entry.name))
+        let found = self.iter().map(|(name, column)| {
+            let row = column.at(row);
+            row.map_err(TableError::of(name))
         });
         found.collect()
     }
 
     /// Returns each column in as few runs as possible; lists as they are.
     pub fn encode_rows(&self) -> Result<Table, TableError> {
-        self.each(|column| match column.kind().is_list() {
-            true => column.try_clone(),
-            false => column.encode_rows(),
-        })
-    }
-
-    /// Makes a table of what is made of each column, columns of one length. What the first refuses is refused for all.
-    pub(super) fn each(
-        &self,
-        work: impl Fn(&Column) -> Result<Column, Error>,
-    ) -> Result<Table, TableError> {
-        let Some((first, others)) = self.entries.split_first() else {
-            let rows = work(&Column::constant(Kind::U8, 0, self.rows)?)?.len();
-            return Ok(Table::without_columns(rows));
-        };
-        let mut entries = vec![first.with(work(&first.column)?)];
-        for entry in others {
-            let column = work(&entry.column).map_err(TableError::of(&entry.name))?;
-            entries.push(entry.with(column));
+        let mut encoded = self.held.try_clone()?;
+        for (name, column) in self.iter().filter(|(_, column)| !column.kind().is_list()) {
+            let column = column.encode_rows().map_err(TableError::of(name))?;
+            encoded.put(name, &column)?;
         }
-        let rows = entries[0].column.len();
-        Ok(Table { entries, rows })
+        Table::holding(encoded)
     }
 
     /// Finds how the columns of another table differ in names, types and logical types, but for null and for the digits
     /// of decimals.
     fn difference(&self, other: &Table) -> Option<Difference> {
         let only_other = other.names().find(|name| self.get(name).is_none());
-        let differs = |entry: &Entry| match other.entry(&entry.name) {
-            Err(_) => Some(Difference::OnlyFirst(entry.name.clone())),
-            Ok(next) => entry.difference(next),
+        let differs = |(name, column): (&str, &Column)| match other.get(name) {
+            None => Some(Difference::OnlyFirst(name.to_string())),
+            Some(next) => difference(name, column, next),
         };
-        let found = self.entries.iter().find_map(differs);
+        let found = self.iter().find_map(differs);
         found.or_else(|| only_other.map(|name| Difference::OnlyOther(name.to_string())))
     }
 }
 
-impl Entry {
-    fn difference(&self, other: &Entry) -> Option<Difference> {
-        let (first, next) = (self.column.kind(), other.column.kind());
-        if first.nullable() != next.nullable() && !first.is_other_decimal(next) {
-            return Some(Difference::Kinds {
-                name: self.name.clone(),
-                first,
-                other: next,
-            });
-        }
-        let (first, other) = (self.column.logical_type(), other.column.logical_type());
-        (first != other).then(|| Difference::LogicalTypes {
-            name: self.name.clone(),
-            first,
-            other,
-        })
+/// Finds how two columns of a name differ in types and logical types.
+fn difference(name: &str, column: &Column, next: &Column) -> Option<Difference> {
+    let name = name.to_string();
+    let (first, other) = (column.kind(), next.kind());
+    if first.nullable() != other.nullable() && !first.is_other_decimal(other) {
+        return Some(Difference::Kinds { name, first, other });
     }
+    let (first, other) = (column.logical_type(), next.logical_type());
+    (first != other).then_some(Difference::LogicalTypes { name, first, other })
 }

@@ -56,18 +56,6 @@ impl Stretches {
         Stretches { stops }
     }
 
-    /// Returns the run of a column that each stretch is in.
-    pub(super) fn runs_in(&self, shown: &Shown) -> Vec<usize> {
-        let mut run = 0;
-        let stops = self.stops.iter();
-        let found = stops.map(|stop| {
-            let here = run;
-            run += usize::from(shown.stops[run] == *stop);
-            here
-        });
-        found.collect()
-    }
-
     /// Returns the first row of each stretch.
     pub(super) fn starts(&self) -> Vec<usize> {
         let all_but_last = self

@@ -1,22 +1,18 @@
 //! Equal tables, and copies.
 use super::{Table, TableError};
-use crate::Column;
 
 /// Tables compared as wholes.
 impl Table {
     /// Returns whether both have the same names in the same order, types, logical types and rows, whatever the forms;
     /// refused only as `OutOfMemory`. Floats are the same where their bits are.
     pub fn same_rows(&self, other: &Table) -> Result<bool, TableError> {
-        if self.rows != other.rows || self.len() != other.len() {
+        if self.rows() != other.rows() || self.names != other.names {
             return Ok(false);
         }
-        for (entry, next) in self.entries.iter().zip(&other.entries) {
-            let logical_types = [&entry.column, &next.column].map(Column::logical_type);
-            if entry.name != next.name || logical_types[0] != logical_types[1] {
-                return Ok(false);
-            }
-            let is_same = entry.column.same_rows(&next.column);
-            if !is_same.map_err(TableError::of(&entry.name))? {
+        for ((name, column), next) in self.iter().zip(&other.columns) {
+            let is_same = column.logical_type() == next.logical_type()
+                && column.same_rows(next).map_err(TableError::of(name))?;
+            if !is_same {
                 return Ok(false);
             }
         }
@@ -25,11 +21,7 @@ impl Table {
 
     /// Returns the same table, whose columns share what holds 32 items or more.
     pub fn try_clone(&self) -> Result<Table, TableError> {
-        let entries = self.entries.iter().map(|entry| entry.try_clone());
-        Ok(Table {
-            entries: entries.collect::<Result<_, _>>()?,
-            rows: self.rows,
-        })
+        Table::holding(self.held.try_clone()?)
     }
 }
 

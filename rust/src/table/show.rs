@@ -1,7 +1,7 @@
 //! What a table looks like.
 use super::floats::{doubles, Stored};
-use super::{Entry, Table};
-use crate::{Form, Value};
+use super::Table;
+use crate::{Column, Form, Value};
 use std::fmt;
 
 const COLUMNS: usize = 20; // that are shown
@@ -22,9 +22,9 @@ const LETTERS: usize = 24; // of a name
 /// ```
 impl fmt::Display for Table {
     fn fmt(&self, formatter: &mut fmt::Formatter<'_>) -> fmt::Result {
-        let (rows, columns) = (counted(self.rows, "row"), counted(self.len(), "column"));
+        let (rows, columns) = (counted(self.rows(), "row"), counted(self.len(), "column"));
         write!(formatter, "Table: {rows}, {columns}")?;
-        let shown = self.entries.iter().take(COLUMNS).map(Entry::cells);
+        let shown = self.iter().take(COLUMNS).map(cells);
         let cells = shown.collect::<Result<Vec<[String; 4]>, fmt::Error>>()?;
         let width = |place: usize| {
             let widths = cells.iter().map(|line| line[place].chars().count());
@@ -50,58 +50,52 @@ impl fmt::Debug for Table {
     }
 }
 
-impl Entry {
-    /// Writes name, type, form and first rows.
-    fn cells(&self) -> Result<[String; 4], fmt::Error> {
-        let kind = match self.column.logical_type() {
-            Some(format) => format!("{} {format}", self.column.kind()),
-            None => self.column.kind().to_string(),
-        };
-        let form = match self.column.form() {
-            Form::Flat => "flat".to_string(),
-            Form::Constant => "constant".to_string(),
-            Form::Lists => "lists".to_string(),
-            Form::Runs if self.column.kind().is_list() => "in runs".to_string(),
-            Form::Runs => {
-                let runs = self.column.runs().map_err(|_| fmt::Error)?;
-                format!("in {}", counted(runs.len(), "run"))
-            }
-        };
-        Ok([short(&self.name), kind, form, self.first_rows()?])
-    }
-
-    fn first_rows(&self) -> Result<String, fmt::Error> {
-        let count = self.column.len();
-        if self.column.kind().is_list() {
-            return Ok(String::new());
+/// Writes name, type, form and first rows.
+fn cells((name, column): (&str, &Column)) -> Result<[String; 4], fmt::Error> {
+    let kind = match column.logical_type() {
+        Some(format) => format!("{} {format}", column.kind()),
+        None => column.kind().to_string(),
+    };
+    let form = match column.form() {
+        Form::Flat => "flat".to_string(),
+        Form::Constant => "constant".to_string(),
+        Form::Lists => "lists".to_string(),
+        Form::Runs if column.kind().is_list() => "in runs".to_string(),
+        Form::Runs => {
+            let runs = column.runs().map_err(|_| fmt::Error)?;
+            format!("in {}", counted(runs.len(), "run"))
         }
-        let first = self
-            .column
-            .slice(..count.min(ROWS))
-            .map_err(|_| fmt::Error)?;
-        let mut words: Vec<String> = match self.rows() {
-            Stored::AsTheyAre(_) => {
-                let rows = first.rows().collect::<Result<Vec<Value>, _>>();
-                rows.map_err(|_| fmt::Error)?
-                    .iter()
-                    .map(Value::to_string)
-                    .collect()
-            }
-            Stored::Floats(_) => {
-                let floats = doubles(&first).and_then(|floats| floats.options());
-                let word = |float: Option<f64>| {
-                    float.map_or("null".to_string(), |float| format!("{float:?}"))
-                };
-                floats
-                    .map_err(|_| fmt::Error)?
-                    .into_iter()
-                    .map(word)
-                    .collect()
-            }
-        };
-        words.extend((count > ROWS).then(|| "..".to_string()));
-        Ok(words.join(", "))
+    };
+    Ok([short(name), kind, form, first_rows(column)?])
+}
+
+fn first_rows(column: &Column) -> Result<String, fmt::Error> {
+    let count = column.len();
+    if column.kind().is_list() {
+        return Ok(String::new());
     }
+    let first = column.slice(..count.min(ROWS)).map_err(|_| fmt::Error)?;
+    let mut words: Vec<String> = match Stored::of(column) {
+        Stored::AsTheyAre(_) => {
+            let rows = first.rows().collect::<Result<Vec<Value>, _>>();
+            rows.map_err(|_| fmt::Error)?
+                .iter()
+                .map(Value::to_string)
+                .collect()
+        }
+        Stored::Floats(_) => {
+            let floats = doubles(&first).and_then(|floats| floats.options());
+            let word =
+                |float: Option<f64>| float.map_or("null".to_string(), |float| format!("{float:?}"));
+            floats
+                .map_err(|_| fmt::Error)?
+                .into_iter()
+                .map(word)
+                .collect()
+        }
+    };
+    words.extend((count > ROWS).then(|| "..".to_string()));
+    Ok(words.join(", "))
 }
 
 fn counted(count: usize, what: &str) -> String {

@@ -2,8 +2,8 @@
 use super::differences::kept;
 use super::footer::ColumnFooter;
 use super::message::{content_head, put_content, put_number};
-use super::{Entry, Table, TableError};
-use crate::Form;
+use super::{Table, TableError};
+use crate::{Column, Form};
 use std::fs::{self, File, OpenOptions};
 use std::io::{self, BufWriter, Write};
 use std::path::{Path, PathBuf};
@@ -79,20 +79,20 @@ impl Table {
         options: SaveOptions,
     ) -> Result<impl Iterator<Item = Result<Vec<u8>, TableError>> + '_, TableError> {
         let mut shorter = Vec::new();
-        for entry in self.entries.iter().filter(|_| options.differences) {
-            shorter.push(kept(&entry.column).map_err(TableError::of(&entry.name))?);
+        for (name, column) in self.iter().filter(|_| options.differences) {
+            shorter.push(kept(column).map_err(TableError::of(name))?);
         }
         let version = if shorter.iter().any(Option::is_some) {
             2
         } else {
             1
         };
-        shorter.resize(self.entries.len(), None);
+        shorter.resize(self.len(), None);
         let mut footer = Vec::new();
-        put_number(&mut footer, 1, self.rows as u64);
-        let columns = self.entries.iter().zip(shorter).map(Some).chain([None]);
+        put_number(&mut footer, 1, self.rows() as u64);
+        let columns = self.iter().zip(shorter).map(Some).chain([None]);
         let parts = columns.map(move |column| match column {
-            Some((entry, shorter)) => entry.part(shorter, version, &mut footer),
+            Some((named, shorter)) => part(named, shorter, version, &mut footer),
             None => Ok(end(&footer)),
         });
         Ok(std::iter::once(Ok(head(version))).chain(parts))
@@ -120,30 +120,28 @@ fn end(footer: &[u8]) -> Vec<u8> {
     out
 }
 
-impl Entry {
-    /// Returns the field of the column, of its rows or of its differences, and adds what is known of it to the footer.
-    fn part(
-        &self,
-        shorter: Option<(Form, Vec<u8>)>,
-        version: u64,
-        footer: &mut Vec<u8>,
-    ) -> Result<Vec<u8>, TableError> {
-        let refused = TableError::of(&self.name);
-        let (form, message) = match shorter {
-            Some((form, message)) => (Some(form), message),
-            None => {
-                let untyped = self.column.with_logical_type(""); // its logical type goes to the footer
-                let message = untyped.and_then(|column| column.to_bytes());
-                (None, message.map_err(&refused)?)
-            }
-        };
-        let size = message.len();
-        let known = ColumnFooter::of(&self.name, &self.column, size, form);
-        put_content(footer, 2, &known.map_err(&refused)?.message(version));
-        let mut part = content_head(COLUMN, size as u64);
-        part.extend(message);
-        Ok(part)
-    }
+/// Returns the field of a column, of its rows or of its differences, and adds what is known of it to the footer.
+fn part(
+    (name, column): (&str, &Column),
+    shorter: Option<(Form, Vec<u8>)>,
+    version: u64,
+    footer: &mut Vec<u8>,
+) -> Result<Vec<u8>, TableError> {
+    let refused = TableError::of(name);
+    let (form, message) = match shorter {
+        Some((form, message)) => (Some(form), message),
+        None => {
+            let untyped = column.with_logical_type(""); // its logical type goes to the footer
+            let message = untyped.and_then(|column| column.to_bytes());
+            (None, message.map_err(&refused)?)
+        }
+    };
+    let size = message.len();
+    let known = ColumnFooter::of(name, column, size, form);
+    put_content(footer, 2, &known.map_err(&refused)?.message(version));
+    let mut part = content_head(COLUMN, size as u64);
+    part.extend(message);
+    Ok(part)
 }
 
 /// Names a file next to another one, which takes its place when all is written, and is removed where it does not.
