@@ -27,9 +27,9 @@ def _is_row(key: Any) -> bool:
     return hasattr(key, "__index__") and not is_truth(key) and getattr(key, "ndim", 0) == 0
 
 
-def chosen_by(column: Column, key: Any) -> Callable[[Column], Column]:
-    """What a slice, a mask or indices over a column choose of each column that has as many rows. They are read and
-    tested once."""
+def chosen_by(column: Column, key: Any) -> Callable[[Any], Any]:
+    """What a slice, a mask or indices over a column choose of each column that has as many rows, and but for a slice at
+    steps of each table. They are read and tested once."""
     if isinstance(key, slice):
         return _cut(column, key)
     if is_truth(key):
@@ -45,15 +45,15 @@ def chosen_by(column: Column, key: Any) -> Callable[[Column], Column]:
     return _filter(mask_of(column, rows)) if any(map(is_truth, rows)) else _take(indices_of(column, rows))
 
 
-def _filter(mask: Column) -> Callable[[Column], Column]:
-    return lambda column: column.filter(mask)
+def _filter(mask: Column) -> Callable[[Any], Any]:
+    return lambda rows: rows.filter(mask)
 
 
-def _take(indices: Column) -> Callable[[Column], Column]:
-    return lambda column: column.take(indices)
+def _take(indices: Column) -> Callable[[Any], Any]:
+    return lambda rows: rows.take(indices)
 
 
-def _cut(column: Column, key: slice) -> Callable[[Column], Column]:
+def _cut(column: Column, key: slice) -> Callable[[Any], Any]:
     start, stop, step = key.indices(column._length)
     if step == 1:
         return lambda each: each.slice(start, max(start, stop))

@@ -1,10 +1,9 @@
 """The shared object: where it is, and how its calls are made.
 
-The header asks for one call at a time on each column, also where it only reads, since the handle is written while a
-call runs. So the handle of a Column is lent only to calls that hold the interpreter's lock (PyDLL), and threads make
-these one at a time. A call that may take long, over many rows or runs, is lent clones that no other thread knows, which
-share the buffers, and is made without the lock (CDLL). Lists share a count of owners that is not atomic, and keep the
-lock.
+The header asks for one call at a time on each column and table, also where it only reads, since the handle is written
+while a call runs. So a handle is lent only to calls that hold the interpreter's lock (PyDLL), and threads make these one
+at a time. A call that may take long, over many rows or runs, is lent clones that no other thread knows, which share the
+buffers, and is made without the lock (CDLL). Lists share a count of owners that is not atomic, and keep the lock.
 """
 from __future__ import annotations
 
@@ -17,12 +16,12 @@ from typing import Any
 
 from ._arrow_structs import ArrowArray, ArrowArrayStream, ArrowSchema
 from ._calls import CALLS
-from ._structs import ArrowOptions, BuilderHandle, Fields, Handle, Kind, Pair, Session, Total, Value
+from ._structs import ArrowOptions, BuilderHandle, Fields, Handle, Kind, Pair, Session, TableHandle, Total, Value
 from .errors import refusal
 
 __all__ = [
-    "ArrowOptions", "BuilderHandle", "Fields", "Handle", "Kind", "NUMBERS", "Pair", "Session", "Total", "Value", "ask",
-    "calls", "calls_without_lock", "initial_session", "session",
+    "ArrowOptions", "BuilderHandle", "Fields", "Handle", "Kind", "NUMBERS", "Pair", "Session", "TableHandle", "Total",
+    "Value", "answered", "ask", "calls", "calls_without_lock", "initial_session", "session",
 ]
 VARIABLE = "HIVEVIGIL_SO"
 _NAME = "libhivevigil.so"
@@ -110,6 +109,7 @@ _LONG = frozenset("hv_" + name for name in (
     "read_u8", "read_u16", "read_u32", "read_u64", "read_i8", "read_i16", "read_i32", "read_i64", "read_decimals",
     "read_bools_from", "read_validity_from", "read_large_offsets", "read_bytes", "read_ends_u64",
     "write_size", "write", "read_column", "is_message",
+    "table_filter", "table_take", "table_append", "table_drop_null", "table_sort",
 ))
 _MANY = 16384  # rows, runs, items or bytes: from here on a call takes longer than the clones that it is lent
 _LIST = 12  # the number of the type of lists
@@ -118,13 +118,23 @@ _CONSTANT, _RUNS = 1, 3  # the numbers of these forms
 
 def ask(call: Any, *arguments: Any) -> None:
     """Calls, and raises the refusal if there is one."""
-    fields = Fields()
-    answer = _answer(call, arguments, fields)
-    if answer:
-        columns = [argument for argument in arguments if hasattr(argument, "_as_parameter_")]
+    number, fields = answered(call, *arguments)
+    if number:
+        columns = [argument for argument in arguments if _lends(argument, Handle)]
         name = call.__name__[len("hv_") :]
-        refused = refusal(answer, fields.first, fields.second, fields.third)
+        refused = refusal(number, fields.first, fields.second, fields.third)
         raise refused.about(_METHODS.get(name, name), *(column for column in columns if not column.freed))
+
+
+def answered(call: Any, *arguments: Any) -> tuple[int, Fields]:
+    """Calls, and returns the number of the refusal, 0 where there is none, and its fields."""
+    fields = Fields()
+    return _answer(call, arguments, fields), fields
+
+
+def _lends(argument: Any, kind: Any) -> bool:
+    """Whether an argument has a handle of this kind, which it lends."""
+    return isinstance(getattr(argument, "_handle", None), kind)
 
 
 def _answer(call: Any, arguments: tuple[Any, ...], fields: Fields) -> int:
@@ -132,21 +142,30 @@ def _answer(call: Any, arguments: tuple[Any, ...], fields: Fields) -> int:
     name = call.__name__
     if name not in _LONG or max(_size(argument, name == "hv_decode") for argument in arguments) < _MANY:
         return int(call(*arguments, fields))
-    lent = [Handle() if hasattr(argument, "_as_parameter_") else argument for argument in arguments]
-    clones = [(argument, clone) for argument, clone in zip(arguments, lent) if clone is not argument]
+    lent = [_handle_like(argument) for argument in arguments]
+    clones = [(owner, clone) for owner, clone in zip(arguments, lent) if clone is not owner]
     try:
-        if not all(_is_cloned(column, clone) for column, clone in clones):
+        if not all(_is_cloned(owner, clone) for owner, clone in clones):
             return int(call(*arguments, fields))
         return int(getattr(calls_without_lock, name)(*lent, fields))
     finally:
         for _, clone in clones:
-            calls.hv_free(clone)
+            (calls.hv_free if isinstance(clone, Handle) else calls.hv_table_free)(clone)
+
+
+def _handle_like(argument: Any) -> Any:
+    """An empty handle of the kind that an argument lends, or the argument where it lends none."""
+    return type(argument._handle)() if _lends(argument, (Handle, TableHandle)) else argument
 
 
 def _size(argument: Any, is_written_out: bool) -> int:
     """How much there is of an argument: items of a buffer, rows of a flat column, runs of others unless all rows are
-    written out. After a short call a thread would wait for the lock longer than it worked."""
-    if not hasattr(argument, "_as_parameter_"):
+    written out, and of a table that of its greatest column. After a short call a thread would wait for the lock longer
+    than it worked."""
+    if _lends(argument, TableHandle):
+        rows = int(calls.hv_table_len(argument))
+        return rows if rows < _MANY else max((_size(each, False) for each in argument.columns.values()), default=0)
+    if not _lends(argument, Handle):
         return len(argument) if isinstance(argument, (ctypes.Array, bytes)) else 0
     rows = int(calls.hv_length(argument))
     if rows < _MANY or is_written_out:
@@ -157,6 +176,12 @@ def _size(argument: Any, is_written_out: bool) -> int:
     return runs.value if form in (_CONSTANT, _RUNS) else rows
 
 
-def _is_cloned(column: Any, clone: Handle) -> bool:
-    """Whether the clone is another owner of what the column has, which threads may use at once."""
-    return calls.hv_kind_of(column).number != _LIST and not calls.hv_clone(column, clone, Fields())
+def _is_cloned(owner: Any, clone: Any) -> bool:
+    """Whether the clone is another owner of what a column or a table has, which threads may use at once."""
+    if isinstance(clone, Handle):
+        return not _has_lists(owner) and not calls.hv_clone(owner, clone, Fields())
+    return not any(map(_has_lists, owner.columns.values())) and not calls.hv_table_clone(owner, clone, Fields())
+
+
+def _has_lists(column: Any) -> bool:
+    return bool(calls.hv_kind_of(column).number == _LIST)

@@ -6,6 +6,7 @@ import os
 from collections.abc import Iterable, Iterator, Mapping
 from typing import TYPE_CHECKING, Any, Optional, Union
 
+from ._handles import checked
 from ._making import shows_no_type
 from ._types import TYPES
 from ._values import checked_text, size_of
@@ -36,11 +37,10 @@ def about(name: str) -> Iterator[None]:
 
 
 def checked_name(name: Any) -> str:
-    """A name of a column: a text."""
-    if not isinstance(name, str):
-        raise TypeError(f"a column of a table is named by a text, not by {in_words(name)}")
-    checked_text(name, "the name of a column: ")
-    return name
+    """A name that a column gets: a text that is UTF-8."""
+    text = checked(name)
+    checked_text(text, "the name of a column: ")
+    return text
 
 
 def what_is(value: Any) -> str:
@@ -69,14 +69,19 @@ def refuse_twice(names: Iterable[Any]) -> None:
         seen.add(name)
 
 
+def once(names: Iterable[Any]) -> list[str]:
+    """The names, each once."""
+    return list(dict.fromkeys(map(checked, names)))
+
+
 def columns_of(columns: Any) -> dict[str, Column]:
-    """Columns of a mapping, or of pairs; each is a copy, so that what the caller does with his is nothing to it."""
+    """Columns of a mapping, or of pairs."""
     made: dict[str, Column] = {}
     for name, rows in _pairs_of(columns):
         if checked_name(name) in made:
             raise ValueError(f"two columns have the name {in_words(name)}")
         with about(name):
-            made[name] = rows.copy() if isinstance(rows, Column) else Column.of(rows)
+            made[name] = rows._there() if isinstance(rows, Column) else Column.of(rows)
     return made
 
 
@@ -116,15 +121,20 @@ def under(columns: Mapping[str, Column], formats: Mapping[str, str]) -> dict[str
     }
 
 
-def check_names(table: Table, other: Any) -> None:
-    """Refuses a table that cannot be appended, since it has other names."""
-    if type(other) is not type(table):
+def in_order_of(first: Table, other: Any) -> Table:
+    """A table that is appended to the first, with its columns in the order of those. Refused where it has other
+    names."""
+    if type(other) is not type(first):
         hint = ": Table.from_pandas(frame) makes one" if hasattr(other, "iloc") else ""
         raise TypeError(f"a table is appended to a table, not {what_is(other)}{hint}")
-    if set(table) != set(other):
-        only = [f"{'only the first' if name in table else 'only the other'} has {in_words(name)}"
-                for name in [*table, *other] if (name in table) != (name in other)]
-        raise ValueError(f"append: the tables have columns of different names: {only[0]}")
+    table: Table = other
+    if table.names == first.names:
+        return table
+    for name in [*first, *table]:
+        if (name in first) != (name in table):
+            only = f"{'only the first' if name in first else 'only the other'} has {in_words(name)}"
+            raise ValueError(f"append: the tables have columns of different names: {only}")
+    return table.select(*first)
 
 
 # ---- Frames of pandas ----

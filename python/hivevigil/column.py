@@ -355,13 +355,7 @@ class Column(_comparing.Comparisons, _pairs.Pairs, _ufuncs.Ufuncs):
         """The rows in order, in runs: the runs are sorted, and equal ones joined, so that there is one for each value.
         Nulls come 'first' or 'last' in either order; texts are ordered by their bytes, floats by their total order: NaN
         is above infinity, and -0.0 below 0.0."""
-        (flag,) = _sorting.flags_of(descending, 1)
-        first = _sorting.is_first(nulls)
-        _sorting.refuse_lists(self)
-        if flag == first:
-            return _sorting.sorted_rows(self, flag, first)
-        ordered = self._made(calls.hv_sort, self)
-        return ordered.reverse() if flag else ordered
+        return _sorting.sorted_rows(self, descending, nulls)
 
     def nlargest(self, count: int) -> Column:
         """As many of the greatest rows, in descending order, in runs: null and NaN are left out. Each run is looked at

@@ -1,4 +1,4 @@
-"""A table: columns of one number of rows, each with a name. What filters or cuts rows does so in each column."""
+"""A table: columns of one number of rows, each with a name, which the library holds and works on as one."""
 from __future__ import annotations
 
 import functools
@@ -7,13 +7,17 @@ from collections.abc import Callable, Iterable, Iterator, Mapping, Sequence
 from typing import TYPE_CHECKING, Any, Optional
 
 from . import (
-    _arrow, _files, _indexing, _joins, _other_names, _sorting, _table_files, _table_making, _table_showing, csv_files,
+    _arrow, _files, _handles, _indexing, _joins, _other_names, _sorting, _table_files, _table_making, _table_showing,
+    csv_files,
 )
+from ._handles import Held
+from ._library import calls
+from ._lists import is_list
 from ._table_files import LIMIT, TableFooter
 from ._table_making import Names, about, checked_name, each_of, refuse_twice
-from ._values import MOST_ROWS, Scalar, is_whole, row_of, size_of
+from ._values import Scalar, is_whole, row_of, size_of
 from .column import Column
-from .errors import ColumnLength, NoName, WindowOverflow, in_words
+from .errors import WindowOverflow, in_words
 from .functions import joined
 
 if TYPE_CHECKING:
@@ -23,14 +27,14 @@ if TYPE_CHECKING:
 class Table(Mapping[str, Column]):
     """Columns by name, all of one number of rows. A table is a value: each method makes another one, and where it is
     refused the table is as it was. It owns its columns: what is put in or taken out is a copy that shares buffers.
+    Threads may use one table at once: calls over many rows release the interpreter's lock.
 
     A table is a mapping in the order of its names, so `len(table)` counts columns; `table.rows` counts rows. `==` says
     whether two are one object; `equals` compares rows.
     """
 
-    __slots__ = ("_columns", "_rows", "__weakref__")
-    _columns: dict[str, Column]
-    _rows: int
+    __slots__ = ("_held", "__weakref__")
+    _held: Held  # which other tables may have too
 
     def __init__(
         self, columns: Any = (), logical_types: Optional[Mapping[str, str]] = None, rows: Optional[int] = None
@@ -39,21 +43,21 @@ class Table(Mapping[str, Column]):
         `logical_types` says by name what the numbers of a column are, as a format of Arrow: 'tsu:UTC', 'tdD'. `rows`
         is needed only for a table without columns."""
         made = _table_making.columns_of(columns)
-        lengths = {name: column._length for name, column in made.items()}
-        count = next(iter(lengths.values()), 0) if rows is None else size_of(rows, "the number of rows")
-        for name, length in lengths.items():
-            if length != count:
-                other = "the table" if rows is not None else f"column {in_words(next(iter(lengths)))}"
-                said = f"column {in_words(name)} has {length} rows, and {other} {count}"
-                raise ColumnLength(count, length).saying(said)
+        held = Held.of(made, None if rows is None else size_of(rows, "the number of rows"))
         formats = _table_making.checked_logical_types({} if logical_types is None else logical_types, made)
-        self._columns, self._rows = _table_making.under(made, formats), count
+        for name, column in _table_making.under({name: made[name] for name in formats}, formats).items():
+            held.put(name, column)
+        self._held = held
 
     @classmethod
-    def _of(cls, columns: dict[str, Column], rows: int) -> Table:
-        """A table of columns that nobody else has, of which those are known to fit."""
+    def _of(cls, columns: Mapping[str, Column], rows: int) -> Table:
+        """A table of columns that are known to fit."""
+        return cls._having(Held.of(columns, rows))
+
+    @classmethod
+    def _having(cls, held: Held) -> Table:
         table = cls.__new__(cls)
-        table._columns, table._rows = columns, rows
+        table._held = held
         return table
 
     if not TYPE_CHECKING:  # which would take any name for one of a table
@@ -112,17 +116,17 @@ class Table(Mapping[str, Column]):
     @property
     def rows(self) -> int:
         """How many rows each column has."""
-        return self._rows
+        return self._held.rows
 
     @property
     def names(self) -> list[str]:
         """The names of the columns, in their order."""
-        return list(self._columns)
+        return list(self._held.names)
 
     @property
     def shape(self) -> tuple[int, int]:
         """How many rows and how many columns there are."""
-        return self._rows, len(self._columns)
+        return self.rows, len(self)
 
     @property
     def types(self) -> dict[str, str]:
@@ -146,19 +150,19 @@ class Table(Mapping[str, Column]):
 
     def __dask_tokenize__(self) -> tuple[Any, ...]:
         tokens = [(name, column.__dask_tokenize__()) for name, column in self._columns.items()]
-        return "hivevigil.Table", self._rows, tokens
+        return "hivevigil.Table", self.rows, tokens
 
     def __len__(self) -> int:
         """How many columns there are."""
-        return len(self._columns)
+        return int(calls.hv_table_width(self._held))
 
     def __iter__(self) -> Iterator[str]:
         """The names."""
-        return iter(self._columns)
+        return iter(self._held.names)
 
     def __contains__(self, name: object) -> bool:
         """Whether a column has this name."""
-        return name in self._columns
+        return isinstance(name, str) and name in self._held.names
 
     def __getitem__(self, key: Any) -> Any:
         """The column of a name. Else, of a list of names, a slice, a mask or indices, a table, and of a number the row
@@ -169,24 +173,27 @@ class Table(Mapping[str, Column]):
             return self.select(*key)
         if is_whole(key):
             return self.row(key)
-        return self._each(_indexing.chosen_by(self._any(), key))
+        chosen = _indexing.chosen_by(self._any(), key)
+        is_by_steps = isinstance(key, slice) and key.step not in (None, 1)
+        return self._each(chosen) if is_by_steps else chosen(self)
 
     def row(self, number: int) -> dict[str, Any]:
         """A row by name, from the end where its number is negative."""
-        at = row_of(number, self._rows)
+        at = row_of(number, self.rows)
         return {name: column._at(at) for name, column in self._columns.items()}
 
     def _column(self, name: Any) -> Column:
         """The column itself. Refused where there is none."""
-        if not isinstance(name, str):
-            raise TypeError(f"a column of a table is named by a text, not by {in_words(name)}")
-        if name not in self._columns:
-            raise NoName(name, self._columns)
-        return self._columns[name]
+        return self._held.column(_handles.checked(name))
+
+    @property
+    def _columns(self) -> dict[str, Column]:
+        """The columns themselves by name."""
+        return self._held.columns
 
     def _any(self) -> Column:
         """A column of as many rows as the table has."""
-        return next(iter(self._columns.values())) if self._columns else Column.constant(0, self._rows, "u8")
+        return Column.constant(0, self.rows, "u8")
 
     # ---- Rows ----
 
@@ -197,9 +204,9 @@ class Table(Mapping[str, Column]):
         return self._of(made, rows)
 
     def filter(self, mask: Any) -> Table:
-        """The rows at which the mask, a column in any form, a list or an array, is true; null selects nothing."""
-        chosen = _indexing.mask_of(self._any(), mask)
-        return self._each(lambda column: column.filter(chosen))
+        """The rows at which the mask, a column in any form, a list or an array, is true; null selects nothing. The mask
+        is read once for all columns, one in runs by its runs."""
+        return self._having(self._held.made(calls.hv_table_filter, _indexing.mask_of(self._any(), mask)))
 
     def filter_by(self, name: str, operator: str, value: Any) -> Table:
         """The rows at which `row operator value` is true of the column of a name, as Column.compare has it."""
@@ -211,31 +218,33 @@ class Table(Mapping[str, Column]):
     def take(self, indices: Any) -> Table:
         """The rows at the indices: a column, a list, or an array; null at a null index. In lists and arrays negative
         indices count from the end."""
-        chosen = _indexing.indices_of(self._any(), indices)
-        return self._each(lambda column: column.take(chosen))
+        return self._having(self._held.made(calls.hv_table_take, _indexing.indices_of(self._any(), indices)))
 
     def slice(self, start: int, stop: int) -> Table:
         """The rows from `start` to `stop` - 1, all of which have to exist; `table[start:stop]` cuts as Python does."""
-        return self._each(lambda column: column.slice(start, stop))
+        bounds = size_of(start, "the start"), size_of(stop, "the stop")
+        return self._having(self._held.made(calls.hv_table_slice, *bounds))
 
-    def sort(self, by: Any, descending: Any = False, nulls: str = "first") -> Table:
+    def sort(self, by: Any, descending: Any = False, nulls: Any = "first") -> Table:
         """The rows in order by the column of a name, or by several, of which the first counts most; rows that are equal
         in all of them stay in their order. `descending` is one flag for all, or a list of one for each. Nulls come
-        'first' or 'last' in either order. Texts are ordered by their bytes, floats by their total order: NaN is above
-        infinity, and -0.0 below 0.0. The order is found over the runs of the columns that are named together."""
-        names = _sorting.names_of(by)
-        flags, nulls_first = _sorting.flags_of(descending, len(names)), _sorting.is_first(nulls)
-        keys = [self._column(name) for name in names]
-        for name, column in zip(names, keys):
-            with about(name):
-                _sorting.refuse_lists(column)
-        return self._each(_sorting.ordered(keys, flags, nulls_first).of)
+        'first' or 'last' in either order: in all, or as a list says it of each. Texts are ordered by their bytes, floats
+        by their total order: NaN is above infinity, and -0.0 below 0.0. The order is found over the runs of the columns
+        that are named together."""
+        keys = _sorting.names_of(by)
+        flags = _sorting.flags_of(descending, nulls, len(keys))
+        sort, said = calls.hv_table_sort, _sorting.TWICE
+        return self._having(self._held.made_by_names(sort, keys, flags, len(flags), twice=said))
 
     def drop_null(self, *names: Names) -> Table:
         """The rows that are null in none of the columns of these names, or in no column where none is named."""
-        chosen = [self._column(name) for name in each_of(names)] if names else list(self._columns.values())
-        masks = [column.is_valid() for column in chosen if column.nullable]
-        return self.filter(functools.reduce(operator.and_, masks)) if masks else self.select(*self._columns)
+        chosen = _table_making.once(each_of(names))
+        if names and not chosen:
+            return self._having(self._held)
+        # by their runs, where the library looks at each row of lists
+        lists = [column for column in map(self._column, chosen or self) if is_list(column) and column.form == "runs"]
+        rows = self.filter(functools.reduce(operator.and_, map(Column.is_valid, lists))) if lists else self
+        return self._having(rows._held.made_by_names(calls.hv_table_drop_null, chosen))
 
     def join(self, other: Table, on: str, how: str = "inner") -> Table:
         """Each row with each row of another table that is equal in the column `on`, by which both tables are sorted:
@@ -256,18 +265,22 @@ class Table(Mapping[str, Column]):
 
     @classmethod
     def _joined(cls, tables: Sequence[Table], call: str, parts: Sequence[str]) -> Table:
-        """The rows of tables, one after the other, for a call that a refusal names, and where the tables are from."""
-        first = tables[0]
-        for table in tables:
-            _table_making.check_names(first, table)
-        rows = sum(table._rows for table in tables)
-        if rows > MOST_ROWS:
-            raise WindowOverflow().saying(f"{call}: {rows} rows are past 2**64 - 1")
-        made = {}
-        for name in first._columns:
-            with about(name):
-                made[name] = joined([table._columns[name] for table in tables], call, parts)
-        return cls._of(made, rows)
+        """The rows of tables, one after the other, for a call that a refusal names, and where the tables are from. Where
+        the library does not join them, since a column is of several types or has lists, each column is joined by
+        itself, in the type that has the rows of all."""
+        alike = [_table_making.in_order_of(tables[0], table) for table in tables]
+        try:
+            whole = _handles.joined([table._held for table in alike])
+            if whole is not None:
+                return cls._having(whole)
+            made = {}
+            for name in alike[0]:
+                with about(name):
+                    made[name] = joined([table._column(name) for table in alike], call, parts)
+            return cls._having(Held.of(made))
+        except WindowOverflow as refused:
+            rows = sum(table.rows for table in tables)
+            raise refused.saying(f"{call}: {rows} rows are past 2**64 - 1") from None
 
     def to_runs(self) -> Table:
         """Each column in as few runs as possible; lists as they are."""
@@ -294,31 +307,29 @@ class Table(Mapping[str, Column]):
     def with_column(self, name: str, column: Any, logical_type: Optional[str] = None) -> Table:
         """The same columns and one more, or another in place of that of this name; a Column, or what `Column.of`
         takes, of as many rows as the table has. Its logical type is the one that is given."""
-        added = {} if logical_type is None else {name: logical_type}
-        columns = {**self._columns, checked_name(name): column}
-        return type(self)(columns, added, self._rows if self._columns or self._rows else None)
+        added = _table_making.columns_of({name: column})
+        held = self._held.made(calls.hv_table_clone)
+        held.put(name, added[name])
+        if logical_type is not None:
+            formats = _table_making.checked_logical_types({name: logical_type}, added)
+            held.put(name, _table_making.under(added, formats)[name])
+        return self._having(held)
 
     def select(self, *names: Names) -> Table:
         """The columns of these names, in this order, each once."""
-        chosen = [(name, self._column(name)) for name in each_of(names)]
-        refuse_twice(name for name, _ in chosen)
-        return self._of({name: column.copy() for name, column in chosen}, self._rows)
+        return self._having(self._held.made_by_names(calls.hv_table_select, each_of(names)))
 
     def drop(self, *names: Names) -> Table:
         """All columns but those of these names."""
         left_out = each_of(names)
         for name in left_out:
-            self._column(name)
-        return self.select(*(name for name in self._columns if name not in left_out))
+            self._held.place(_handles.checked(name))
+        return self.select(*(name for name in self if name not in left_out))
 
     def rename(self, names: Mapping[str, str]) -> Table:
         """The same columns, of which those that the mapping has as keys have its values as names."""
-        for name in names:
-            self._column(name)
-        changed = [checked_name(names.get(name, name)) for name in self._columns]
-        refuse_twice(changed)
-        columns = {name: column.copy() for name, column in zip(changed, self._columns.values())}
-        return self._of(columns, self._rows)
+        made = _handles.texts_of(map(checked_name, names.values()))
+        return self._having(self._held.made_by_names(calls.hv_table_rename, [*names], made, changed=names))
 
     # ---- Comparing ----
 
@@ -326,11 +337,11 @@ class Table(Mapping[str, Column]):
         """Whether both have the same names in the same order, types, logical types and rows, whatever the forms."""
         if not isinstance(other, Table):
             raise TypeError(f"a table is compared with a Table, not with {in_words(other)}")
-        if (self.names, self.types, self._rows) != (other.names, other.types, other._rows) or (
+        if (self.names, self.types, self.rows) != (other.names, other.types, other.rows) or (
             self.logical_types != other.logical_types
         ):
             return False
-        return all(_have_equal_rows(column, other._columns[name]) for name, column in self._columns.items())
+        return all(_have_equal_rows(column, other._column(name)) for name, column in self._columns.items())
 
     def __eq__(self, other: object) -> bool:
         """Whether both are one object; `equals` compares rows."""
@@ -345,12 +356,12 @@ class Table(Mapping[str, Column]):
         column of integers or times is kept as those of its rows where that is shorter, as for times at regular steps:
         the bytes are then of version 2, which readers of version 1 refuse. A column of more than 16 levels of runs is
         refused, as `Unsupported`."""
-        return b"".join(_table_files.parts(self._columns, self._rows, differences))
+        return b"".join(_table_files.parts(self._columns, self.rows, differences))
 
     def save(self, path: Any, differences: bool = False) -> None:
         """Writes the bytes of `to_bytes` to a file, a column at a time, which `load` reads. A file of this name is
         replaced at once when all is written, and stays as it was where that fails."""
-        _files.write(path, _table_files.parts(self._columns, self._rows, differences))
+        _files.write(path, _table_files.parts(self._columns, self.rows, differences))
 
     def to_csv(self, path: Any) -> None:
         """Writes the rows to a CSV file, which `from_csv` reads: a line of names, then a line for each row. Null is an
@@ -360,7 +371,7 @@ class Table(Mapping[str, Column]):
         for name, column in self._columns.items():
             with about(name):
                 csv_files.refuse_lists(column)
-        lines = csv_files.lines_of_columns(self._columns, self._rows)
+        lines = csv_files.lines_of_columns(self._columns, self.rows)
         _files.write(path, lines, "to_pandas().to_csv(file) writes to an open file")
 
     def to_dict(self) -> dict[str, list[Scalar]]:
@@ -369,7 +380,7 @@ class Table(Mapping[str, Column]):
 
     def to_pandas(self, in_runs: bool = False) -> Any:
         """A DataFrame of Column.to_pandas() of each column; with `in_runs` of arrays of hivevigil.pandas, in runs."""
-        return _table_making.frame_of(self._columns, self._rows, in_runs)
+        return _table_making.frame_of(self._columns, self.rows, in_runs)
 
     def __array__(self, dtype: Any = None, copy: Any = None) -> Any:
         """Refused: NumPy, and pandas.DataFrame(table), which asks for an array, would make one of the names."""
@@ -384,13 +395,13 @@ class Table(Mapping[str, Column]):
         return _arrow.struct_stream_capsule(self._columns, requested_schema)
 
     def __reduce__(self) -> Any:
-        return _unpickled, (type(self), self._columns, self._rows)
+        return _unpickled, (type(self), self._columns, self.rows)
 
     def __repr__(self) -> str:
-        return _table_showing.text(self._columns, self._rows)
+        return _table_showing.text(self._columns, self.rows)
 
     def _repr_html_(self) -> str:
-        return _table_showing.html(self._columns, self._rows)
+        return _table_showing.html(self._columns, self.rows)
 
 
 def _unpickled(

@@ -9,8 +9,9 @@ import pytest
 from hypothesis import given
 from hypothesis import strategies as st
 from rows import samples
+from tables import tables
 
-from hivevigil import Column, _library, concat, errors
+from hivevigil import Column, Table, _library, concat, errors
 from hivevigil._calls import CALLS
 from hivevigil.chunks import Partial, joined
 
@@ -62,6 +63,37 @@ def test_a_pool_over_lists():
     assert found == [([[number], [count - 1]], [[number]]) for number in range(32)]
 
 
+def of_a_table(table, number):
+    """What a thread asks of a table that all have."""
+    at = Column.of(array_of(table.rows)).gt(number)
+    found = (
+        table.filter(at), table.take([number, -1, 3]), table.append(table), table.drop_null(), table.slice(number, table.rows),
+        table.sort(["a", "b"], [True, False], ["last", "first"]), table.select("b"), table.rename({"a": "c"}),
+    )
+    return [each.to_bytes() for each in found], table["a"].null_count, table.names, table.rows
+
+
+@pytest.mark.parametrize("form", FORMS)
+def test_a_pool_over_one_table(form):
+    table = Table({"a": FORMS[form][:20_000], "b": TEXTS[:20_000]})
+    due = [of_a_table(table.slice(0, table.rows), number) for number in range(2)]
+    with ThreadPoolExecutor(4) as pool:
+        assert list(pool.map(of_a_table, repeat(table), [number % 2 for number in range(8)])) == due * 4
+
+
+def test_a_pool_over_a_table_with_lists():
+    count = 20_000
+    lists = Column.from_lists(Column.of(list(range(count))), range(count), [1] * count)
+    table = Table({"a": lists, "b": list(range(count))})
+
+    def work(number):
+        return table.filter(table["b"].eq(number)).to_dict(), table.sort("b", True).row(number)
+
+    with ThreadPoolExecutor(4) as pool:
+        found = list(pool.map(work, range(32)))
+    assert found == [({"a": [[at]], "b": [at]}, {"a": [count - 1 - at], "b": count - 1 - at}) for at in range(32)]
+
+
 def test_a_column_that_is_freed_while_others_read_it():
     due, found = FORMS["runs"].sum(), []
 
@@ -109,6 +141,8 @@ def shares_in_time(call, times=20):
 def test_others_work_while_a_long_call_runs():
     column = Column.of(array_of(10_000_000))
     assert max(shares_in_time(column.to_runs)) >= 7
+    table = Table({"a": column[:3_000_000]})
+    assert max(shares_in_time(lambda: table.append(table), 5)) >= 7
     many, _library._MANY = _library._MANY, 2**70  # as it was with the lock
     try:
         assert min(shares_in_time(column.to_runs, 5)) <= 4
@@ -147,7 +181,7 @@ def test_without_the_lock_calls_answer_as_with_it(data, sample):
 
 def test_calls_that_release_the_lock_exist():
     assert _library._LONG <= set(CALLS)
-    assert not _library._LONG & {name for name in CALLS if "builder" in name or "append" in name or "list" in name}
+    assert not _library._LONG & {name for name in CALLS if name.startswith(("hv_builder", "hv_append", "hv_list"))}
 
 
 @pytest.mark.parametrize("column, size", [
@@ -156,6 +190,27 @@ def test_calls_that_release_the_lock_exist():
 ])
 def test_the_size_of_a_call_is_that_of_its_work(column, size):
     assert _library._size(column, False) == size and _library._size(column, True) == len(column)
+
+
+@given(st.data(), tables())
+def test_without_the_lock_tables_answer_as_with_it(data, sample):
+    table, names = sample.table, sample.names
+    flags = data.draw(st.lists(st.booleans(), min_size=sample.count, max_size=sample.count))
+
+    def answers():
+        found = [table.filter(flags), table.take([0] * min(1, sample.count)), table.append(table), table.drop_null()]
+        return [each.to_dict() for each in [*found, *([table.sort(names)] if names else [])]]
+
+    due, many = answers(), _library._MANY
+    _library._MANY = 0
+    try:
+        assert answers() == due
+        with pytest.raises(errors.MaskLength, match=f"a mask of {sample.count + 1} rows over a column of {sample.count} "):
+            table.filter([*flags, True])
+        with pytest.raises(errors.OutOfBounds):
+            table.take([sample.count])
+    finally:
+        _library._MANY = many
 
 
 def test_refusals_without_the_lock():
