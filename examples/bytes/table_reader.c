@@ -1,7 +1,6 @@
-/* Reads tables as bytes, a line of hexadecimal digits each, and answers a line each: "refused", "zero" for a table
- * with a zero byte in a name or a logical type, which C's texts do not have, or the number of rows, for each column its
- * name, its logical type and its message, and then the bytes that the table is written as again, as rows, and with
- * differences, all in hexadecimal digits.
+/* Reads tables as bytes, a line of hexadecimal digits each, and answers a line each: "refused", or the number of rows,
+ * for each column its name, its format and its message without it, and then the bytes that the table is written as
+ * again, as rows, and with differences, all in hexadecimal digits.
  *
  *     cc table_reader.c $(pkg-config --cflags --libs hivevigil) -o table_reader */
 #include "hivevigil_table_file.h"
@@ -23,10 +22,13 @@ static void print_digits(const void *bytes, size_t len) {
 
 static void print_column(const hv_column *column) {
     static uint8_t bytes[LINE];
+    hv_column untyped = HV_EMPTY;
     hv_error error;
     size_t size = 0;
-    expect(hv_write(column, bytes, sizeof bytes, &size, &error), HV_OK, "hv_write");
+    expect(hv_with_type(column, NULL, 0, &untyped, &error), HV_OK, "hv_with_type");
+    expect(hv_write(&untyped, bytes, sizeof bytes, &size, &error), HV_OK, "hv_write");
     print_digits(bytes, size);
+    hv_free(&untyped);
 }
 
 static void print_written(const hv_table *table, uint8_t differences) {
@@ -38,20 +40,23 @@ static void print_written(const hv_table *table, uint8_t differences) {
 }
 
 static void answer(const uint8_t *bytes, size_t len) {
-    hv_table table = HV_TABLE_EMPTY;
+    hv_table table = HV_EMPTY;
+    hv_table_columns held = HV_TABLE_NO_COLUMNS;
     hv_error error;
     const int32_t read = hv_table_from_bytes_within(bytes, len, UINT64_MAX, &table, &error);
     if (read != HV_OK) {
-        if (read != HV_UNSUPPORTED) expect(read, HV_BAD_METADATA, "hv_table_from_bytes_within");
-        puts(read == HV_UNSUPPORTED ? "zero" : "refused");
+        expect(read, HV_BAD_METADATA, "hv_table_from_bytes_within");
+        puts("refused");
         return;
     }
-    printf("%zu", table.rows);
-    for (size_t i = 0; i < table.count; i++) {
-        print_digits(table.names[i], strlen(table.names[i]));
-        print_digits(table.logical_types[i], strlen(table.logical_types[i]));
-        print_column(&table.columns[i]);
+    printf("%zu", hv_table_len(&table));
+    expect(hv_table_columns_of(&table, &held, &error), HV_OK, "hv_table_columns_of");
+    for (size_t i = 0; i < held.count; i++) {
+        print_digits(held.names[i].at, held.names[i].size);
+        print_digits(held.formats[i].at, held.formats[i].size);
+        print_column(&held.columns[i]);
     }
+    hv_table_columns_free(&held);
     print_written(&table, 0);
     print_written(&table, 1);
     putchar('\n');

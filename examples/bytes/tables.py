@@ -19,8 +19,6 @@ def due(data: bytes) -> str:
     table = table_model.table(data)
     if table is None:
         return "refused"
-    if any("\0" in footer.name + footer.logical_type for footer in table.footer.columns):
-        return "zero"
     columns = table_model.columns(table)
     named = list(zip(table.footer.columns, columns))
     words = [f"{table.footer.rows}"]

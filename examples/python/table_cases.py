@@ -25,10 +25,6 @@ FOLDS = {"rows": "size", "least": "min", "greatest": "max"}
 NUMBERS = [("two columns have the name", 202), ("is named twice", 202), ("columns of different names", 201), ("at least one column", 13)]
 
 
-class NotServed(Exception):
-    """This wrapper has no way to ask it."""
-
-
 # ---- Words ----
 
 
@@ -129,10 +125,7 @@ def lines_of(table):
 
 def sort(table, words):
     names, orders, nulls = (words[place::3] for place in range(3))
-    if len(set(nulls)) > 1:
-        raise NotServed
-    keys, flags = [name_of(name) for name in names], [order == "descending" for order in orders]
-    return table.sort(keys, flags, (nulls or ["first"])[0])
+    return table.sort([name_of(name) for name in names], [order == "descending" for order in orders], nulls)
 
 
 def group_by(table, words):
@@ -180,8 +173,6 @@ CALLS = {
 
 def refused(error, wanted):
     """The number of a refusal, with the fields that are asked for, if the exception has fields."""
-    if isinstance(error, NotServed):
-        return "not served"
     number, fields = getattr(error, "number", 0), getattr(error, "fields", None)
     if not isinstance(error, HivevigilError):
         # a TypeError of Python says of no type, and of no call, that they are not served
@@ -201,7 +192,7 @@ def answer_of(lines, wanted):
     try:
         tables = [table_of(lines[start:stop]) for start, stop in zip(starts, [*starts[1:], end])]
         found = CALLS[call](*tables[:1], words, *tables[1:])
-    except (HivevigilError, NoName, NotServed, TypeError, ValueError, OverflowError, IndexError) as error:
+    except (HivevigilError, NoName, TypeError, ValueError, OverflowError, IndexError) as error:
         return refused(error, wanted)
     return " ; ".join(lines_of(found)) if isinstance(found, Table) else shown(found, "")
 
