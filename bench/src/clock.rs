@@ -37,7 +37,7 @@ pub fn keep_memory() {
     }
 }
 
-/// Each block of 128 KiB or more is mapped anew.
+/// Makes malloc map each block of 128 KiB or more anew.
 pub fn map_anew() {
     unsafe {
         mallopt(MMAP_THRESHOLD, LARGE);

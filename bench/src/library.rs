@@ -7,7 +7,7 @@ use std::cell::UnsafeCell;
 use std::ops::Range;
 use std::ptr;
 
-/// A column of the library, freed when it is dropped.
+/// Owns a column of the library, which is freed when it is dropped.
 pub struct Column(UnsafeCell<Handle>);
 
 impl Drop for Column {
@@ -16,7 +16,7 @@ impl Drop for Column {
     }
 }
 
-/// What a bench asks is never refused: the program ends where it is.
+/// Ends the program where a call is refused: what a bench asks never is.
 fn done(call: impl FnOnce(*mut Fields) -> i32) {
     let mut fields = Fields::default();
     let number = call(&mut fields);
@@ -31,7 +31,7 @@ fn made(call: impl FnOnce(*mut Handle, *mut Fields) -> i32) -> Column {
     column
 }
 
-/// What the makers take as validity.
+/// Returns what the makers take as validity.
 fn nulls(flags: &Option<Bits>) -> (u8, *const u8, usize) {
     static NONE: u64 = 0;
     match flags {
@@ -40,7 +40,7 @@ fn nulls(flags: &Option<Bits>) -> (u8, *const u8, usize) {
     }
 }
 
-/// A kind of rows that both sides store in the same way.
+/// Stores rows of a kind in the same way on both sides.
 pub trait Item: Copy + PartialEq + Default + std::fmt::Debug + 'static {
     fn column(rows: &Flat<Self>) -> Column;
     fn read(column: &Column) -> Vec<Self>;
@@ -139,7 +139,7 @@ impl Column {
         })
     }
 
-    /// The runs of these ends, whose values are a column.
+    /// Returns the runs of these ends, whose values are a column.
     pub fn runs(ends: &[u32], values: &Column) -> Column {
         let rows = ends.last().map_or(0, |end| *end as usize);
         let ends = u32::column(&Flat {
@@ -190,7 +190,7 @@ impl Column {
     }
 }
 
-/// What is timed.
+/// Has the calls that are timed.
 impl Column {
     fn command(&self, call: impl FnOnce(*mut Handle, *mut Handle, *mut Fields) -> i32) -> Column {
         made(|out, fields| call(self.0.get(), out, fields))
@@ -204,7 +204,7 @@ impl Column {
         self.command(|column, out, fields| unsafe { raw::hv_encode_rows(column, out, fields) })
     }
 
-    /// The encoding of these columns of one type, one after the other, by a builder.
+    /// Returns the encoding of these columns of one type, one after the other, by a builder.
     pub fn built(batches: &[Column]) -> Column {
         let mut builder = BuilderHandle {
             at: ptr::null_mut(),
@@ -347,7 +347,7 @@ fn number_of(value: RawValue) -> Option<i128> {
     }
 }
 
-/// A number as C passes it.
+/// Returns a number as C passes it.
 pub fn passed(item: i128, signed: bool) -> RawValue {
     let (kind, as_unsigned, as_signed) = if signed {
         (2, 0, item as i64)
@@ -370,7 +370,7 @@ impl Column {
         size
     }
 
-    /// The message of a column, into this number of bytes of room.
+    /// Returns the message of a column, written into this number of bytes of room.
     pub fn message(&self, room: usize) -> Vec<u8> {
         let (mut message, mut size) = (Vec::<u8>::with_capacity(room), 0);
         done(|fields| unsafe {
@@ -387,7 +387,7 @@ impl Column {
     }
 }
 
-/// What is read back to compare what both sides answer.
+/// Reads back what is compared with the answers of the other side.
 impl Column {
     pub fn len(&self) -> usize {
         unsafe { raw::hv_length(self.0.get()) }
@@ -420,7 +420,7 @@ impl Column {
         }
     }
 
-    /// The runs of a run column whose first row is the first of its runs.
+    /// Returns the runs of a run column whose first row is the first of its runs.
     pub fn read_runs<T: Item>(&self) -> Runs<T> {
         Runs {
             ends: self.run_ends(),
@@ -434,7 +434,7 @@ impl Column {
         u32::read(&ends.cast(&Session::initial(), Kind::U32))
     }
 
-    /// The values of a run column.
+    /// Returns the values of a run column.
     pub fn run_values(&self) -> Column {
         made(|out, fields| unsafe { raw::hv_values(self.0.get(), out, fields) })
     }

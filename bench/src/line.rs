@@ -1,25 +1,25 @@
-//! Lines: a call of the library and a kernel in turns, and what both answer beside each other.
+//! Lines: a call of the library and a kernel in turns, and what both answer.
 use crate::clock::now;
 use crate::kernels::black_box;
 use crate::memory::{counted, Taken};
 
-/// What a line is of.
+/// Says what a line is of.
 #[derive(Clone, Debug, PartialEq, Eq)]
 pub struct Shape {
     pub call: String,
-    /// The type of the rows.
+    /// Names the type of the rows.
     pub kind: &'static str,
     pub nulls: bool,
-    /// The mean length of runs in rows, or what else the line is of.
+    /// Says the mean length of runs in rows, or what else the line is of.
     pub size: String,
 }
 
-/// What both sides took: nanoseconds a unit by the middle turn, and memory.
+/// Holds what both sides took: nanoseconds a unit by the middle turn, and memory.
 #[derive(Clone, Debug)]
 pub struct Line {
     pub shape: Shape,
     pub unit: &'static str,
-    /// How often the call was made in a turn.
+    /// Counts how often the call was made in a turn.
     pub calls: usize,
     pub ours: f64,
     pub ours_taken: Taken,
@@ -50,7 +50,7 @@ impl Line {
 /// Names a form of the Rust side.
 pub type Form<'a, R> = (&'static str, &'a dyn Fn() -> R);
 
-/// All lines of one run of the program.
+/// Holds all lines of one run of the program.
 pub struct Bench {
     pub rows: usize,
     pub turns: usize,
@@ -158,7 +158,7 @@ fn in_turns<O, R>(turns: usize, ours: impl Fn() -> O, forms: &[Form<R>]) -> (u64
     (middle(left), right.into_iter().map(middle).collect())
 }
 
-/// What was made is given back after the clock stopped.
+/// Times a call; what it made is given back after the clock stopped.
 fn timed<A>(call: impl FnOnce() -> A) -> u64 {
     let start = now();
     let answer = black_box(call());

@@ -1,6 +1,6 @@
-//! Times the calls of libhivevigil.a beside plain Rust kernels that do the same work, in turns in one process, by the
-//! thread's processor time, and compares what both answer. The tables go to the output, each line as it is measured to
-//! the error output. The status is 1 where an answer differs.
+//! Times the calls of libhivevigil.a relative to plain Rust kernels that do the same work, in turns in one process, by
+//! the thread's processor time, and compares what both answer. The tables go to the output, each line as it is measured
+//! to the error output. The status is 1 where an answer differs.
 mod bits;
 mod clock;
 mod data;
@@ -24,11 +24,11 @@ use std::time::{Duration, Instant};
 const USAGE: &str =
     "bench [--rows N] [--turns N] [--rounds N] [--seconds N] [--only NAME,NAME] [--cold] [--growth] [--sizes] [--smoke]";
 
-/// What is asked for on the command line.
+/// Holds what is asked for on the command line.
 struct Asked {
     bench: Bench,
     rounds: usize,
-    /// No round is begun that would end later, if it took as long as the one before.
+    /// Ends the rounds: none is begun that would end later, if it took as long as the one before.
     seconds: u64,
     cold: bool,
     growth: bool,
@@ -74,7 +74,7 @@ fn asked() -> Option<Asked> {
     Some(asked)
 }
 
-/// One call in a process of its own, for `lines::first`.
+/// Makes one call in a process of its own, for `lines::first`.
 fn first_call() -> Option<String> {
     let words: Vec<String> = std::env::args().skip(1).collect();
     match words.iter().map(String::as_str).collect::<Vec<_>>()[..] {

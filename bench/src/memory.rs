@@ -15,16 +15,16 @@ extern "C" {
     fn malloc_usable_size(at: *mut c_void) -> usize;
 }
 
-/// What a call took of malloc.
+/// Holds what a call took of malloc.
 #[derive(Clone, Copy, Debug, Default)]
 pub struct Taken {
-    /// The greatest number of bytes that it held beyond those held before.
+    /// Counts the most bytes that it held beyond those held before.
     pub most_bytes: u64,
-    /// How often it asked for memory.
+    /// Counts how often it asked for memory.
     pub requests: u64,
 }
 
-/// What a call answers, and what it took.
+/// Returns what a call answers, and what it took.
 pub fn counted<R>(call: impl FnOnce() -> R) -> (R, Taken) {
     HELD.store(0, Relaxed);
     MOST.store(0, Relaxed);

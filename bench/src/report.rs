@@ -6,7 +6,7 @@ use std::fmt::Write;
 const MEANS: [&str; 3] = ["3", "16", "200"];
 const GOAL: f64 = 1.15;
 
-/// All tables of a run.
+/// Returns all tables of a run.
 pub fn tables(bench: &Bench) -> String {
     let mut text = String::new();
     let kinds: [(&str, fn(&Line) -> bool); 3] = [

@@ -6,14 +6,14 @@ use crate::kernels::Slice;
 use std::ops::Range;
 use std::sync::Arc;
 
-/// The type of rows: whole numbers of this number of bytes, and whether they may be null.
+/// Names the type of rows: whole numbers of this number of bytes, and whether they may be null.
 #[derive(Clone, Copy, Debug, PartialEq, Eq)]
 pub struct NumberType {
     pub bytes: usize,
     pub nullable: bool,
 }
 
-/// A part of a buffer, as a column.
+/// Holds a part of a buffer, as a column.
 #[derive(Debug)]
 struct FlatArray<T> {
     dtype: NumberType,
@@ -32,7 +32,7 @@ pub struct RunArray<T> {
     len: usize,
 }
 
-/// A column of either form.
+/// Holds a column of either form.
 #[derive(Debug)]
 pub enum ArrayColumn<T> {
     Constant {
@@ -102,7 +102,7 @@ impl<T: Copy> RunArray<T> {
         Box::new(ArrayColumn::Runs(self.clone()))
     }
 
-    /// The rows of the range; nothing where it ends past the last.
+    /// Returns the rows of the range, or nothing where it ends past the last.
     #[inline(never)]
     pub fn slice(&self, rows: Range<usize>) -> Option<Box<ArrayColumn<T>>> {
         if rows.start > rows.end || rows.end > self.len {

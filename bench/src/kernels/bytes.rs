@@ -45,7 +45,7 @@ fn push_bytes(message: &mut Vec<u8>, field: u8, bytes: &[u8]) {
     message.extend_from_slice(bytes);
 }
 
-/// What is stored, lowest byte first on the machines that this runs on.
+/// Returns the bytes that are stored, lowest byte first on the machines that this runs on.
 fn stored<T>(items: &[T]) -> &[u8] {
     unsafe { std::slice::from_raw_parts(items.as_ptr().cast(), size_of_val(items)) }
 }
@@ -63,12 +63,12 @@ fn field_len(bytes: usize) -> usize {
     1 + varint_len(bytes as u64) + bytes
 }
 
-/// The bytes of the run lengths of these ends, each a varint.
+/// Counts the bytes of the run lengths of these ends, each a varint.
 fn packed_len(ends: &[u32]) -> usize {
     lengths(ends).map(|length| varint_len(length.into())).sum()
 }
 
-/// The same without a branch: a length has a byte more for each of these powers that it reaches.
+/// Counts the same without a branch: a length has a byte more for each of these powers that it reaches.
 fn packed_len_by_powers(ends: &[u32]) -> usize {
     const POWERS: [u32; 4] = [1 << 7, 1 << 14, 1 << 21, 1 << 28];
     const BLOCK: usize = 1 << 16;
@@ -87,7 +87,7 @@ fn packed_len_by_powers(ends: &[u32]) -> usize {
     len(*first) as usize + blocks.map(block).sum::<usize>()
 }
 
-/// The run lengths of these ends as varints, in room for five bytes each.
+/// Returns the run lengths of these ends as varints, in room for five bytes each.
 fn packed(ends: &[u32]) -> Vec<u8> {
     let mut bytes: Vec<u8> = Vec::with_capacity(5 * ends.len());
     let mut room = bytes.as_mut_ptr();
@@ -128,7 +128,7 @@ fn push_flat<T>(message: &mut Vec<u8>, flat: &Flat<T>, number: u64) {
     push_bytes(message, 7, stored(&flat.items));
 }
 
-/// How many bytes the message of runs has: a pass over their lengths.
+/// Counts the bytes of the message of runs: a pass over their lengths.
 #[inline(never)]
 pub fn message_size<T>(runs: &Runs<T>) -> usize {
     size_around(runs, packed_len(&runs.ends))
@@ -149,8 +149,8 @@ fn size_around<T>(runs: &Runs<T>, packed: usize) -> usize {
     head + field_len(packed) + field_len(flat_len(&runs.values))
 }
 
-/// The message of runs over a type that has this number in the schema: a pass over their lengths counts how many bytes
-/// these have, and another writes them.
+/// Writes the message of runs over a type that has this number in the schema: a pass over their lengths counts how many
+/// bytes these have, and another writes them.
 pub fn write<T>(runs: &Runs<T>, number: u64) -> Vec<u8> {
     let push_lengths = |message: &mut Vec<u8>| {
         for length in lengths(&runs.ends) {
@@ -160,7 +160,7 @@ pub fn write<T>(runs: &Runs<T>, number: u64) -> Vec<u8> {
     write_around(runs, number, packed_len(&runs.ends), push_lengths)
 }
 
-/// The same message in one pass over the lengths: they are written into room of their own, and copied.
+/// Writes the same message in one pass over the lengths: they are written into room of their own, and copied.
 pub fn write_in_one_pass<T>(runs: &Runs<T>, number: u64) -> Vec<u8> {
     let packed = packed(&runs.ends);
     let push_lengths = |message: &mut Vec<u8>| message.extend_from_slice(&packed);
@@ -199,7 +199,7 @@ fn push_part<T>(message: &mut Vec<u8>, key: [u8; 2], part: &Flat<T>, number: u64
     push_flat(message, part, number);
 }
 
-/// The message of lists whose elements are of a type that has this number in the schema.
+/// Writes the message of lists whose elements are of a type that has this number in the schema.
 pub fn write_lists<T>(lists: &Lists<T>, number: u64) -> Vec<u8> {
     let rows = lists.offsets.items.len() as u64;
     let parts = [
@@ -219,7 +219,7 @@ pub fn write_lists<T>(lists: &Lists<T>, number: u64) -> Vec<u8> {
     message
 }
 
-/// What is left of a message.
+/// Holds what is left of a message.
 struct Reader<'a>(&'a [u8]);
 
 impl<'a> Reader<'a> {
@@ -248,7 +248,7 @@ impl<'a> Reader<'a> {
         self.behind(&[of_bytes(field)])
     }
 
-    /// The bytes after this key and their number.
+    /// Returns the bytes after this key and their number.
     fn behind(&mut self, key: &[u8]) -> Option<&'a [u8]> {
         self.0 = self.0.strip_prefix(key)?;
         let len = self.varint()?;
@@ -293,7 +293,7 @@ fn read_flat<T: Copy + Default>(message: &[u8], number: u64) -> Option<Flat<T>> 
     reader.0.is_empty().then_some(Flat { items, flags })
 }
 
-/// The ends of run lengths.
+/// Returns the ends of run lengths.
 fn ends_of(packed: &[u8]) -> Option<Vec<u32>> {
     let mut packed = Reader(packed);
     let (mut ends, mut end) = (Vec::with_capacity(packed.0.len()), 0u64);
@@ -306,7 +306,7 @@ fn ends_of(packed: &[u8]) -> Option<Vec<u32>> {
     Some(ends)
 }
 
-/// The same, eight lengths at once where each has one byte.
+/// Returns the same, eight lengths at once where each has one byte.
 fn ends_by_words(packed: &[u8]) -> Option<Vec<u32>> {
     let (mut ends, mut end, mut left) = (Vec::with_capacity(packed.len()), 0u64, packed);
     while !left.is_empty() {
@@ -331,7 +331,7 @@ fn ends_by_words(packed: &[u8]) -> Option<Vec<u32>> {
     Some(ends)
 }
 
-/// Is each byte a length by itself, and none of them 0?
+/// Returns whether each byte is a length by itself, and none of them 0.
 #[inline(always)]
 fn are_short(lengths: [u8; 8]) -> bool {
     let word = u64::from_le_bytes(lengths);
@@ -352,7 +352,7 @@ fn first_length(packed: &[u8]) -> Option<(u64, &[u8])> {
     }
 }
 
-/// The runs of a message, with ends of u32.
+/// Returns the runs of a message, with ends of u32.
 pub fn read<T: Copy + Default>(message: &[u8], number: u64) -> Option<Runs<T>> {
     read_around(message, number, ends_of)
 }
@@ -385,7 +385,7 @@ fn read_around<T: Copy + Default>(
     (reader.0.is_empty() && values.items.len() == ends.len()).then_some(Runs { ends, values })
 }
 
-/// The lists of a message, none of which is null: each lies within the elements.
+/// Returns the lists of a message, none of which is null: each lies within the elements.
 pub fn read_lists<T: Copy + Default>(message: &[u8], number: u64) -> Option<Lists<T>> {
     let mut reader = Reader(message);
     for (field, told) in [(1, 1), (2, LIST), (3, 4)] {

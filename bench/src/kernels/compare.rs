@@ -1,4 +1,4 @@
-//! Each row beside one value.
+//! Each row compared with one value.
 use super::words::word_of;
 use crate::bits::Bits;
 use crate::data::{Runs, Truths};
@@ -33,13 +33,13 @@ fn less<T: Copy + PartialOrd>(
     }
 }
 
-/// The rows are filled run by run.
+/// Fills the rows run by run.
 #[inline(never)]
 pub fn less_by_runs<T: Copy + PartialOrd>(runs: &Runs<T>, right: T) -> Truths {
     less(runs, right, spread)
 }
 
-/// The rows are turned 64 at a time.
+/// Turns the rows 64 at a time.
 #[inline(never)]
 pub fn less_by_turns<T: Copy + PartialOrd>(runs: &Runs<T>, right: T) -> Truths {
     less(runs, right, spread_by_turns)

@@ -2,7 +2,7 @@
 use crate::data::{Flat, Runs};
 use crate::kernels::join::{blanked, join};
 
-/// Each value as the same number of another type; `None` where one does not fit.
+/// Returns each value as the same number of another type, or `None` where one does not fit.
 #[inline(never)]
 pub fn cast<T: Copy, U: Copy + PartialEq + Default>(
     runs: &Runs<T>,
@@ -24,7 +24,7 @@ pub fn cast<T: Copy, U: Copy + PartialEq + Default>(
     Some(join(runs.ends.clone(), values))
 }
 
-/// The value in place of each null.
+/// Puts the value in place of each null.
 #[inline(never)]
 pub fn fill<T: Copy + PartialEq>(runs: &Runs<T>, value: T) -> Runs<T> {
     let mut items = runs.values.items.clone();

@@ -16,7 +16,7 @@ pub struct SharedRuns<T> {
     offset: usize,
 }
 
-/// What a slice leaves: rows that are all the same, or runs.
+/// Holds what a slice leaves: rows that are all the same, or runs.
 #[derive(Debug)]
 pub enum SharedSlice<T> {
     Constant(Option<T>),

@@ -24,7 +24,7 @@ pub fn lines(bench: &mut Bench, load: &Load) {
     numbers(bench, load);
 }
 
-/// A flat column that is encoded as it is, and built of a hundred batches; the Rust loops have it as one column.
+/// Encodes a flat column as it is, and builds it of a hundred batches; the Rust loops have it as one column.
 fn both<R>(
     bench: &mut Bench,
     load: &Load,

@@ -189,7 +189,7 @@ fn rows_of(slice: Slice<u64>, count: usize) -> Flat<u64> {
     }
 }
 
-/// How many rows there are, and what their numbers come to.
+/// Says how many rows there are, and what their numbers come to.
 fn told(rows: &Flat<u64>) -> String {
     let mut hasher = DefaultHasher::new();
     for (at, item) in rows.items.iter().enumerate() {

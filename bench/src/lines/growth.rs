@@ -13,8 +13,8 @@ use std::fmt::Write;
 const POWERS: [u32; 5] = [3, 4, 5, 6, 7];
 const RUN_ROWS: u64 = 3;
 
-/// A table of nanoseconds, and the slopes: 1 where costs are as many times more as there are more runs, 0 where they
-/// stay.
+/// Returns a table of nanoseconds, and the slopes: 1 where costs are as many times more as there are more runs, 0 where
+/// they stay.
 pub fn growth(bench: &mut Bench) -> String {
     for power in POWERS {
         step(bench, 10usize.pow(power));
@@ -56,8 +56,8 @@ fn row(text: &mut String, call: &str, lines: &[&Line]) {
     );
 }
 
-/// The slope of the straight line through the logarithms of what a call takes, by least squares. Lines that have
-/// nanoseconds a run get 1 added.
+/// Returns the slope of the straight line through the logarithms of what a call takes, by least squares. Lines that
+/// have nanoseconds a run get 1 added.
 fn slope(unit: &str, each: impl Iterator<Item = f64>) -> f64 {
     let points: Vec<(f64, f64)> = POWERS
         .iter()
@@ -172,7 +172,7 @@ fn selects(bench: &mut Bench, load: &Load, runs: &Runs<u64>, column: &Column) {
     );
 }
 
-/// What does not go by runs: one row of a number, a range, and all of them shared.
+/// Times what does not go by runs: one row of a number, a range, and all of them shared.
 fn looks(bench: &mut Bench, load: &Load, runs: &Runs<u64>, column: &Column) {
     const TIMES: usize = 1000;
     let (session, rows) = (session(), load.rows());

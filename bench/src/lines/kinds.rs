@@ -82,7 +82,7 @@ fn each<F>(bench: &mut Bench, load: &Load, rust: Rust<F>) {
     }
 }
 
-/// The rows of what a filter kept, which only the comparison of answers asks for.
+/// Holds the rows of what a filter kept, which only the comparison of answers asks for.
 enum Answer<R, F> {
     Rows(F),
     Kept(Kept<R, F>),

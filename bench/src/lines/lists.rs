@@ -1,5 +1,5 @@
-//! Lists of ten commands, each made on what the one before it left, beside ten kernels: what is left between them is
-//! given back at once. C has no call that runs a list, so that ours are ten calls.
+//! Lists of ten commands, each made on what the one before it left, relative to ten kernels: what is left between them
+//! is given back at once. C has no call that runs a list, so that ours are ten calls.
 use super::selects::{index_column, indices, mask, mask_column};
 use super::{again, session};
 use crate::bits::Bits;

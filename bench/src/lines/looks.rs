@@ -64,7 +64,7 @@ fn rows(bench: &mut Bench, runs: usize, nulls: bool) {
     bench.question(shape, (rows.len(), "row"), ours, &forms, i128::eq);
 }
 
-/// A thousand rows at a time, read out of runs into memory of the caller's; and which run has a row.
+/// Reads a thousand rows at a time, out of runs into memory of the caller's, and asks which run has a row.
 fn windows(bench: &mut Bench) {
     let load = Load::new(bench.rows, 16, false);
     let (runs, mut random) = (load.runs(|number| number), Random::new(41));
@@ -164,7 +164,7 @@ fn same_array(
         && same_slice(column, &array.copied(), range)
 }
 
-/// Does the library's column have the rows of this range?
+/// Returns whether the library's column has the rows of this range.
 pub fn same_slice<T: Item>(column: &Column, slice: &Slice<T>, range: Range<usize>) -> bool {
     let found = column.read_flat::<T>();
     let row = |at: usize| {

@@ -24,7 +24,7 @@ pub fn lines<T: Number>(bench: &mut Bench, load: &Load) {
     codes::<T>(bench, load);
 }
 
-/// Does the library's column have the runs that a kernel shares?
+/// Returns whether the library's column has the runs that a kernel shares.
 fn same_shared<T: Item>(column: &Column, runs: &SharedRuns<T>) -> bool {
     same_runs(column, &runs.copied().0)
 }

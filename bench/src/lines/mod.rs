@@ -26,13 +26,13 @@ use hivevigil::{Kind, Session};
 
 const MEANS: [u64; 3] = [3, 16, 200];
 
-/// A type of whole numbers, and another that all its values here are cast to.
+/// Names a type of whole numbers, and another that all its values here are cast to.
 pub trait Number: Item + Addend + PartialOrd {
     type Other: Item;
     const NAME: &'static str;
     const OTHER: Kind;
     const SIGNED: bool;
-    /// The number of the type in the schema of messages.
+    /// Holds the number of the type in the schema of messages.
     const MESSAGE: u64;
     fn of(number: u64) -> Self;
     fn fits(self) -> bool;
@@ -68,7 +68,7 @@ numbers! {
     u8 to u32 U32, 8, false, 1;
 }
 
-/// Every line, but for growth.
+/// Times every line, except growth.
 pub fn all(bench: &mut Bench) {
     for mean in MEANS {
         for nulls in [false, true] {
@@ -95,7 +95,8 @@ fn numbers<T: Number>(bench: &mut Bench, load: &Load) {
     selects::lines::<T>(bench, load);
 }
 
-/// The call made so often, and what the last one answers; what the others made is given back.
+/// Returns a call that makes this call a number of times, and answers what the last one does; what
+/// the others made is given back.
 fn again<A>(times: usize, call: impl Fn() -> A) -> impl Fn() -> A {
     move || {
         (1..times).for_each(|_| _ = black_box(call()));
@@ -103,7 +104,7 @@ fn again<A>(times: usize, call: impl Fn() -> A) -> impl Fn() -> A {
     }
 }
 
-/// What a line of a load is of.
+/// Says what a line of a load is of.
 fn shape(load: &Load, call: &str, kind: &'static str) -> Shape {
     let (call, nulls, size) = (
         call.to_string(),
@@ -118,7 +119,7 @@ fn shape(load: &Load, call: &str, kind: &'static str) -> Shape {
     }
 }
 
-/// Does the library's column have these very runs?
+/// Returns whether the library's column has these very runs.
 fn same_runs<T: Item>(column: &Column, runs: &Runs<T>) -> bool {
     if column.form() != hivevigil::Form::Runs {
         return column

@@ -9,14 +9,14 @@ use crate::load::{Load, Random};
 
 /// Rows for each index of a take of few.
 pub const FEW: usize = 40;
-/// The names of takes, how many rows there are for each index, and whether indices are in order.
+/// Names takes, with how many rows there are for each index, and whether indices are in order.
 pub const TAKES: [(&str, usize, bool); 4] = [
     ("take, a quarter at random", 4, false),
     ("take, a quarter in order", 4, true),
     ("take, a fortieth at random", FEW, false),
     ("take, a fortieth in order", FEW, true),
 ];
-/// The names of filters, and of how many rows one is kept.
+/// Names filters, with the number of rows of which one is kept.
 pub const FILTERS: [(&str, u64); 3] = [
     ("filter, half", 2),
     ("filter, a tenth", 10),

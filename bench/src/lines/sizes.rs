@@ -1,4 +1,4 @@
-//! How many bytes columns have as messages, flat and in runs, beside their items as arrays.
+//! How many bytes columns have as messages, flat and in runs, relative to their items as arrays.
 use super::kinds::written;
 use super::session;
 use crate::bits::Bits;
@@ -8,14 +8,14 @@ use crate::load::Load;
 use std::fmt::Write;
 use std::mem::size_of;
 
-/// How many bytes one form of a column has.
+/// Counts the bytes of one form of a column.
 struct Sizes {
-    /// As arrays: items, bits of booleans and offsets of 32 bits in front of texts.
+    /// Counts them as arrays: items, bits of booleans and offsets of 32 bits in front of texts.
     arrays: usize,
     message: usize,
 }
 
-/// A table of the bytes of columns of this number of rows without null: flat, and in runs with ends of 32 bits.
+/// Returns a table of the bytes of columns of this number of rows without null: flat, and in runs with ends of 32 bits.
 pub fn sizes(rows: usize) -> String {
     let mut text = format!(
         "Bytes of {rows} rows. Arrays are items one after the other (bits of booleans, offsets of 32 bits and bytes of \

@@ -1,4 +1,4 @@
--- Builders behind which rows were put, or not.
+-- Builders to which rows were appended, or not.
 use Rattle.std.proofs.Common.{◌≡◌, ◌∙◌, ◌++◌, ℕ, List, inl, inr, subst, sym}
 use Rattle.std.specs.Prelude.{Option, None, Some, Result, Ok, Err, IfErr, OnErr, OnOk, length, replicate}
 use Rattle.column_base.specs.declared.error.VortexError.{VortexError}
@@ -21,7 +21,7 @@ pub still_kept : {T E : Type 0} (result : Result T E) (old new : Built) → new.
 still_kept (Ok value) old new typed kept = tt
 still_kept (Err error) old new typed kept = (λ i. record { dtype = typed i; rows = kept i })
 
--- so many rows of the scalar that is passed
+-- `count` rows of the scalar that is passed
 pub value_grown : {T E : Type 0} (result : Result T E) (old new : Built) (scalar : ScalarForm) (value : RowValue) (text : List ℕ) (count : ℕ)
     → scalar ≡ record { dtype = old.dtype; value = value_in value.kind value text } → new.dtype ≡ old.dtype → OnOk result (new.rows ≡ old.rows ++ replicate count (scalar_row scalar))
     → OnOk result (new ≡ with_rows old (replicate count (passed_row value text)))

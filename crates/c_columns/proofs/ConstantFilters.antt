@@ -64,7 +64,7 @@ counted_refused mask k x y none other left right =
 pub counted_done : (mask : ArrayRef Global) (k : Constant) → mask_fault (dtype_of mask) ≡ None → length (rows mask) ≡ k.count → mask_filter_fault mask (array.Constant k) ≡ None
 counted_done mask k none same = sym (counted_fault mask k none) ∙ no_fault (length (rows mask)) k.count same
 
--- where there is no fault, the mask is as long
+-- without a fault, the mask is as long
 no_other_fault : (fault other : Option VortexError) → option_or fault other ≡ None → other ≡ None
 no_other_fault None other none = none
 no_other_fault (Some error) other none = absurd (cc)

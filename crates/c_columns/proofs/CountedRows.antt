@@ -7,7 +7,7 @@ use Rattle.std.proofs.lemmas.List.FromFn.{length-map-range_with_len, map-range_w
 row_more : (f : ℕ → Bool) (row : ℕ) → map f (range_with_len 0 (row + 1)) ≡ map f (range_with_len 0 row) ++ f row ∷ []
 row_more f row = let same : 0 + row ≡ row = omega arith in map-range_with_len_more f 0 row row same
 
--- the bits so far, and the bit of the next row behind them
+-- the bits so far, and the bit of the next row after them
 pub one_more : (f : ℕ → Bool) (row : ℕ) (bits more : List Bool) (bit : Bool) → bits ≡ map f (range_with_len 0 row) → more ≡ bits ++ bit ∷ [] → bit ≡ f row → more ≡ map f (range_with_len 0 (row + 1))
 one_more f row bits more bit so_far put is =
     put ∙ ap (λ (xs : List Bool). xs ++ bit ∷ []) so_far ∙ ap (λ (b : Bool). map f (range_with_len 0 row) ++ b ∷ []) is ∙ sym (row_more f row)

@@ -20,7 +20,7 @@ use Rattle.c_columns.specs.Bits.{validity_by, validity_fault}
 use Rattle.c_columns.specs.Ending.{IsShortOr}
 use Rattle.c_columns.specs.Makers.{AreCuts, AreTextsOf, CutsFault, IsCut, IsFirstUncut, IsRowCut, TextsFault}
 
--- two offsets of which one is no `usize`, or which fall, cut nothing
+-- two offsets, one of which does not fit `usize`, or which fall, cut nothing
 pub uncut_start : (start stop : ℤ) → ((k : ℕ) → k < 2 ^ 64 → start ≢ pos k) → ¬ IsCut start stop
 uncut_start start stop none cut = none cut.from (omega (arith, cut.order, cut.numbered)) cut.begins
 
@@ -104,7 +104,7 @@ module _ (kind : VarBinKind) (offsets : List ℤ) (bytes : List ℕ) (nulls : �
   bits_refused views cuts (inl short) = inl short
   bits_refused views cuts (inr found) = inr (inr (record { views = views; cuts = cuts; is = inl found }))
 
-  -- the rows are no texts
+  -- the rows are not texts
   pub texts_refused : (views : List View) (buffers : List (List ℕ)) (validity : ValidityForm) → AreCuts offsets views → validity_fault nulls bits first (length views) ≡ None → buffers ≡ bytes ∷ []
       → validity ≡ validity_by nulls bits first (length views) → VarBinFault (varbin_with kind views buffers validity) error → IsShortOr (TextsFault kind offsets bytes nulls bits first) error
   texts_refused views buffers validity cuts enough only is fault =

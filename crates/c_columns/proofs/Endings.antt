@@ -24,7 +24,7 @@ use Rattle.c_columns.specs.declared.sessions.Session.{Session}
 abbrev Held : Type 0
 Held = Option (ArrayRef Global)
 
--- done: there was no fault
+-- done without a fault
 pub ends_done : (fault : Option VortexError) (code : ℤ) (fields : ErrorFields) → fault ≡ None → code ≡ pos 0 → EndsBy fault code fields
 ends_done None code fields none is = inl is
 ends_done (Some error) code fields none is = absurd (cc)
@@ -65,7 +65,7 @@ pub given_refused : (c : Held) (a : ArrayRef Global) (given : Result (Command Gl
     → c ≡ Some a → IsErrorFor (fault_given given a) error → code ≡ pos (number_of error) → HasFields error fields → EndsOnGiven c given code fields
 given_refused c a given error code fields some why is told = on_given c a given code fields some (ends_refused (fault_given given a) error code fields why is told)
 
--- a command that is made of numbers alone
+-- a command that is made only of numbers
 pub ends_with : (c : Held) (command : Command Global) (code : ℤ) (fields : ErrorFields) → EndsOnGiven c (Ok command) code fields → EndsOn c (Some command) code fields
 ends_with None command code fields ends = ends
 ends_with (Some a) command code fields ends = ends
@@ -140,7 +140,7 @@ pub asked_refused : (c : Held) (a : ArrayRef Global) (command : Command Global) 
 asked_refused c a command error code fields some why is told =
     subst (λ (h : Held). EndsOn h (Some command) code fields) (sym some) (ends_refused (refusal (plain a) command) error code fields why is told)
 
--- a boolean that is told
+-- a boolean that is passed
 written_is : (outcome : Result ℕ VortexError) (code : ℤ) (written : ℕ) (fields : ErrorFields) (P : ℕ → Type 0) → IfOk outcome P → IfOk outcome (λ found. (code ≡ pos 0) × (written ≡ found))
     → IfErr outcome (λ error. (code ≡ pos (number_of error)) × (code ≢ pos 0) × HasFields error fields) → code ≡ pos 0 → P written
 written_is (Ok truth) code written fields P is ok err zero = subst P (sym ok.1) is

@@ -27,7 +27,7 @@ use Rattle.c_columns.specs.Reads.{AreBytesFrom, AreNumbersFrom, AreOffsetsFrom, 
 use Rattle.c_columns.specs.declared.pairs.Pair.{Pair}
 use Rattle.c_columns.proofs.ReadRefusals.{reaches}
 
--- the first of two faults, and the second where there is no first
+-- the first of two faults, or the second without a first
 pub or_first : (f g : Option VortexError) (error : VortexError) → f ≡ Some error → option_or f g ≡ Some error
 or_first f g error is = ap (λ (x : Option VortexError). option_or x g) is
 
@@ -171,7 +171,7 @@ offsets_there c (OfNumbers form) ptype start room typed part counted some there 
 offsets_there c (OfTruths form) ptype start room typed part counted some there = let none : texts_type_fault (column_dtype (OfLeaf (OfTruths form))) ≡ None = ap texts_type_fault part.dtype ∙ typed in absurd (cc)
 offsets_there c (OfDecimals form) ptype start room typed part counted some there = let none : texts_type_fault (column_dtype (OfLeaf (OfDecimals form))) ≡ None = ap texts_type_fault part.dtype ∙ typed in absurd (cc)
 
--- there is no room for an offset
+-- an offset does not fit
 pub no_offsets : (c : Column) (ptype : PType) (start room : ℕ) → texts_type_fault (column_dtype c) ≡ None → room ≡ 0 → other_offsets_fault ptype start room c ≡ Some (BadRange start start (length (column_rows c)))
 no_offsets c ptype start room typed none =
     or_second (texts_type_fault (column_dtype c)) (offsets_room_fault ptype start room (length (column_rows c)) (size_of_rows (slice_range (column_rows c) start (start + (room - 1))))) typed

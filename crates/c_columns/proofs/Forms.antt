@@ -70,7 +70,7 @@ compared_least (OfConstant constant) d form = decoded_least (column_rows d) d fo
 compared_least (OfLists lists) d form = computed_least d form
 compared_least (OfRuns ends_type ends values offset count) d form = computed_least d form
 
--- minimal form, and runs that are no integers
+-- minimal form, and runs that are not integers
 minimal_least : (t : PType) (d : Column) → IsMinimalForm t d → IsLeastIfRuns d
 minimal_least t (OfLeaf leaf) form = tt
 minimal_least t (OfConstant constant) form = tt

@@ -1,4 +1,4 @@
--- What is written to the front of a caller's bytes stands there.
+-- What is written to the front of a caller's bytes is there.
 use Rattle.std.proofs.Common.{◌≡◌, ◌∷◌, [], ◌∙◌, ℕ, List, zero, suc, length, take, refl, sym, ap, arith}
 use Rattle.std.proofs.lemmas.List.{take_all}
 use Rattle.c_columns.specs.Front.{front_written}

@@ -116,7 +116,7 @@ left_same s session a b command answer set done by same =
       least = least_left session a b command kept typed shape formed;
     }
 
--- a slice, of which the command's kernel is asked alone
+-- a slice, for which only the command's kernel is asked
 pub left_sliced : (s : Session) (session : SessionForm) (a d : ArrayRef Global) (range : Range ℕ) → IsSessionOf s session → range_fault range.start range.end (length (rows a)) ≡ None
     → rows d ≡ slice_range (rows a) range.start range.end → dtype_of d ≡ dtype_of a → (HasKernel session kernel.Slice (column_of a) → OnRuns (column_of a) (λ runs. SliceLeaves runs range.start range.end (column_of d)))
     → (¬ HasKernel session kernel.Slice (column_of a) → IsPlainPart (column_of a) range.start range.end (column_of d)) → Leaves s (Slice range) a d
@@ -129,7 +129,7 @@ left_sliced s session a d range set accepted kept typed served otherwise = recor
   least = tt;
 }
 
--- a filter, of which the command's kernel is asked alone
+-- a filter, for which only the command's kernel is asked
 pub left_filtered : (s : Session) (session : SessionForm) (a d : ArrayRef Global) (mask : Mask Global) → IsSessionOf s session → filter_fault (length (mask_bits mask)) (length (rows a)) ≡ None
     → rows d ≡ filter_rows (mask_bits mask) (rows a) → dtype_of d ≡ dtype_of a → (HasKernel session kernel.Filter (column_of a) → OnRuns (column_of a) (λ runs. IsFilterForm session.thresholds runs mask (column_of d)))
     → (IsConstantForm (column_of a) → IsConstantForm (column_of d)) → (¬ HasKernel session kernel.Filter (column_of a) → ¬ IsConstantForm (column_of a) → IsFlat (column_of d)) → Leaves s (Filter mask) a d

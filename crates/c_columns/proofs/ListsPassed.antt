@@ -1,4 +1,4 @@
--- Why there are no lists of what C passes.
+-- Why what C passes does not make lists.
 use Rattle.std.proofs.Common.{◌≡◌, ◌⊎◌, ℕ, List, length, inl, inr, subst, ⊎_elim}
 use Rattle.std.specs.Prelude.{Some, None}
 use Rattle.std.specs.Global.{Global}

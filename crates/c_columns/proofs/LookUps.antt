@@ -28,7 +28,7 @@ inside row count below = ap (λ (b : Bool). cond b None (Some (OutOfBounds (pos 
 outside : (row count : ℕ) → count ≤ row → row_fault row count ≡ Some (OutOfBounds (pos row) count)
 outside row count above = ap (λ (b : Bool). cond b None (Some (OutOfBounds (pos row) count))) (le-ltb row count above)
 
--- the rows are no lists, and the row is there
+-- the rows are not lists, and the row is there
 pub no_fault : (before : PlainColumn) (row : ℕ) (value : Option Value) → list_fault before.dtype ≡ None → slice_get before.rows row ≡ Some value → refusal {A = Global} before (At row) ≡ None
 no_fault before row value flat found = ap (λ (f : Option VortexError). option_or f (row_fault row (length before.rows))) flat ∙ inside row (length before.rows) (slice_get_within before.rows row value found)
 
@@ -36,7 +36,7 @@ no_fault before row value flat found = ap (λ (f : Option VortexError). option_o
 pub refused_lists : (before : PlainColumn) (row room : ℕ) (error : VortexError) → list_fault before.dtype ≡ Some error → IsLookUpFault before row room error
 refused_lists before row room error lists = inl (ap (λ (f : Option VortexError). option_or f (row_fault row (length before.rows))) lists)
 
--- there is no such row
+-- the column does not have the row
 pub outside_fault : (before : PlainColumn) (row room : ℕ) → list_fault before.dtype ≡ None → length before.rows ≤ row → IsLookUpFault before row room (OutOfBounds (pos row) (length before.rows))
 outside_fault before row room flat above = inl (ap (λ (f : Option VortexError). option_or f (row_fault row (length before.rows))) flat ∙ outside row (length before.rows) above)
 

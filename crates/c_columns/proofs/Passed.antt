@@ -118,7 +118,7 @@ refused_scalar dtype wanted (suc k) value text owned (Err error) some is types a
     let same : error ≡ TypeMismatch = cc in
     inr (same, λ passed. wrong ((types wanted).1 (subst (λ (t : DType). IsPassedIn t (suc k) value text) (sym is) passed)))
 
--- null is refused in a type without null alone
+-- null is refused only in a type without null
 by_nullability : (dtype : DType) (value : RowValue) (text : List ℕ) (error : VortexError) (n : Nullability) → nullability_of dtype ≡ n → (IsOk {T = ScalarForm} (Err error) ↔ IsScalarOf {A = Global} dtype None)
     → (IsErrOf {T = ScalarForm} (Err error) NullNotAllowed ↔ (IsNone {T = ScalarValue Global} None × (nullability_of dtype ≡ NonNullable))) → IsNoValueOf dtype 0 value text error
 by_nullability dtype value text error NonNullable is accepts null = let told = null.1 (refl, is) in let same : error ≡ NullNotAllowed = cc in (same, is)

@@ -17,7 +17,7 @@ use Rattle.c_columns.specs.Kinds.{ptype_by, ptype_number}
 use Rattle.c_columns.specs.ReadFaults.{IsRefusedOnlyBy, is_same_type, offset_fault, past_fault, positive_bits, room_fault, stored_bytes_fault, stored_numbers_fault, stored_offsets_fault}
 use Rattle.c_columns.specs.Reads.{size_between}
 
--- the number of a native type tells it
+-- the number of a native type names it
 by_number : (ptype : PType) → ptype_by (ptype_number ptype) ≡ Some ptype
 by_number U8 = refl
 by_number U16 = refl

@@ -1,4 +1,4 @@
--- A run that is told, from what is told of its value.
+-- A run that is passed to C, from what is passed of its value.
 use Rattle.std.proofs.Common.{◌≡◌, ◌∙◌, ◌-◌, ◌<◌, ℕ, List, length, map, min, get_or, sym, ap, subst, arith}
 use Rattle.std.specs.Prelude.{Some, slice_get, slice_index_or}
 use Rattle.std.specs.Global.{Global}
@@ -27,11 +27,11 @@ run_told r values run start stop text value same told starts stops = record {
   told = subst (λ (c : Column). IsTold (column_dtype c) told.shown value text) same told.told;
 }
 
--- why it is not told
+-- why it is not passed
 pub run_refused : (c : Column) (values : ArrayRef Global) (run room : ℕ) (error : VortexError) → column_of values ≡ c → IsLookUpFault (plain values) run room error → IsLookUpFault (plain_of c) run room error
 run_refused c values run room error same fault = subst (λ (d : Column). IsLookUpFault (plain_of d) run room error) same fault
 
--- a run whose value is told is there
+-- a run whose value is passed is there
 pub run_there : (r : Runs) (values : ArrayRef Global) (run : ℕ) (text : List ℕ) (value : RowValue) → column_of values ≡ r.values → AreRuns r → IsShownAt run values text value → run < length r.ends
 run_there r values run text value same runs told =
     let within : run < length (column_rows (column_of values)) = slice_get_within (column_rows (column_of values)) run told.shown told.there in

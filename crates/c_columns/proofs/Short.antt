@@ -27,7 +27,7 @@ pub passed_short : {T : Type 0} (error : VortexError) (result : Result T VortexE
 passed_short error (Ok value) passed short = absurd passed
 passed_short error (Err other) passed short = let same : other ≡ OutOfMemory = cc in sym passed ∙ same
 
--- no other error has the number of want of memory: a test of numbers tells each apart
+-- no other error has the number of `OutOfMemory`: a test of numbers distinguishes each
 only_short : (error : VortexError) → nat_eq (number_of error) 21 ≡ true → error ≡ OutOfMemory
 only_short EndsNotUnsigned is = absurd (false≢true is)
 only_short (LengthsDiffer a b) is = absurd (false≢true is)
@@ -57,7 +57,7 @@ refused_short error code number short = only_short error (ap (λ (z : ℤ). nat_
 pub done_not_short : (code : ℤ) → code ≡ pos 0 → code ≢ pos (number_of OutOfMemory)
 done_not_short code zero = λ short. absurd (false≢true (ap (λ (z : ℤ). nat_eq (nat_abs z) 21) (sym zero ∙ short)))
 
--- so a call that was not short of memory does not answer it
+-- so a call that did not run out of memory does not answer it
 not_short : {T : Type 0} (outcome : Result T VortexError) (code : ℤ) (written : T) (fields : ErrorFields) → outcome ≢ Err OutOfMemory
     → IfOk outcome (λ found. (code ≡ pos 0) × (written ≡ found)) → IfErr outcome (λ error. (code ≡ pos (number_of error)) × (code ≢ pos 0) × HasFields error fields) → code ≢ pos (number_of OutOfMemory)
 not_short (Ok found) code written fields long ok err = done_not_short code ok.0

@@ -50,7 +50,7 @@ next_offset number f items start row item order within so_far is k below =
     (λ (other : k ≢ row - start + 1). set ∙ get_or-set_other (map number items) (row - start + 1) k (number item) (pos 0) other ∙ so_far k (omega (arith, order, below, other)))
     (cases_eq k (row - start + 1))
 
--- before the first row there are no bytes
+-- before the first row there are 0 bytes
 pub none_yet : (rows : List (Option Value)) (start : ℕ) → bytes_of_rows (slice_range rows start start) ≡ []
 none_yet rows start = let none : start - start ≡ 0 = omega arith in ap (λ (n : ℕ). bytes_of_rows (take n (drop start rows))) none
 
@@ -74,7 +74,7 @@ offset_none rows start = let same : start + 0 ≡ start = omega arith in sym (ap
 pub offset_more : (rows : List (Option Value)) (start row : ℕ) (size : ℕ) → start ≤ row → size ≡ length (bytes_of_rows (slice_range rows start (row + 1))) → pos size ≡ offset_after rows start (row - start + 1)
 offset_more rows start row size order is = let at : row + 1 ≡ start + (row - start + 1) = omega (arith, order) in ap pos (is ∙ ap (λ (n : ℕ). length (bytes_of_rows (slice_range rows start n))) at)
 
--- bytes that are written behind others
+-- bytes that are written after others
 pub written_behind : (at : ℕ) (bytes front more rest : List ℕ) → front ≡ take at bytes → length front ≡ at → take (at + length more) (front ++ (more ++ rest)) ≡ take at bytes ++ more
 written_behind at bytes front more rest is long =
     ap (λ (n : ℕ). take (n + length more) (front ++ (more ++ rest))) (sym long)

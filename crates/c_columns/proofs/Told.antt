@@ -1,4 +1,4 @@
--- What C is told of a row, from what its view shows.
+-- What is passed to C of a row, from what its view shows.
 use Rattle.std.proofs.Common.{◌≡◌, ◌∙◌, ◌⊎◌, inl, inr, sym, ap, subst, pos, ℤ, ℕ, Bor, List, length, take, arith}
 use Rattle.std.specs.Prelude.{All, Bool, true, false, Option, Some, None, Result, Ok, Err, IfErr, IfOk, slice_get}
 use Rattle.std.proofs.lemmas.Bool.{false≢true}
@@ -90,7 +90,7 @@ module _ (before : PlainColumn) (text : List ℕ) (value : RowValue) (scalar : S
   pub extreme_told : (greatest : Bool) → IsExtreme (side_in greatest) before scalar → sees seen ≡ shown scalar → IsViewOf scalar.dtype seen → TellsView value text seen → IsExtremeOf greatest before text value
   extreme_told greatest extreme same of tells = record { row = shown scalar; furthest = furthest_row greatest before.rows (shown scalar) extreme.furthest; told = told_as extreme.dtype same of tells }
 
--- what was told, if there was room
+-- what was passed, if there was room
 pub extreme_of : (greatest : Bool) (before : PlainColumn) (text : List ℕ) (outcome : Result RowValue VortexError) (scalar : ScalarForm) (seen : ScalarView Global) → IsExtreme (side_in greatest) before scalar → sees seen ≡ shown scalar → IsViewOf scalar.dtype seen
     → IfOk outcome (λ value. TellsView value text seen) → IfOk outcome (λ value. IsExtremeOf greatest before text value)
 extreme_of greatest before text (Ok value) scalar seen extreme same of tells = extreme_told before text value scalar seen greatest extreme same of tells
@@ -107,7 +107,7 @@ extreme_short greatest before room (Err error) scalar seen accepted extreme same
 pub none_told : (greatest : Bool) (before : PlainColumn) (text : List ℕ) (value : RowValue) → All (λ row. row ≡ None) before.rows → value.kind ≡ 0 → IsExtremeOf greatest before text value
 none_told greatest before text value nulls kind = record { row = None; furthest = nulls; told = kind }
 
--- both at once, each told of its scalar
+-- both at once, each passed from its scalar
 pub least_of_both : (before : PlainColumn) (text : List ℕ) (outcome : Result Extremes VortexError) (scalar other : ScalarForm) → AreExtremes before scalar other → IfOk outcome (λ ends. IsScalarTold scalar ends.least text) → IfOk outcome (λ ends. IsExtremeOf false before text ends.least)
 least_of_both before text (Ok both) scalar other ends told =
     record { row = shown scalar; furthest = least_row before.rows (shown scalar) ends.least; told = subst (λ (t : DType). IsTold t (shown scalar) both.least text) ends.first_dtype told }

@@ -51,7 +51,7 @@ start_is : (r : Runs) (run : ℕ) → run < length r.ends → start_of r run ≡
 start_is r zero within = refl
 start_is r (suc run) within = stop_is r run (omega (arith, within))
 
--- before the first visible run there is no row
+-- before the first visible run there are 0 rows
 none_reached : (ends : List ℕ) (offset count run : ℕ) → ((k : ℕ) → k < run → slice_index ends k ≤ offset) → 0 ≡ reached ends offset count run
 none_reached ends offset count zero ended = refl
 none_reached ends offset count (suc run) ended = let e = ended run (omega arith) in omega arith

@@ -32,7 +32,7 @@ builder_row = builder.the_row heap.the_row ghosts
 abbrev pub builder_code : Coded (Option Built)
 builder_code = coded_option builder_row.coded
 
--- the block at a pointer, and the builder in it; where there is no builder nothing, and the pointer is null
+-- the block at a pointer, and the builder in it; without a builder nothing, and the pointer is null
 abbrev pub holds_builder : Global → Ptr → Option Built → Fml
 holds_builder alloc at None = feq Ptr at null_ptr
 holds_builder alloc at (Some built) = box_owns (ghosts.dealloc_token alloc) builder_row at built
@@ -43,7 +43,8 @@ pub record IsEncodingOf (rows : List (Option Value)) (dtype : DType) (c : ArrayR
   pub encoded : IsEncodedRows rows dtype runs
   pub is : column_of c ≡ column_of_runs runs
 
--- of the rows of a column, and of a builder
+-- the second column is the run column that encodes the rows of the first; and a column is the one that encodes the rows
+-- of a builder
 abbrev pub AreEncoded : ArrayRef Global → ArrayRef Global → Type 0
 AreEncoded c d = IsEncodingOf (rows c) (dtype_of c) d
 
@@ -54,7 +55,7 @@ AreBuilt built d = IsEncodingOf built.rows built.dtype d
 abbrev pub encoding_fault : Column → Option VortexError
 encoding_fault c = list_fault (column_dtype c)
 
--- the builder with these rows behind its own
+-- the builder with these rows after its own
 abbrev pub with_rows : Built → List (Option Value) → Built
 with_rows built more = built_with built.dtype (built.rows ++ more)
 
@@ -66,11 +67,11 @@ IsEmptied built after = after ≡ built_with built.dtype []
 abbrev pub passed_row : RowValue → List ℕ → Option Value
 passed_row value text = option_map Single (value_in value.kind value text)
 
--- why the rows of a column are not put behind those of a builder
+-- why the rows of a column are not appended to those of a builder
 abbrev pub column_append_fault : Built → ArrayRef Global → Option VortexError
 column_append_fault built c = append_fault built.dtype (dtype_of c) (length built.rows) (length (rows c))
 
--- why so many rows of a value that is passed are not: it is none of the type; or it is one, and there were too many rows
+-- why `count` rows of a value that is passed are not: it is not of the type; or it is, and there were too many rows
 abbrev pub PassedAppendFault : Built → RowValue → List ℕ → ℕ → VortexError → Type 0
 PassedAppendFault built value text count error =
     ConstantFault built.dtype value text error
@@ -81,12 +82,12 @@ abbrev pub EndsOnBuilder : (Built → VortexError → Type 0) → Option Built �
 EndsOnBuilder Fault None code fields = code ≡ pos 22
 EndsOnBuilder Fault (Some built) code fields = EndsUnless (Fault built) code fields
 
--- of one that has no fault
+-- how a call on a builder ends that has no fault: with 22 where the handle is empty
 abbrev pub EndsOnBuilt : Option Built → ℤ → ErrorFields → Type 0
 EndsOnBuilt None code fields = code ≡ pos 22
 EndsOnBuilt (Some built) code fields = EndsBy None code fields
 
--- of one on a builder and a column: with 22 where one of the two handles is empty
+-- how a call on a builder and a column ends: with 22 where one of the two handles is empty
 abbrev pub EndsOnAppend : Option Built → Option (ArrayRef Global) → ℤ → ErrorFields → Type 0
 EndsOnAppend None c code fields = code ≡ pos 22
 EndsOnAppend (Some built) None code fields = code ≡ pos 22

@@ -46,7 +46,7 @@ HasFields error f = AreFields f 0 0 0
 abbrev pub IsRefusedAs : VortexError → ℤ → ErrorFields → Type 0
 IsRefusedAs error code fields = (code ≡ pos (number_of error)) × HasFields error fields
 
--- the call ends by this fault, or for memory; where there is no fault, with 0 or for memory
+-- the call ends by this fault, or for memory; without a fault, with 0 or for memory
 abbrev pub EndsBy : Option VortexError → ℤ → ErrorFields → Type 0
 EndsBy None code fields = (code ≡ pos 0) ⊎ IsRefusedAs OutOfMemory code fields
 EndsBy (Some error) code fields = IsRefusedAs OutOfMemory code fields ⊎ IsRefusedAs error code fields
@@ -74,7 +74,7 @@ abbrev pub EndsOn : Option (ArrayRef Global) → Option (Command Global) → ℤ
 EndsOn None command code fields = code ≡ pos 22
 EndsOn (Some c) command code fields = EndsBy (fault_of command c) code fields
 
--- of two handles each has a column, and these relate so
+-- each of two handles has a column, and these relate so
 abbrev pub WhereBoth : {X Y : Type 0} → (X → Y → Type 0) → Option X → Option Y → Type 0
 WhereBoth P (Some x) (Some y) = P x y
 WhereBoth P x y = ⊥

@@ -25,7 +25,7 @@ keeps_meaning command = true
 abbrev pub format_after : Command Global → List ℕ → List ℕ
 format_after command format = cond (keeps_meaning command) format []
 
--- of what a command leaves that was built
+-- the format of what a command leaves, if the command could be built
 abbrev pub format_given : Result (Command Global) VortexError → List ℕ → List ℕ
 format_given (Ok command) format = format_after command format
 format_given (Err error) format = []

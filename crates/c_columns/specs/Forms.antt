@@ -20,7 +20,7 @@ pub record LeavesFormIn (s : Session) (command : Command Global) (c d : ArrayRef
   pub set : IsSessionOf s session
   pub left : LeavesKept session c command Done d
 
--- runs from position 0 on that are a tight exact cover of their rows, so as few as can be
+-- runs from position 0 on that are a tight exact cover of their rows, so the least number of runs
 pub record AreLeastRuns (part : Runs) : Type 0 where
   pub cover : IsTightCover (column_rows (column_of_runs part)) part.ends (column_rows part.values)
   pub offset : part.offset ≡ 0

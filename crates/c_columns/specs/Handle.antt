@@ -21,7 +21,7 @@ column_row = typed.the_row heap.the_row ghosts
 abbrev pub column_code : Coded (Option (TypedColumn Global))
 column_code = coded_option column_row.coded
 
--- the block at a pointer, and the column in it; where there is no column nothing, and the pointer is null
+-- the block at a pointer, and the column in it; without a column nothing, and the pointer is null
 abbrev pub holds : Global → Ptr → Option (TypedColumn Global) → Fml
 holds alloc at None = feq Ptr at null_ptr
 holds alloc at (Some column) = box_owns (ghosts.dealloc_token alloc) column_row at column

@@ -1,4 +1,4 @@
--- Questions that are never short of memory, since they read the rows of a column where they are.
+-- Questions that never run out of memory, since they read the rows of a column where they are.
 use Rattle.std.specs.Prelude.{◌≢◌, ℤ, pos, Option, Some, None}
 use Rattle.std.specs.Global.{Global}
 use Rattle.column_base.specs.declared.error.VortexError.TheVariants.{OutOfMemory}
@@ -11,8 +11,8 @@ use Rattle.runend_commands.specs.Extremes.{HasBytes}
 use Rattle.c_columns.specs.Sessions.{IsReadInPlaceIn}
 use Rattle.c_columns.specs.declared.sessions.Session.{Session}
 
--- where the kernel reads the rows of the handle's column where they are, the call does not end with the number of want
--- of memory
+-- where the kernel reads the rows of the handle's column where they are, the call does not end with the number of
+-- `OutOfMemory`
 abbrev pub IsNeverShortOn : Session → Kernel → Option (ArrayRef Global) → ℤ → Type 0
 IsNeverShortOn s kernel None code = Unit {0}
 IsNeverShortOn s kernel (Some c) code = IsReadInPlaceIn s kernel (column_of c) → code ≢ pos (number_of OutOfMemory)

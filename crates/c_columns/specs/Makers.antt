@@ -46,7 +46,7 @@ pub record AreCuts (offsets : List ℤ) (views : List View) : Type 0 where
   pub starts : (k : ℕ) → k < length views → pos ((slice_index_or views k zero_view).start) ≡ slice_index_or offsets k (pos 0)
   pub stops : (k : ℕ) → k < length views → pos ((slice_index_or views k zero_view).start + (slice_index_or views k zero_view).size) ≡ slice_index_or offsets (k + 1) (pos 0)
 
--- the flat column of texts or bytes that lie one behind the other
+-- the flat column of texts or bytes that lie one after the other
 pub record AreTextsOf (kind : VarBinKind) (offsets : List ℤ) (bytes : List ℕ) (validity : ValidityForm) (c : ArrayRef Global) : Type 0 where
   pub views : List View
   pub cuts : AreCuts offsets views
@@ -71,20 +71,20 @@ pub record IsFirstUncut (offsets : List ℤ) (row : ℕ) : Type 0 where
   pub uncut : ¬ IsRowCut offsets row
   pub before : (k : ℕ) → k < row → IsRowCut offsets k
 
--- why offsets cut no rows: there is no offset, or a row is none
+-- why offsets cut no rows: no offset is given, or an offset is negative or below the one before
 abbrev pub CutsFault : List ℤ → VortexError → Type 0
 CutsFault offsets (NoRunsWindow offset count) = (length offsets ≡ 0) × (offset ≡ 0) × (count ≡ 0)
 CutsFault offsets (EndsNotStrict row) = IsFirstUncut offsets row
 CutsFault offsets error = ⊥
 
--- why rows that are cut are no flat column: there are fewer bits than rows, or else the first fault of such parts
+-- why rows that are cut are not a flat column: there are fewer bits than rows, or else the first fault of such parts
 pub record IsCutFault (kind : VarBinKind) (offsets : List ℤ) (bytes : List ℕ) (nulls : ℕ) (bits : List ℕ) (first : ℕ) (error : VortexError) : Type 0 where
   pub views : List View
   pub cuts : AreCuts offsets views
   pub is : (validity_fault nulls bits first (length views) ≡ Some error)
       ⊎ ((validity_fault nulls bits first (length views) ≡ None) × VarBinFault (varbin_with kind views (bytes ∷ []) (validity_by nulls bits first (length views))) error)
 
--- the first fault of texts or bytes that lie one behind the other
+-- the first fault of texts or bytes that lie one after the other
 abbrev pub TextsFault : VarBinKind → List ℤ → List ℕ → ℕ → List ℕ → ℕ → VortexError → Type 0
 TextsFault kind offsets bytes nulls bits first error = CutsFault offsets error ⊎ IsCutFault kind offsets bytes nulls bits first error
 
@@ -105,11 +105,11 @@ pub record AreRecordedRuns (bytes : List ℕ) (dtype : DType) (count : ℕ) (end
   pub recorded : IsRecordedColumn bytes dtype count (column_of ends) (column_of values) runs
   pub is : column_of c ≡ column_of_runs runs
 
--- one value of a type, in each of so many rows
+-- one value of a type, in each of `count` rows
 abbrev pub IsConstantOf : DType → RowValue → List ℕ → ℕ → ArrayRef Global → Type 0
 IsConstantOf dtype value text count c = column_of c ≡ OfConstant (record { dtype = dtype; value = value_in value.kind value text; count = count })
 
--- why there is no such column: null in a type without null, or a value that is none of the type
+-- why there is not such a column: null in a type without null, or a value that is not of the type
 abbrev pub IsNoValueOf : DType → ℕ → RowValue → List ℕ → VortexError → Type 0
 IsNoValueOf dtype zero value text error = (error ≡ NullNotAllowed) × (nullability_of dtype ≡ NonNullable)
 IsNoValueOf dtype (suc k) value text error = (error ≡ TypeMismatch) × (¬ IsPassedIn dtype (suc k) value text)

@@ -24,15 +24,15 @@ use Rattle.c_columns.specs.declared.error_fields.ErrorFields.{ErrorFields}
 abbrev pub as_field : ℕ → ℕ
 as_field number = min number (2 ^ 64 - 1)
 
--- of so many rows there are not `count` from row `start` on
+-- a column does not have `count` rows from row `start` on
 abbrev pub past_fault : ℕ → ℕ → ℕ → Option VortexError
 past_fault start count rows = cond (nat_lt rows (start + count)) (Some (BadRange start (as_field (start + count)) rows)) None
 
--- the room is not for just so many
+-- the room is not exactly what is needed
 abbrev pub room_fault : ℕ → ℕ → Option VortexError
 room_fault needed room = cond (nat_eq needed room) None (Some (ColumnLength (as_field needed) room))
 
--- the words are not as many as so many bits need
+-- the number of words is not the one that the bits need
 abbrev pub words_fault : ℕ → ℕ → Option VortexError
 words_fault count room = room_fault ((count + 63) / 64) room
 
@@ -61,7 +61,7 @@ texts_type_fault (column.Utf8 n) = None
 texts_type_fault (column.Binary n) = None
 texts_type_fault t = Some Unsupported
 
--- of a column that is not flat: a type that is not read so, and then rows past the end
+-- the fault of rows of a column that is not flat: a type that is not read so, and then rows past the end
 abbrev pub part_fault : Option VortexError → ℕ → ℕ → Column → Option VortexError
 part_fault type_fault start count c = option_or type_fault (past_fault start count (length (column_rows c)))
 
@@ -83,7 +83,7 @@ abbrev pub decimals_fault : ℕ → ℕ → Column → Option VortexError
 decimals_fault start count (OfLeaf leaf) = stored_decimals_fault start count leaf
 decimals_fault start count c = part_fault (decimals_type_fault (column_dtype c)) start count c
 
--- the booleans, with room for so many words
+-- the booleans, with room for a number of words
 abbrev pub stored_truths_fault : ℕ → Leaf → Option VortexError
 stored_truths_fault room (OfTruths form) = words_fault (length form.bits) room
 stored_truths_fault room leaf = Some Unsupported
@@ -96,7 +96,7 @@ truths_fault room c = Some Unsupported
 abbrev pub truths_from_fault : ℕ → ℕ → ℕ → Column → Option VortexError
 truths_from_fault start count room c = option_or (part_fault (truths_type_fault (column_dtype c)) start count c) (words_fault count room)
 
--- which rows are valid, with room for so many words
+-- which rows are valid, with room for a number of words
 abbrev pub flags_fault : ℕ → Column → Option VortexError
 flags_fault room (OfLeaf leaf) = words_fault (leaf_count leaf) room
 flags_fault room c = Some Unsupported
@@ -120,8 +120,7 @@ positive_bits I64 = 63
 abbrev pub offset_fault : PType → ℕ → Option VortexError
 offset_fault ptype offset = cond (nat_lt offset (2 ^ positive_bits ptype)) None (Some CastOutOfRange)
 
--- offsets of so many rows, from row `start` on, with room for so many, which is one more than rows: the last is the
--- largest
+-- offsets of rows from row `start` on, with room for one more than there are rows: the last is the largest
 abbrev pub offsets_room_fault : PType → ℕ → ℕ → ℕ → ℕ → Option VortexError
 offsets_room_fault ptype start room count size = cond (nat_eq room 0) (Some (BadRange start start count)) (option_or (past_fault start (room - 1) count) (offset_fault ptype size))
 
@@ -137,7 +136,7 @@ abbrev pub offsets_fault : PType → ℕ → ℕ → Column → Option VortexErr
 offsets_fault ptype start room (OfLeaf leaf) = stored_offsets_fault ptype start room leaf
 offsets_fault ptype start room c = other_offsets_fault ptype start room c
 
--- the bytes of `count` rows from row `start` on, with room for so many
+-- the bytes of `count` rows from row `start` on, with room for a number of bytes
 abbrev pub stored_bytes_fault : ℕ → ℕ → ℕ → Leaf → Option VortexError
 stored_bytes_fault start count room (OfVarBins form) = option_or (past_fault start count (length form.views)) (room_fault (size_between form start (start + count)) room)
 stored_bytes_fault start count room leaf = Some Unsupported
@@ -174,12 +173,12 @@ abbrev pub EndsOnRead : (Column → Option VortexError) → Option (ArrayRef Glo
 EndsOnRead fault None code fields = code ≡ pos 22
 EndsOnRead fault (Some c) code fields = EndsOnlyBy (fault (column_of c)) code fields
 
--- the same of a read that takes none where the column is flat
+-- how a read ends that takes no memory where the column is flat: with 22 where the handle is empty
 abbrev pub EndsOnRows : (Column → Option VortexError) → Option (ArrayRef Global) → ℤ → ErrorFields → Type 0
 EndsOnRows fault None code fields = code ≡ pos 22
 EndsOnRows fault (Some c) code fields = EndsIn (column_of c) (fault (column_of c)) code fields
 
--- the same of a read that may take some whatever the form
+-- how a read ends that may take memory whatever the form: with 22 where the handle is empty
 abbrev pub EndsOnWindow : (Column → Option VortexError) → Option (ArrayRef Global) → ℤ → ErrorFields → Type 0
 EndsOnWindow fault None code fields = code ≡ pos 22
 EndsOnWindow fault (Some c) code fields = EndsBy (fault (column_of c)) code fields

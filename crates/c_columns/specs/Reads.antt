@@ -11,7 +11,7 @@ use Rattle.runend_array.specs.Column.{Column, OfLeaf, OfConstant, OfLists, OfRun
 use Rattle.c_columns.specs.Pairs.{number_in, zero_pair}
 use Rattle.c_columns.specs.declared.pairs.Pair.{Pair}
 
--- so many rows from a row on are there, and flat they are stored in a way of which this is read
+-- `count` rows from row `start` on are there, and this is read of a flat column of them
 pub record AreReadFlat (c : Column) (start count : ℕ) (Read : Leaf → Type 0) : Type 0 where
   pub leaf : Leaf
   pub there : start + count ≤ length (column_rows c)
@@ -47,7 +47,7 @@ abbrev pub AreTruthWords : Column → List ℕ → Type 0
 AreTruthWords (OfLeaf leaf) words = AreLeafTruths leaf words
 AreTruthWords c words = ⊥
 
--- those of so many rows from a row on
+-- those of a number of rows from a row on
 abbrev pub AreTruthWordsFrom : Column → ℕ → ℕ → List ℕ → Type 0
 AreTruthWordsFrom c start count words = AreReadFlat c start count (λ leaf. AreLeafTruths leaf words)
 
@@ -94,7 +94,7 @@ abbrev pub AreOffsetsFrom : Column → ℕ → List ℤ → Type 0
 AreOffsetsFrom (OfLeaf leaf) start offsets = AreStoredOffsets leaf start offsets
 AreOffsetsFrom c start offsets = AreReadFlat c start (length offsets - 1) (λ leaf. AreStoredOffsets leaf 0 offsets)
 
--- the bytes of so many rows from a row on, each of which is there
+-- the bytes of a number of rows from a row on, each of which is there
 abbrev pub AreStoredBytes : Leaf → ℕ → ℕ → List ℕ → Type 0
 AreStoredBytes (OfVarBins form) start count bytes = (start + count ≤ length form.views) × (bytes ≡ bytes_of_rows (slice_range (text_rows form) start (start + count)))
 AreStoredBytes leaf start count bytes = ⊥

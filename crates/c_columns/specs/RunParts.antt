@@ -57,14 +57,14 @@ abbrev pub IsRecordOf : Column → List ℕ → Type 0
 IsRecordOf (OfRuns ends_type ends values offset count) bytes = IsRecordIn (runs_with ends_type ends values offset count) bytes
 IsRecordOf c bytes = ⊥
 
--- the record of the run column stands at the front of the buffer, and has so many bytes
+-- the record of the run column is at the front of the buffer, and has `size` bytes
 pub record IsRecordAtFront (column : Column) (size : ℕ) (bytes : List ℕ) : Type 0 where
   pub record_bytes : List ℕ
   pub is : IsRecordOf column record_bytes
   pub size_is : size ≡ length record_bytes
   pub front : take (length record_bytes) bytes ≡ record_bytes
 
--- the record has no room, told with its number of bytes and the room
+-- the record does not fit: the error has its number of bytes and the room
 pub record HasNoRecordRoom (runs : Runs) (room : ℕ) (error : VortexError) : Type 0 where
   pub record_bytes : List ℕ
   pub is : IsRecordIn runs record_bytes

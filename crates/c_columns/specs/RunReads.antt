@@ -53,7 +53,7 @@ pub record IsExecution (r : Runs) (run start stop : ℕ) (text : List ℕ) (valu
 abbrev pub IsRunTold : ℕ → ℕ → ℕ → List ℕ → RowValue → Column → Type 0
 IsRunTold run start stop text value c = OfItsRuns (λ r. IsExecution r run start stop text value) c
 
--- why a run is not told: the column has no runs, or its value is not told
+-- why a run is not read: the column has no runs, or its value is not read
 abbrev pub RunFault : ℕ → ℕ → Column → VortexError → Type 0
 RunFault run room (OfRuns ends_type ends values offset count) error = IsLookUpFault (plain_of values) run room error
 RunFault run room c error = error ≡ Unsupported

@@ -20,7 +20,7 @@ pub record IsAnswerTold (answer : SumAnswer) (total : Total) : Type 0 where
   pub sum : IsSumTold answer.sum total
   pub empty : total.empty ≡ byte_of answer.is_empty
 
--- it tells the sum of the rows of a column of this type
+-- it is the sum of the rows of a column of this type
 pub record IsTotalOf (dtype : DType) (rows : List (Option Value)) (total : Total) : Type 0 where
   pub answer : SumAnswer
   pub sums : IsSumAnswer dtype rows answer

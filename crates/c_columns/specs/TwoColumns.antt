@@ -92,7 +92,7 @@ pub record HasPlain (wanted : PlainColumn) (Form : ArrayRef Global → Type 0) (
   pub form : Form d
   pub least : IsLeastIfRuns (column_of d)
 
--- the same of what is made of two columns
+-- what is made of two columns has these rows, of this type, and lies in this form
 abbrev pub LeavesPlain : (ArrayRef Global → ArrayRef Global → PlainColumn) → (ArrayRef Global → ArrayRef Global → ArrayRef Global → Type 0) → ArrayRef Global → ArrayRef Global → ArrayRef Global → Type 0
 LeavesPlain wanted Form c other d = HasPlain (wanted c other) (Form c other) d
 

@@ -21,7 +21,7 @@ use Rattle.runend_array.specs.declared.array_ref.ArrayRef.{ArrayRef}
 use Rattle.c_columns.specs.Flags.{byte_of, flag_of}
 use Rattle.c_columns.specs.declared.row_value.RowValue.{RowValue}
 
--- the decimal of two halves
+-- the decimal of the high and the low 64 bits
 abbrev pub halves : RowValue → ℤ
 halves value = (value.as_signed *ℤ pos (2 ^ 64)) +ℤ pos value.as_unsigned
 
@@ -35,7 +35,7 @@ value_in (suc (suc (suc (suc zero)))) value text = Some (DecimalNumber (halves v
 value_in (suc (suc (suc (suc (suc zero))))) value text = Some (Text text)
 value_in (suc (suc (suc (suc (suc (suc k)))))) value text = Some (Bytes text)
 
--- the scalar of a column's type that is passed: nullable for null alone
+-- the scalar of a column's type that is passed: nullable only for null
 abbrev pub scalar_in : DType → ℕ → RowValue → List ℕ → ScalarForm
 scalar_in dtype zero value text = record { dtype = with_nullability dtype Nullable; value = None }
 scalar_in dtype (suc k) value text = record { dtype = with_nullability dtype NonNullable; value = value_in (suc k) value text }
@@ -55,12 +55,12 @@ abbrev pub IsPassed : DType → ℕ → RowValue → List ℕ → Type 0
 IsPassed t zero value text = Unit {0}
 IsPassed t (suc k) value text = IsPassedIn (with_nullability t NonNullable) (suc k) value text
 
--- the bytes stand at the front of the buffer, and the value says how many they are
+-- the bytes are at the front of the buffer, and the value says how many they are
 pub record AreAtFront (bytes : List ℕ) (value : RowValue) (text : List ℕ) : Type 0 where
   pub size : value.as_unsigned ≡ length bytes
   pub front : take (length bytes) text ≡ bytes
 
--- a number of an unsigned type is told as unsigned, one of a signed type as signed
+-- a number of an unsigned type is passed as unsigned, one of a signed type as signed
 pub record IsToldAs (ptype : PType) (number : ℤ) (value : RowValue) : Type 0 where
   pub unsigned : IsUnsigned ptype → (value.kind ≡ 1) × (pos value.as_unsigned ≡ number)
   pub signed : ¬ IsUnsigned ptype → (value.kind ≡ 2) × (value.as_signed ≡ number)
@@ -69,7 +69,8 @@ abbrev pub IsNumberTold : DType → ℤ → RowValue → Type 0
 IsNumberTold (column.Primitive ptype n) number value = IsToldAs ptype number value
 IsNumberTold t number value = ⊥
 
--- C is told this row of a column of the type; the bytes of a text stand at the front of the caller's buffer, and a list is never told
+-- the value passes this row of a column of the type to C; the bytes of a text are at the front of the caller's buffer,
+-- and a list is never passed
 abbrev pub IsTold : DType → Option Value → RowValue → List ℕ → Type 0
 IsTold t None value text = value.kind ≡ 0
 IsTold t (Some (Single (Number number))) value text = IsNumberTold t number value
@@ -79,21 +80,21 @@ IsTold t (Some (Single (Text bytes))) value text = (value.kind ≡ 5) × AreAtFr
 IsTold t (Some (Single (Bytes bytes))) value text = (value.kind ≡ 6) × AreAtFront bytes value text
 IsTold t (Some (Items items)) value text = ⊥
 
--- it tells what the view shows, in each type that the view is of
+-- it passes what the view shows, in each type that the view is of
 abbrev pub TellsView : RowValue → List ℕ → ScalarView Global → Type 0
 TellsView value text view = (t : DType) → IsViewOf t view → IsTold t (sees view) value text
 
--- it tells the row of this number
+-- it passes the row of this number
 pub record IsShownAt (row : ℕ) (c : ArrayRef Global) (text : List ℕ) (value : RowValue) : Type 0 where
   pub shown : Option Value
   pub there : slice_get (rows c) row ≡ Some shown
   pub told : IsTold (dtype_of c) shown value text
 
--- it tells what the scalar shows, in the scalar's type
+-- it passes what the scalar shows, in the scalar's type
 abbrev pub IsScalarTold : ScalarForm → RowValue → List ℕ → Type 0
 IsScalarTold scalar value text = IsTold scalar.dtype (option_map Single scalar.value) value text
 
--- a text or bytes that have no room, told with their number and the room; a list is never told
+-- a text or bytes that do not fit: the error has their number and the room; a list is never passed
 abbrev pub IsRoomFault : Option Value → ℕ → VortexError → Type 0
 IsRoomFault (Some (Single (Text bytes))) room error = (error ≡ ColumnLength (length bytes) room) × (room < length bytes)
 IsRoomFault (Some (Single (Bytes bytes))) room error = (error ≡ ColumnLength (length bytes) room) × (room < length bytes)
@@ -118,7 +119,7 @@ abbrev pub side_in : Bool → Ordering
 side_in true = Greater
 side_in false = Less
 
--- it tells that row
+-- it passes that row
 pub record IsExtremeOf (greatest : Bool) (before : PlainColumn) (text : List ℕ) (value : RowValue) : Type 0 where
   pub row : Option Value
   pub furthest : IsFurthestRow greatest before.rows row

@@ -8,8 +8,8 @@ ghost use Rattle.c_columns.specs.Bits.{HasBits, bit_in, bits_fault, bits_in, val
 use column_core::{BitBuffer, BitBufferMut, Validity, VortexError, VortexResult};
 use std::alloc::Global;
 
-/// Returns the validity of so many rows, by `nulls`: 0, the type has no null; 1, it has null and no row is null; any
-/// other, by the bits from `first` on. Refused as `bits_of`.
+/// Returns the validity of `count` rows, by `nulls`: 0 says that the type has no null; 1 that it has null and no row is
+/// null; any other number that the bits from `first` on are the validity. Refused as `bits_of` is.
 pub fn validity_of(
     alloc: Global,
     nulls: u8,
@@ -28,8 +28,8 @@ pub fn validity_of(
     }
 }
 
-/// So many bits from `first` on. Refused as `ColumnLength`, with the wanted number and how many bytes there
-/// are, where there are fewer, or where they are numbered past 2^64 - 1.
+/// Returns `count` bits of the bytes, from bit `first` on. Refused as `ColumnLength`, with the wanted number of bits
+/// and the number of bytes, where there are fewer bits, or where their numbers go past 2^64 - 1.
 pub fn bits_of(
     alloc: Global,
     bytes: &[u8],
@@ -49,7 +49,7 @@ pub fn bits_of(
     copy_bits(alloc, bytes, first, count)
 }
 
-// So many bits that are there. Refused only for memory.
+// `count` bits, all of which are there. Refused only for memory.
 #[tactic(auto, using(crate::proofs::CountedRows::counted_bits))]
 fn copy_bits(
     alloc: Global,
@@ -69,7 +69,7 @@ fn copy_bits(
     Ok(bits.freeze())
 }
 
-// Are there so many bits from `first` on?
+// Are there `count` bits from `first` on?
 fn has_bits(bytes: &[u8], first: usize, count: usize) -> bool
     ensures { IsTrue result ↔ HasBits bytes.now first count }
 {

@@ -9,7 +9,7 @@ use std::alloc::Global;
 use std::marker::Model;
 use std::{mem, ptr};
 
-/// No builder, or one on the heap. C sees a pointer, null for no builder, which it passes on and never follows.
+/// Holds a builder on the heap, or none. C sees a pointer, null for no builder, which it passes on and never follows.
 #[repr(C)]
 pub struct BuilderHandle {
     at: *mut u8,

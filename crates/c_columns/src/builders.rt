@@ -22,7 +22,7 @@ use std::mem::replace;
 use std::sync::Arc;
 use typed_columns::TypedColumn;
 
-/// A builder on the heap.
+/// Holds a builder on the heap.
 pub type BoxedBuilder = Box<RunBuilder<Global>>;
 
 /// Returns the run column of the encoding of the rows, with the same format. Refused as `Unsupported` exactly for
@@ -45,7 +45,7 @@ pub fn new_builder(alloc: Global, dtype: DType) -> VortexResult<BoxedBuilder>
     Ok(Box::new(alloc, builder)?)
 }
 
-/// Puts the rows of a column behind those of the builder. Refused as `RunBuilder::append_rows` refuses, and then the
+/// Appends the rows of a column to those of the builder. Refused as `RunBuilder::append_rows` refuses, and then the
 /// builder stays as it is.
 #[tactic(auto, using(crate::proofs::Appended::column_grown, crate::proofs::Appended::still_kept))]
 pub fn append_column(
@@ -60,8 +60,8 @@ pub fn append_column(
     builder.append_rows(array, &mut plain_context(alloc))
 }
 
-/// Puts `count` rows of the value that C passes, of the builder's type, behind its rows. Refused as `scalar_of_type`
-/// says, whatever the count is, and then as `RunBuilder::append_value` refuses; the builder stays as it is then.
+/// Appends `count` rows of the value that C passes, which is of the builder's type. Refused as `scalar_of_type` is,
+/// whatever the count is, and then as `RunBuilder::append_value` refuses; then the builder stays as it is.
 #[tactic(auto, using(crate::proofs::Appended::value_grown, crate::proofs::Appended::still_kept, crate::proofs::Appended::no_value, crate::proofs::Appended::value_refused, crate::proofs::Appended::value_served))]
 pub fn append_passed(
     alloc: Global,
@@ -94,9 +94,9 @@ pub fn encoding_of(alloc: Global, builder: &RunBuilder<Global>) -> VortexResult<
     boxed_runs(alloc, runs)
 }
 
-/// Returns the run column of the encoding of all rows so far, which leave the builder; it has no rows after, and its
-/// type stays. Refused only for memory, and then the builder stays as it is: the blocks of the answer are
-/// taken before the rows leave.
+/// Returns the run column of the encoding of all rows so far, which leave the builder: then it has no rows, and its
+/// type stays. Refused only for memory, and then the builder stays as it is, since the blocks of the answer are taken
+/// before the rows leave.
 pub fn finished(alloc: Global, builder: &mut RunBuilder<Global>) -> VortexResult<Boxed>
     ensures made { IfOk result (λ made. AreBuilt builder.old made.value.array) }
     ensures untyped { IfOk result (λ made. format_of made.value ≡ []) }

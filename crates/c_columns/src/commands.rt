@@ -21,8 +21,8 @@ use runend_commands::{Command, StepResult, kept_outcome_of};
 use std::alloc::Global;
 use typed_columns::TypedColumn;
 
-/// Does a command on the column of a handle, which stays. What it leaves is put into `out`, with the same format where
-/// the rows mean what they meant.
+/// Runs a command on the column of a handle, which stays as it is. What the command leaves is put into `out`, with the
+/// same format where the rows mean what they meant.
 #[tactic(auto, using(crate::proofs::Endings::given_empty, crate::proofs::Endings::given_done, crate::proofs::Endings::given_refused))]
 pub fn apply(
     alloc: Global,

@@ -10,7 +10,7 @@ use column_core::{DType, VortexError, VortexResult};
 use runend_array::{ArrayRef, ConstantArray};
 use std::alloc::Global;
 
-/// Returns the value in each of `count` rows. Refused as `scalar_of_type` says.
+/// Returns the value in each of `count` rows. Refused as `scalar_of_type` is.
 pub fn constant(
     alloc: Global,
     dtype: DType,

@@ -1,17 +1,17 @@
-//! What C is told of an error.
+//! What C learns of an error.
 ghost use Rattle.std.specs.Prelude.{◌≡◌, ◌≢◌, pos, IfOk, IfErr, OnErr};
 ghost use Rattle.column_base.specs.Error.{number_of};
 ghost use Rattle.c_columns.specs.Ending.{HasFields, IsIndexField};
 
 use column_core::{VortexError, VortexResult};
 
-/// Answered where a handle that is lent holds no column.
+/// Numbers the refusal of a call that is lent a handle without a column.
 pub const NO_COLUMN: i32 = 22;
 
-/// Answered where a number stands for no type, or for no operator.
+/// Numbers the refusal of a number that names no type, or no operator.
 pub const BAD_NUMBER: i32 = 23;
 
-/// The fields of an error, in their order; 0 where it has fewer.
+/// Holds the fields of an error, in their order; 0 where it has fewer.
 #[repr(C)]
 #[derive(Clone, Copy)]
 pub struct ErrorFields {
@@ -30,7 +30,7 @@ pub fn refuse(error: VortexError, fields: &mut ErrorFields) -> i32
     i32::from(error.number())
 }
 
-/// Returns 0 and puts what was found in its place, or returns the number of an error and writes only its fields.
+/// Returns 0 and writes what was found, or returns the number of an error and writes only its fields.
 pub fn write_answer<T: Drop>(
     outcome: VortexResult<T>,
     place: &mut T,
@@ -50,7 +50,7 @@ pub fn write_answer<T: Drop>(
     }
 }
 
-/// 0, or the number of an error, whose fields are written.
+/// Returns 0, or the number of an error, whose fields are written.
 pub fn write_status(outcome: VortexResult<()>, fields: &mut ErrorFields) -> i32
     ensures ok { IfOk outcome (λ _. result ≡ pos 0) }
     ensures err { IfErr outcome
@@ -93,7 +93,7 @@ fn fields_of(error: VortexError) -> ErrorFields
     }
 }
 
-// An index that no `u64` has is told as 2^64 - 1.
+// An index as a field; 2^64 - 1 for an index that does not fit `u64`.
 fn index_field(index: i128) -> usize
     ensures { IsIndexField index result }
 {

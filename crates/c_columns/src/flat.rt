@@ -16,7 +16,7 @@ use runend_array::ArrayRef;
 use std::alloc::Global;
 use typed_columns::TypedColumn;
 
-/// A column and its format on the heap.
+/// Holds a column and its format on the heap.
 pub type Boxed = Box<TypedColumn<Global>>;
 
 /// Puts a column on the heap, without a format. Refused only for memory.
@@ -51,7 +51,7 @@ pub fn boxed_under(alloc: Global, array: ArrayRef<Global>, format: &str) -> Vort
     Ok(Box::new(alloc, column)?)
 }
 
-/// Returns the flat column of these numbers. Refused as the bits of its validity are.
+/// Returns the flat column of these numbers. Refused as `validity_of` refuses.
 pub fn numbers<T: NativePType>(
     alloc: Global,
     items: &[T],
@@ -71,8 +71,8 @@ pub fn numbers<T: NativePType>(
     boxed(alloc, ArrayRef::Primitive(array))
 }
 
-/// Returns the flat column of `count` booleans, the first of which is bit `start` of `truths`. Refused as the bits of
-/// its validity are, and then as these bits.
+/// Returns the flat column of `count` booleans, the first of which is bit `start` of `truths`. Refused as `validity_of`
+/// refuses, and then as `bits_of` refuses.
 pub fn booleans(
     alloc: Global,
     truths: &[u8],
@@ -95,7 +95,7 @@ pub fn booleans(
     boxed(alloc, ArrayRef::Bool(array))
 }
 
-/// Returns the flat column of these decimals. Refused as the bits of its validity are.
+/// Returns the flat column of these decimals. Refused as `validity_of` refuses.
 pub fn decimals(
     alloc: Global,
     pairs: &[Pair],

@@ -15,8 +15,9 @@ use std::alloc::Global;
 use std::str;
 use typed_columns::TypedColumn;
 
-/// Returns a copy in the same form with this format, on the heap; an empty one says that it has none. Any text is kept,
-/// also one that names no type. Refused as `TypeMismatch` exactly where the bytes are not UTF-8, else only for memory.
+/// Returns a copy in the same form with this format, on the heap; an empty text says that it has no format. Any text is
+/// kept, also one that names no type. Refused as `TypeMismatch` exactly where the bytes are not UTF-8, else only for
+/// memory.
 pub fn with_type(alloc: Global, array: &ArrayRef<Global>, format: &[u8]) -> VortexResult<Boxed>
     ensures same { IfOk result (λ made. IsCopyOf array.now made.value.array) }
     ensures typed { IfOk result (λ made. format_of made.value ≡ format.now) }
@@ -28,9 +29,9 @@ pub fn with_type(alloc: Global, array: &ArrayRef<Global>, format: &[u8]) -> Vort
     boxed_under(alloc, array, name)
 }
 
-/// Puts the format of a column to the front of `room`, and returns how many bytes it has: 0 where it has none. Those
-/// after it stay. Takes no memory. Refused exactly where it has no room there, as `ColumnLength`, with that number and
-/// the room; `room` is as it was then.
+/// Writes the format of a column to the front of `room`, and returns how many bytes it has: 0 where the column has
+/// none. The bytes after it stay. Takes no memory. Refused exactly where the format does not fit, as `ColumnLength`,
+/// with its number of bytes and the room; then `room` is as it was.
 pub fn put_type(column: &TypedColumn<Global>, room: &mut [u8]) -> VortexResult<usize>
     ensures put { IfOk result (λ size. IsFormatAtFront (format_of column.now) size room.new) }
     ensures after { IfOk result (λ size. drop size room.new ≡ drop size room.old) }

@@ -5,7 +5,7 @@ ghost use Rattle.c_columns.specs.Front.{front_written};
 use bytes::BufMut;
 use std::alloc::AllocError;
 
-/// A caller's bytes, of which so many at the front are written.
+/// Lends a caller's bytes, and counts how many at the front are written.
 #[derive(Drop)]
 pub(crate) struct Front<'a> {
     room: &'a mut [u8],
@@ -13,7 +13,7 @@ pub(crate) struct Front<'a> {
 }
 
 impl<'a> Front<'a> {
-    /// None of these bytes is written.
+    /// Lends these bytes, of which none is written yet.
     pub(crate) fn new(room: &'a mut [u8]) -> Front<'a>
         ensures same_bytes { result.room.ghost_name ≡ room.entry.ghost_name }
         ensures room { result.room.now ≡ room.old }

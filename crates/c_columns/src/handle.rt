@@ -11,8 +11,8 @@ use std::marker::Model;
 use std::{mem, ptr};
 use typed_columns::TypedColumn;
 
-/// No column, or one with its format on the heap. C sees a pointer, null for no column, which it passes on and never
-/// follows.
+/// Holds a column with its format on the heap, or none. C sees a pointer, null for no column, which it passes on and
+/// never follows.
 #[repr(C)]
 pub struct Handle {
     at: *mut u8,

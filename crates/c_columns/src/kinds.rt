@@ -6,8 +6,8 @@ ghost use Rattle.c_columns.specs.Kinds.{IsKindOf, dtype_by, nullability_by as nu
 use column_core::{DType, DecimalDType, Nullability, PType, VarBinKind};
 use column_ops::CompareOperator;
 
-/// A type: 0 to 7 are u8, u16, u32, u64, i8, i16, i32 and i64; 8 booleans, 9 decimals, 10 texts, 11 bytes,
-/// 12 lists. Precision and scale are of decimals alone. `nullable` is 0 where the type has no null.
+/// Names a type: 0 to 7 are u8, u16, u32, u64, i8, i16, i32 and i64; 8 booleans, 9 decimals, 10 texts, 11 bytes, 12
+/// lists. Only decimals have a precision and a scale. `nullable` is 0 where the type has no null.
 #[repr(C)]
 #[derive(Clone, Copy)]
 pub struct Kind {
@@ -40,7 +40,7 @@ pub fn dtype_of(kind: &Kind) -> Option<DType>
     }
 }
 
-/// Returns the type for C. For lists it has no more than that they are lists.
+/// Returns the type for C. Of lists it only says that they are lists.
 pub fn kind_of(dtype: DType) -> Kind
     ensures { IsKindOf dtype result }
 {
@@ -59,7 +59,7 @@ pub fn kind_of(dtype: DType) -> Kind
     }
 }
 
-/// Returns what is answered where there is no column.
+/// Returns the answer for a handle without a column.
 pub fn no_kind() -> Kind
     ensures { result.number ≡ 255 }
 {
@@ -86,7 +86,7 @@ pub fn operator_by(number: u8) -> Option<CompareOperator>
     }
 }
 
-/// Bytes where the byte is not 0, else texts.
+/// Returns bytes where the byte is not 0, else texts.
 pub fn varbin_kind(binary: u8) -> VarBinKind
     ensures { result ≡ varbin_kind_by binary }
 {
@@ -97,7 +97,7 @@ pub fn varbin_kind(binary: u8) -> VarBinKind
     }
 }
 
-/// Returns the type of integers of this number; none from 8 on.
+/// Returns the type of integers of this number, or `None` from 8 on.
 pub fn ptype_by(number: u8) -> Option<PType>
     ensures { result ≡ ptype_by_number number }
 {

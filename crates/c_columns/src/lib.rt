@@ -1,5 +1,5 @@
-//! Columns as C holds, makes, asks and reads them: what stands behind the calls of the library for C. A function here
-//! has the exact result and the refusals; a call takes columns out of its handles, and writes number and fields.
+//! Columns as C holds, makes, asks and reads them: what the calls of the library for C are made of. A function here has
+//! the exact result and the refusals; a call takes columns out of its handles, and writes number and fields.
 #![tactic(auto)]
 
 pub mod arguments;

@@ -16,8 +16,8 @@ use runend_array::ArrayRef;
 use runend_column::{list_elements, list_offsets, list_sizes, list_validity, lists_over};
 use std::alloc::Global;
 
-/// Returns the lists of which row i has `sizes[i]` of the elements, from `offsets[i]` on. Refused as the bits of its
-/// validity are, and then as `lists_over` refuses.
+/// Returns the lists whose row i has `sizes[i]` elements, from element `offsets[i]` on. Refused as `validity_of`
+/// refuses, and then as `lists_over` refuses.
 #[tactic(auto, using(crate::proofs::ListsPassed::bits_refused, crate::proofs::ListsPassed::parts_refused))]
 pub fn lists(
     alloc: Global,
@@ -42,7 +42,7 @@ pub fn lists(
     boxed(alloc, lists)
 }
 
-/// Returns the elements of all lists. Refused as `Unsupported` unless the column lies as lists.
+/// Returns the elements of all lists. Refused as `Unsupported` unless the column has the form of lists.
 pub fn elements_of(alloc: Global, array: &ArrayRef<Global>) -> VortexResult<Boxed>
     ensures made { IfOk result (λ made. AreElementsOf (column_of array.now) (column_of made.value.array)) }
     ensures untyped { IfOk result (λ made. format_of made.value ≡ []) }
@@ -52,7 +52,7 @@ pub fn elements_of(alloc: Global, array: &ArrayRef<Global>) -> VortexResult<Boxe
     boxed(alloc, elements)
 }
 
-/// Where the elements of each list start. Refused as `elements_of`.
+/// Returns where the elements of each list start. Refused as `elements_of` is.
 pub fn offsets_of(alloc: Global, array: &ArrayRef<Global>) -> VortexResult<Boxed>
     ensures made { IfOk result (λ made. AreOffsetsOf (column_of array.now) (column_of made.value.array)) }
     ensures untyped { IfOk result (λ made. format_of made.value ≡ []) }
@@ -62,7 +62,7 @@ pub fn offsets_of(alloc: Global, array: &ArrayRef<Global>) -> VortexResult<Boxed
     boxed(alloc, offsets)
 }
 
-/// Returns how many elements each list has. Refused as `elements_of`.
+/// Returns how many elements each list has. Refused as `elements_of` is.
 pub fn sizes_of(alloc: Global, array: &ArrayRef<Global>) -> VortexResult<Boxed>
     ensures made { IfOk result (λ made. AreSizesOf (column_of array.now) (column_of made.value.array)) }
     ensures untyped { IfOk result (λ made. format_of made.value ≡ []) }
@@ -72,7 +72,7 @@ pub fn sizes_of(alloc: Global, array: &ArrayRef<Global>) -> VortexResult<Boxed>
     boxed(alloc, sizes)
 }
 
-/// Returns whether each list is valid, as booleans. Refused as `elements_of`.
+/// Returns whether each list is valid, as booleans. Refused as `elements_of` is.
 pub fn flags_of(alloc: Global, array: &ArrayRef<Global>) -> VortexResult<Boxed>
     ensures made { IfOk result (λ made. AreFlagsOf (column_of array.now) (column_of made.value.array)) }
     ensures untyped { IfOk result (λ made. format_of made.value ≡ []) }

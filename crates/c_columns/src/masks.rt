@@ -19,8 +19,8 @@ use column_core::{
 use runend_array::{ArrayRef, Canonical, ConstantArray};
 use std::alloc::Global;
 
-/// Returns which rows are true; null is not. A constant takes no memory, and stored bits are shared where they say it.
-/// Refused as `TypeMismatch` unless the rows are booleans, else only for memory.
+/// Returns which rows are true; null is not true. A constant takes no memory, and stored bits are shared where they are
+/// the answer. Refused as `TypeMismatch` unless the rows are booleans, else only for memory.
 pub fn mask_of(alloc: Global, array: &ArrayRef<Global>) -> VortexResult<Mask<Global>>
     ensures mask { IfOk result (λ mask. mask_bits mask ≡ map is_true (rows array.now)) }
     ensures refused { IsRefusedBy (mask_fault (dtype_of array.now)) result }
@@ -121,7 +121,7 @@ fn mask_by_words(
     Ok(Mask::from_buffer(bits.freeze()))
 }
 
-// Each word with the bits alone that the other one has too.
+// Each word with only those bits that the other one has too.
 fn words_of_both(alloc: Global, words: &[u64], others: &[u64]) -> VortexResult<Vec<u64, Global>>
     requires { length others.now ≡ length words.now }
     ensures both { IfOk result (λ both. AreOfBoth words.now others.now both.items (length words.now)) }
@@ -167,7 +167,7 @@ fn mask_of_constant(constant: &ConstantArray<Global>) -> Mask<Global>
     }
 }
 
-/// Returns whether the row is true. Null is not.
+/// Returns whether the row is true. Null is not true.
 pub(crate) fn is_selected(row: ScalarView<'_, Global>) -> bool
     ensures { result ≡ is_true (sees row.entry) }
 {

@@ -27,9 +27,9 @@ pub fn message_size(column: &TypedColumn<Global>) -> VortexResult<usize>
     }
 }
 
-/// Puts the message of a column under its format to the front of `room`, and returns how many bytes it has; those after
-/// it stay. Takes no memory. Refused as `message_size` is, and else exactly where it has no room there as
-/// `ColumnLength`, with that number and the room. Where it is refused, `room` is as it was.
+/// Writes the message of a column under its format to the front of `room`, and returns how many bytes it has; the bytes
+/// after it stay. Takes no memory. Refused as `message_size` is, and else exactly where the message does not fit, as
+/// `ColumnLength`, with its number of bytes and the room. Where it is refused, `room` is as it was.
 #[tactic(auto, using(crate::proofs::MessageEndings::no_room))]
 pub fn put_message(column: &TypedColumn<Global>, room: &mut [u8]) -> VortexResult<usize>
     ensures put { IfOk result (λ size. IsMessageAtFront (typed_of column.now) size room.new) }
@@ -51,8 +51,8 @@ pub fn put_message(column: &TypedColumn<Global>, room: &mut [u8]) -> VortexResul
     Ok(size)
 }
 
-/// Returns the column of which the bytes are the message, on the heap, under its format. Refused as `BadMetadata`
-/// exactly where they are the message of no column, else as `OutOfMemory` only.
+/// Returns the column that the bytes are the message of, on the heap, under its format. Refused as `BadMetadata`
+/// exactly where they are not the message of a column, else only as `OutOfMemory`.
 #[tactic(auto, using(crate::proofs::MessageEndings::read_served, crate::proofs::MessageEndings::column_made))]
 pub fn column_of_message(alloc: Global, bytes: &[u8]) -> VortexResult<Boxed>
     ensures made { IfOk result (λ made. IsColumnOfMessage bytes.now made.value) }

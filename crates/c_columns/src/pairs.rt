@@ -1,11 +1,12 @@
-//! Numbers of 128 bits in two halves, since none of that width crosses to C.
+//! Numbers of 128 bits as pairs of 64 bits, since none of that width crosses to C.
 ghost use Rattle.std.specs.Prelude.{◌≡◌, map, take, length, IfOk, IsOkUnless};
 ghost use Rattle.c_columns.specs.Pairs.{number_in};
 
 use column_core::{VortexError, VortexResult};
 use std::alloc::Global;
 
-/// `high` times 2^64, and `low`: on a little-endian machine 16 bytes of an Arrow decimal128.
+/// Holds the number `high` times 2^64 plus `low`: on a little-endian machine the 16 bytes of an
+/// Arrow decimal128.
 #[repr(C)]
 #[derive(Clone, Copy)]
 pub struct Pair {
@@ -13,17 +14,17 @@ pub struct Pair {
     pub high: i64,
 }
 
-/// 2^64.
+/// Holds 2^64.
 const UNIT: i128 = 18_446_744_073_709_551_616;
 
-/// Returns the number of two halves.
+/// Returns the number that a pair holds.
 pub fn number_of(pair: Pair) -> i128
     ensures { result ≡ number_in pair }
 {
     i128::from(pair.high) * UNIT + i128::from(pair.low)
 }
 
-/// Returns the halves of a number.
+/// Returns the pair that holds a number.
 pub fn pair_of(number: i128) -> Pair
     ensures { number ≡ number_in result }
 {

@@ -25,7 +25,7 @@ use runend_commands::compute;
 use std::alloc::Global;
 use std::cmp::Ordering;
 
-/// The least and the greatest row.
+/// Holds the least and the greatest row.
 #[derive(Clone, Copy)]
 pub struct Extremes {
     pub least: RowValue,
@@ -45,8 +45,8 @@ pub fn sum_of(alloc: Global, session: &Session, array: &ArrayRef<Global>) -> Vor
     Ok(total_of(sum))
 }
 
-/// Returns whether any two rows are equal, as a byte. Refused as the command is, and never for memory where the
-/// rows are read in place.
+/// Returns whether all rows are equal, as a byte. Refused as the command is, and never for memory where the rows are
+/// read in place.
 #[tactic(auto, using(crate::proofs::Left::tells_of))]
 pub fn is_constant(alloc: Global, session: &Session, array: &ArrayRef<Global>) -> VortexResult<u8>
     ensures told { IfOk result (λ truth. Tells truth (order.IsConstant (rows array.now))) }
@@ -79,7 +79,7 @@ pub fn is_sorted(
 }
 
 /// Returns the least or the greatest row that is not null, or null where all are. A text or bytes go to the front of
-/// `text`. Refused as the command is, and as `row_value_of`; but for texts and bytes never for memory where the
+/// `text`. Refused as the command is, and as `row_value_of` is; except for texts and bytes never for memory where the
 /// rows are read in place.
 #[tactic(auto, using(crate::proofs::Extremes::refused_extreme, crate::proofs::Told::extreme_short, crate::proofs::Told::none_told))]
 pub fn extreme_of(
@@ -120,8 +120,8 @@ fn side_of(greatest: bool) -> Ordering
 }
 
 /// Returns the least and the greatest row that are not null, or null twice where all are. A text or bytes of each go to
-/// the front of a buffer of its own. Refused as `Unsupported` for lists, and as `row_value_of`, of the least where
-/// neither has room; but for texts and bytes never for memory where the rows are read in place.
+/// the front of a buffer of its own. Refused as `Unsupported` for lists, and as `row_value_of` is, for the least row
+/// where neither fits; except for texts and bytes never for memory where the rows are read in place.
 #[tactic(auto, using(crate::proofs::Told::least_of_both, crate::proofs::Told::greatest_of_both, crate::proofs::Told::both_short, crate::proofs::Told::both_refused, crate::proofs::Told::both_accepted, crate::proofs::Told::none_told))]
 pub fn extremes_of(
     alloc: Global,
@@ -158,7 +158,7 @@ pub fn extremes_of(
 }
 
 /// Returns the row at `row`, which takes no memory. A text or bytes go to the front of `text`. Refused as the look-up
-/// of a row is, and then as `row_value_of`.
+/// of a row is, and then as `row_value_of` is.
 #[tactic(auto, using(crate::proofs::LookUps::refused_lists, crate::proofs::LookUps::outside_fault, crate::proofs::LookUps::room_fault, crate::proofs::LookUps::no_fault, crate::proofs::Told::row_told))]
 pub fn row_at(array: &ArrayRef<Global>, row: usize, text: &mut [u8]) -> VortexResult<RowValue>
     ensures shown { IfOk result (λ value. IsShownAt row array.now text.new value) }

@@ -5,7 +5,7 @@ ghost use Rattle.std_alloc.specs.Box.Ownership.{box_owns};
 use std::alloc::Allocator;
 use std::marker::Model;
 
-/// The pointer and the allocator of a box, which own what the box owned.
+/// Holds the pointer and the allocator of a box, and owns what the box owned.
 pub struct RawBox<T, A: Allocator> {
     pub at: *mut T,
     pub alloc: A,

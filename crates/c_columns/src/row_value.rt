@@ -15,8 +15,9 @@ use column_core::{DType, Nullability, Scalar, ScalarValue, ScalarView, VortexErr
 use runend_array::ArrayRef;
 use std::alloc::Global;
 
-/// A value, by `kind`: 0 null; 1 the number `as_unsigned`; 2 the number `as_signed`; 3 `truth`, false where it is
-/// 0; 4 the decimal whose halves are `as_signed` and `as_unsigned`; 5 a text and 6 bytes, in a buffer beside it.
+/// Holds a value, by `kind`: 0 null; 1 the number `as_unsigned`; 2 the number `as_signed`; 3 `truth`, false where it is
+/// 0; 4 the decimal whose high 64 bits are `as_signed` and whose low 64 bits are `as_unsigned`; 5 a text and 6 bytes,
+/// in a separate buffer.
 #[repr(C)]
 #[derive(Clone, Copy)]
 pub struct RowValue {
@@ -26,8 +27,8 @@ pub struct RowValue {
     pub truth: u8,
 }
 
-/// Returns what a view shows, for C. A text or bytes go to the front of `text`, and `as_unsigned` says how many there
-/// are; refused as `ColumnLength`, with that number and the room, where they have no room there.
+/// Returns what a view shows, for C. A text or bytes go to the front of `text`, and `as_unsigned` says how many bytes
+/// they have. Refused as `ColumnLength`, with that number and the room, where they do not fit.
 pub fn row_value_of(view: ScalarView<'_, Global>, text: &mut [u8]) -> VortexResult<RowValue>
     ensures told { IfOk result (λ value. TellsView value text.new view.entry) }
     ensures room { IfErr result (λ error. IsRoomFault (sees view.entry) (length text.old) error) }
@@ -50,7 +51,7 @@ pub fn row_value_of(view: ScalarView<'_, Global>, text: &mut [u8]) -> VortexResu
     }
 }
 
-/// Returns whether a text or bytes that a view shows have so much room. Refused as `row_value_of` is with that room.
+/// Tests that a text or bytes that a view shows fit this room. Refused as `row_value_of` is with this room.
 pub fn check_room_of(view: ScalarView<'_, Global>, room: usize) -> VortexResult<()>
     ensures room { IfErr result (λ error. IsRoomFault (sees view.entry) room error) }
     ensures fits { IfOk result (λ _. IsRoomThere (sees view.entry) room) }
@@ -77,15 +78,15 @@ fn check_enough(size: usize, room: usize) -> VortexResult<()>
     Ok(())
 }
 
-/// Null.
+/// Returns null.
 pub fn null() -> RowValue
     ensures { result.kind ≡ 0 }
 {
     row_value(0, 0, 0, 0)
 }
 
-/// Copies bytes to the front of `room`, and returns how many they are; those after them stay. Refused as
-/// `ColumnLength`, with that number and the room, where there is no room for all.
+/// Copies bytes to the front of `room`, and returns how many they are; the bytes after them stay. Refused as
+/// `ColumnLength`, with that number and the room, where they do not all fit.
 pub fn put_bytes(bytes: &[u8], room: &mut [u8]) -> VortexResult<u64>
     ensures put { IfOk result (λ size. (size ≡ length bytes.now) × (take size room.new ≡ bytes.now)) }
     ensures after { IfOk result (λ size. drop size room.new ≡ drop size room.old) }
@@ -102,7 +103,7 @@ pub fn put_bytes(bytes: &[u8], room: &mut [u8]) -> VortexResult<u64>
     Ok(size as u64)
 }
 
-/// Returns the scalar that C passes, of the type of a column, nullable for null alone. `text` has the bytes of a text.
+/// Returns the scalar that C passes, of the type of a column, nullable only for null. `text` has the bytes of a text.
 /// Refused as `TypeMismatch` where it is not a value of the type, or the bytes are not UTF-8.
 pub fn scalar_of(
     alloc: Global,

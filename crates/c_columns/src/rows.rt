@@ -1,4 +1,4 @@
-//! Many rows of a flat column at once, borrowed. What is stored under null is read as it stands.
+//! Many rows of a flat column at once, borrowed. What is stored under null is read as it is.
 ghost use Rattle.std.specs.Prelude.{◌≡◌, ℕ, ◌+◌, ◌<◌, ◌≤◌, pos, length, map, slice_range, slice_index_or, IfOk, OnErr};
 ghost use Rattle.column_base.specs.Validity.{form_of, validity_flags};
 ghost use Rattle.column_base.specs.ValidityForm.{HasLength};
@@ -14,9 +14,9 @@ use crate::words::{check_range, put_bits, put_same};
 use column_core::{FlatView, NativePType, Validity, VortexError, VortexResult};
 use std::alloc::Global;
 
-/// Returns the numbers that a flat column stores, from `start` on, as many as there are `items`. Refused as
-/// `Unsupported` where it is not a flat column of integers, as `TypeMismatch` where it is one of another type, and as
-/// `BadRange` where the rows do not reach.
+/// Writes the numbers that a flat column stores, from row `start` on, as many as there are `items`. Refused as
+/// `Unsupported` unless it is a flat column of integers, as `TypeMismatch` where it is one of another type, and as
+/// `BadRange` where there are fewer rows.
 #[tactic(auto, using(crate::proofs::ReadRefusals::numbers_of_type, crate::proofs::ReadRefusals::numbers_of_other))]
 pub fn read_numbers<T: NativePType>(
     flat: FlatView<'_, Global>,
@@ -40,8 +40,8 @@ pub fn read_numbers<T: NativePType>(
     Ok(())
 }
 
-/// Returns the decimals that a flat column stores, from `start` on, as many as there are `pairs`. Refused as
-/// `Unsupported` where it is not a flat column of decimals, and as `BadRange` where the rows do not reach.
+/// Writes the decimals that a flat column stores, from row `start` on, as many as there are `pairs`. Refused as
+/// `Unsupported` unless it is a flat column of decimals, and as `BadRange` where there are fewer rows.
 pub fn read_decimals(
     flat: FlatView<'_, Global>,
     start: usize,
@@ -61,7 +61,7 @@ pub fn read_decimals(
     Ok(())
 }
 
-/// Returns the bits of the booleans that a flat column stores, 64 to a word. Refused as `Unsupported` where it is not a
+/// Writes the bits of the booleans that a flat column stores, 64 to a word. Refused as `Unsupported` unless it is a
 /// flat column of booleans, and as `ColumnLength` for another number of words.
 pub fn read_booleans(flat: FlatView<'_, Global>, words: &mut [u64]) -> VortexResult<()>
     ensures words { IfOk result (λ _. AreLeafTruths (leaf_in flat.entry) words.new) }
@@ -75,8 +75,8 @@ pub fn read_booleans(flat: FlatView<'_, Global>, words: &mut [u64]) -> VortexRes
     }
 }
 
-/// Returns a bit for each row of a flat column, 64 to a word: whether it is valid. Refused as `ColumnLength` for
-/// another number of words.
+/// Writes a bit for each row of a flat column, 64 to a word: whether it is valid. Refused as `ColumnLength` for another
+/// number of words.
 pub fn read_validity(flat: FlatView<'_, Global>, words: &mut [u64]) -> VortexResult<()>
     ensures words { IfOk result (λ _. AreLeafFlags (leaf_in flat.entry) words.new) }
     ensures refused { IsRefusedOnlyBy (words_fault (leaf_count (leaf_in flat.entry)) (length words.old)) result }
@@ -109,7 +109,7 @@ fn copy_pairs(stored: &[i128], start: usize, pairs: &mut [Pair])
     }
 }
 
-// The bits of a validity of so many rows.
+// The bits of a validity of `count` rows.
 fn put_validity(validity: &Validity<Global>, count: usize, words: &mut [u64]) -> VortexResult<()>
     requires { HasLength (form_of validity.now) count }
     ensures packed { IfOk result (λ _. Packs words.new (validity_flags validity.now count)) }

@@ -20,7 +20,7 @@ use runend_array::{ArrayRef, RunEndArray, RunEndArrayExt, RunEndArraySlotsExt};
 use std::alloc::Global;
 use std::ops::Range;
 
-/// A run: the rows from `start` to `stop - 1` of the column, and the value that they show.
+/// Holds a run: the rows from `start` to `stop - 1` of the column, and the value that they show.
 #[derive(Clone, Copy)]
 pub struct Run {
     pub start: usize,
@@ -28,7 +28,7 @@ pub struct Run {
     pub value: RowValue,
 }
 
-/// Returns how many runs are stored. Refused as `Unsupported` where it is not a run column.
+/// Returns how many runs are stored. Refused as `Unsupported` unless it is a run column.
 pub fn run_count(array: &ArrayRef<Global>) -> VortexResult<usize>
     ensures count { IfOk result (λ count. IsRunCount count (column_of array.now)) }
     ensures refused { IsRefusedOnlyBy (no_runs_fault (column_of array.now)) result }
@@ -39,8 +39,8 @@ pub fn run_count(array: &ArrayRef<Global>) -> VortexResult<usize>
     }
 }
 
-/// Returns the run of a row. Refused as `Unsupported` where it is not a run column, and as `OutOfBounds` where there is
-/// no such row.
+/// Returns the run of a row. Refused as `Unsupported` unless it is a run column, and as `OutOfBounds` where it does not
+/// have the row.
 #[tactic(auto, using(crate::proofs::RunsTold::some_run))]
 pub fn run_of_row(array: &ArrayRef<Global>, row: usize) -> VortexResult<usize>
     ensures run { IfOk result (λ run. IsRunOfRow row run (column_of array.now)) }
@@ -60,8 +60,8 @@ pub fn run_of_row(array: &ArrayRef<Global>, row: usize) -> VortexResult<usize>
     Ok(runs.find_physical_index(row))
 }
 
-/// Returns a run by its number, from 0. A text or bytes go to the front of `text`. Refused as `Unsupported` where it is
-/// not a run column, and then as the row of this number of its values is.
+/// Returns a run by its number, from 0. A text or bytes go to the front of `text`. Refused as `Unsupported` unless it
+/// is a run column, and then as the look-up of this row of its values is.
 #[tactic(auto, using(crate::proofs::RunsTold::run_told, crate::proofs::RunsTold::run_refused, crate::proofs::RunsTold::run_there))]
 pub fn run_at(array: &ArrayRef<Global>, run: usize, text: &mut [u8]) -> VortexResult<Run>
     ensures told { IfOk result (λ told. IsRunTold run told.start told.stop text.new told.value (column_of array.now)) }
@@ -81,8 +81,8 @@ pub fn run_at(array: &ArrayRef<Global>, run: usize, text: &mut [u8]) -> VortexRe
     })
 }
 
-/// Where the runs from `first` on stop, as many as there are `stops`. Refused as `Unsupported` where it is no run
-/// column, and as `BadRange` where the runs do not reach.
+/// Writes before which row each run stops, from run `first` on, as many as there are `stops`. Refused as `Unsupported`
+/// unless it is a run column, and as `BadRange` where there are fewer runs.
 pub fn read_stops(array: &ArrayRef<Global>, first: usize, stops: &mut [u64]) -> VortexResult<()>
     ensures stops { IfOk result (λ _. AreStopsFrom first stops.new (column_of array.now)) }
     ensures refused { IsRefusedOnlyBy (stops_fault first (length stops.old) (column_of array.now)) result }

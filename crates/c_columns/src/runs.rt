@@ -110,8 +110,8 @@ pub fn recorded_column(
     boxed_runs_like(alloc, runs, values)
 }
 
-/// Returns a copy of the ends of a run column, without a format. Refused as `Unsupported` where it is none, else for
-/// memory.
+/// Returns a copy of the ends of a run column, without a format. Refused as `Unsupported` unless it is a run column,
+/// else for memory.
 pub fn ends_of(alloc: Global, array: &ArrayRef<Global>) -> VortexResult<Boxed>
     ensures made { IfOk result (λ made. AreEndsOf (column_of array.now) (column_of made.value.array)) }
     ensures untyped { IfOk result (λ made. format_of made.value ≡ []) }
@@ -123,8 +123,8 @@ pub fn ends_of(alloc: Global, array: &ArrayRef<Global>) -> VortexResult<Boxed>
     }
 }
 
-/// Returns a copy of the values of a run column, with its format. Refused as `Unsupported` where it is none, else for
-/// memory.
+/// Returns a copy of the values of a run column, with its format. Refused as `Unsupported` unless it is a run column,
+/// else for memory.
 pub fn values_of(alloc: Global, column: &TypedColumn<Global>) -> VortexResult<Boxed>
     ensures made { IfOk result (λ made. AreRunValuesOf (column_of column.now.array) (column_of made.value.array)) }
     ensures typed { IfOk result (λ made. format_of made.value ≡ format_of column.now) }
@@ -136,7 +136,7 @@ pub fn values_of(alloc: Global, column: &TypedColumn<Global>) -> VortexResult<Bo
     }
 }
 
-/// Returns how many rows of the runs lie before the window; 0 of any other column.
+/// Returns how many rows of the runs lie before the window; 0 for any other column.
 pub fn offset_of(array: &ArrayRef<Global>) -> usize
     ensures { result ≡ offset_in (column_of array.now) }
 {
@@ -146,7 +146,7 @@ pub fn offset_of(array: &ArrayRef<Global>) -> usize
     }
 }
 
-/// 0 flat, 1 a constant, 2 lists, 3 runs.
+/// Returns 0 for a flat column, 1 for a constant, 2 for lists, and 3 for runs.
 pub fn form_of_array(array: &ArrayRef<Global>) -> u8
     ensures { result ≡ form_number (column_of array.now) }
 {
@@ -158,9 +158,9 @@ pub fn form_of_array(array: &ArrayRef<Global>) -> u8
     }
 }
 
-/// Puts the record of a run column to the front of `room`, and answers how many bytes it has. Refused as
-/// `Unsupported` where it is not a run column, and as `ColumnLength`, with that number and the room, where it has
-/// no room there.
+/// Writes the record of a run column to the front of `room`, and returns how many bytes it has. Refused as
+/// `Unsupported` unless it is a run column, and as `ColumnLength`, with that number and the room, where it does not
+/// fit.
 pub fn put_record(alloc: Global, array: &ArrayRef<Global>, room: &mut [u8]) -> VortexResult<usize>
     ensures put { IfOk result (λ size. IsRecordAtFront (column_of array.now) size room.new) }
     ensures refused { IfErr result (λ error. IsShortOr (SerializeFault (length room.old) array.now) error) }
@@ -217,7 +217,7 @@ pub(crate) fn boxed_runs_like(
     boxed_like(alloc, ArrayRef::of_runs(alloc, runs)?, like)
 }
 
-/// Returns a run column without rows, which holds no memory: it stands where another is put later.
+/// Returns a run column without rows, which holds no memory: it keeps the place of one that is put there later.
 #[tactic(auto, using(crate::proofs::NoRuns::no_parts))]
 pub(crate) fn no_runs(alloc: Global) -> RunEndArray<Global> {
     RunEnd::new_unchecked(no_ends(alloc), no_ends(alloc), 0, 0)

@@ -1,4 +1,4 @@
-//! Sessions that C passes, as numbers and flags alone.
+//! Sessions that C passes, as numbers and flags.
 ghost use Rattle.std.specs.Prelude.{◌≡◌, ◌≢◌, false};
 ghost use Rattle.c_columns.specs.Flags.{flag_of};
 ghost use Rattle.c_columns.specs.Sessions.{HasAllKernels, IsSessionOf, thresholds_in};
@@ -9,8 +9,8 @@ use runend_array::{ExecutionCtx, Kernel, Thresholds, VortexSession};
 use runend_commands::{KERNELS, default_thresholds};
 use std::alloc::Global;
 
-/// A flag for each kernel, in the order of the kernels, 0 where it is not registered, and the thresholds by
-/// which kernels choose.
+/// Holds a flag for each kernel, in the order of the kernels, 0 where it is not registered, and the thresholds by which
+/// kernels choose.
 #[repr(C)]
 #[derive(Clone, Copy)]
 pub struct Session {
@@ -44,7 +44,7 @@ pub fn context(alloc: Global, session: &Session) -> ExecutionCtx<Global>
     ExecutionCtx::new(built, alloc)
 }
 
-/// Returns the context of no kernel, for calls that ask none.
+/// Returns a context without kernels, for calls that ask none.
 pub fn plain_context(alloc: Global) -> ExecutionCtx<Global> {
     ExecutionCtx::new(VortexSession::empty(), alloc)
 }

@@ -20,8 +20,8 @@ use std::ops::Range;
 use typed_columns::TypedColumn;
 
 /// Returns the rows from `range.start` to `range.end - 1` of the column of a handle, which stays. They are put into
-/// `out`, with the same format, in the form that the command `Slice` leaves; no command is made, since that takes as
-/// long as buffers that are shared.
+/// `out`, with the same format, in the form that the command `Slice` leaves; no command is made, since making one takes
+/// as long as sharing the buffers.
 #[tactic(auto, using(crate::proofs::Endings::asked_empty, crate::proofs::Endings::asked_left, crate::proofs::Endings::asked_refused))]
 pub fn slice(
     alloc: Global,

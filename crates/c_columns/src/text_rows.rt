@@ -8,10 +8,10 @@ use crate::words::{check_range, check_room};
 use column_core::{FlatView, NativePType, ScalarView, VarBinViewArray, VortexError, VortexResult};
 use std::alloc::Global;
 
-/// Returns the offsets of the texts or bytes of so many rows, from row `start` on: one more than rows, the first is 0,
-/// and the last is how many bytes these rows have. Refused as `Unsupported` where it is not a flat column of texts or
-/// bytes, as `BadRange` where there is no offset or the rows do not reach, and as `CastOutOfRange` where the type has
-/// no such offset.
+/// Writes the offsets of the texts or bytes of the rows from row `start` on: one more than there are rows, the first of
+/// them 0, and the last the number of bytes of these rows. Refused as `Unsupported` unless it is a flat column of texts
+/// or bytes, as `BadRange` where `offsets` is empty or there are fewer rows, and as `CastOutOfRange` where an offset
+/// does not fit the type.
 #[tactic(auto, using(crate::proofs::ReadRefusals::offsets_none, crate::proofs::ReadRefusals::offsets_past, crate::proofs::ReadRefusals::offsets_there, crate::proofs::ReadRefusals::refused_so))]
 pub fn read_offsets<T: NativePType>(
     flat: FlatView<'_, Global>,
@@ -39,9 +39,9 @@ pub fn read_offsets<T: NativePType>(
     put_offsets(texts, start, start + count, offsets)
 }
 
-/// Returns the bytes of `count` rows from row `start` on, one after the other. Refused as `Unsupported` where it is not
-/// a flat column of texts or bytes, as `BadRange` where the rows do not reach, and as `ColumnLength`, with their number
-/// and the room, unless the room is for just these bytes.
+/// Writes the bytes of `count` rows from row `start` on, one after the other. Refused as `Unsupported` unless it is a
+/// flat column of texts or bytes, as `BadRange` where there are fewer rows, and as `ColumnLength`, with their number
+/// and the room, unless the room is exactly for these bytes.
 #[tactic(auto, using(crate::proofs::ReadRefusals::bytes_past, crate::proofs::ReadRefusals::bytes_there))]
 pub fn read_bytes(
     flat: FlatView<'_, Global>,

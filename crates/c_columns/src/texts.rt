@@ -1,4 +1,4 @@
-//! Flat columns of the texts and bytes that C passes, one behind the other, with offsets.
+//! Flat columns of the texts and bytes that C passes, one after the other, with offsets.
 ghost use Rattle.std.specs.Prelude.{◌≡◌, ◌+◌, ◌-◌, ◌<◌, ℕ, [], ◌∷◌, map, length, pos, IfErr, IfOk, IfSome, IsOkUnless, MatchOption, OnOk};
 ghost use Rattle.typed_columns.specs.Typed.{format_of};
 ghost use Rattle.c_columns.specs.Bits.{validity_by};
@@ -12,9 +12,9 @@ use column_core::{NativePType, VarBinKind, VarBinViewArray, View, VortexError, V
 use runend_array::ArrayRef;
 use std::alloc::Global;
 
-/// Returns the flat column whose row i is the bytes from offset i up to offset i + 1. Refused as `NoRunsWindow` where
-/// there is no offset, as `EndsNotStrict`, with the row, where an offset is negative or below the one before, as the
-/// bits of its validity are, and then as `VarBinViewArray::try_new` refuses.
+/// Returns the flat column whose row i is the bytes from offset i up to offset i + 1. Refused as `NoRunsWindow` without
+/// an offset, as `EndsNotStrict`, with the row, where an offset is negative or below the one before, as `validity_of`
+/// refuses, and then as `VarBinViewArray::try_new` refuses.
 #[tactic(auto, using(crate::proofs::Cuts::cuts_refused, crate::proofs::Cuts::bits_refused, crate::proofs::Cuts::texts_refused))]
 pub fn texts<T: NativePType>(
     alloc: Global,

@@ -3,7 +3,7 @@ ghost use Rattle.c_columns.specs.Totals.{IsAnswerTold};
 
 use column_sums::{SumAnswer, SumValue};
 
-/// A sum, by `kind`: 0 it left the range of 64 bits, 1 it is `as_unsigned`, 2 it is `as_signed`. `empty` is 1
+/// Holds a sum, by `kind`: 0 it left the range of 64 bits, 1 it is `as_unsigned`, 2 it is `as_signed`. `empty` is 1
 /// where no row is valid, else 0.
 #[repr(C)]
 #[derive(Clone, Copy)]

@@ -12,8 +12,8 @@ use column_core::{DType, VortexError, VortexResult};
 use runend_array::{ArrayRef, RunEndArray, RunEndArrayExt, RunEndArraySlotsExt};
 use std::alloc::Global;
 
-/// Counts the rows that are true, which null is not. Runs and constants take no memory. Refused as `TypeMismatch`
-/// unless the rows are booleans, else only for memory.
+/// Counts the rows that are true; null is not true. Runs and constants take no memory. Refused as `TypeMismatch` unless
+/// the rows are booleans, else only for memory.
 pub fn true_count(alloc: Global, array: &ArrayRef<Global>) -> VortexResult<usize>
     ensures count { IfOk result (λ count. count ≡ true_rows (rows array.now)) }
     ensures refused { IsRefusedBy (mask_fault (dtype_of array.now)) result }

@@ -24,10 +24,10 @@ use runend_commands::compute;
 use std::alloc::Global;
 use typed_columns::TypedColumn;
 
-/// Returns the rows at which the mask is true, with the same format: null selects nothing. A constant stays one: the
+/// Returns the rows at which the mask is true, with the same format; null selects nothing. A constant stays one: the
 /// true rows of the mask are counted. Runs and a mask in few runs are walked together, and no bit of the mask is made.
-/// Refused as `TypeMismatch` unless the mask is of booleans, and then as `MaskLength` where it has not a row for each
-/// row.
+/// Refused as `TypeMismatch` unless the mask is of booleans, and then as `MaskLength` where it is of another number of
+/// rows.
 pub fn filtered(
     alloc: Global,
     session: &Session,
@@ -128,7 +128,7 @@ fn filtered_by_bits(
 
 /// Returns the row at each index, null at a null index, with the column's format. Refused as `TypeMismatch` unless the
 /// indices are integers, and then as `OutOfBounds`, with the index and the number of rows, at the first that is
-/// negative or of no row.
+/// negative or not below the number of rows.
 pub fn taken(
     alloc: Global,
     session: &Session,
@@ -171,7 +171,7 @@ fn rows_at(
 
 /// Returns the dictionary's row for each code, null for null, with the dictionary's format. Refused as `TypeMismatch`
 /// unless the codes are integers, and then as `OutOfBounds`, with the code and the dictionary's rows, at the first that
-/// is negative or of no row.
+/// is negative or not below the number of rows.
 pub fn looked_up(
     alloc: Global,
     session: &Session,
@@ -206,8 +206,9 @@ fn rows_of_codes(
     Ok(taken)
 }
 
-/// Returns whether the operator holds of each row and the row of `right` beside it, null where either is. Refused as
-/// `Unsupported` for lists, then as `TypeMismatch` for two kinds, then as `ColumnLength` for two numbers of rows.
+/// Returns whether the operator holds of each row and the row of `right` at the same place, null where either is null.
+/// Refused as `Unsupported` for lists, then as `TypeMismatch` for two kinds, then as `ColumnLength` for two numbers of
+/// rows.
 #[tactic(auto, using(crate::proofs::TwoColumns::compare_left))]
 pub fn compared(
     alloc: Global,

@@ -1,5 +1,5 @@
 //! Windows of rows of columns in any form. A flat column is read where it lies, by `rows` and `text_rows`, which takes
-//! no memory; rows in any other form are written flat first, these rows alone.
+//! no memory; of any other form only these rows are written flat first.
 ghost use Rattle.std.specs.Prelude.{◌≡◌, ◌+◌, ◌-◌, ◌^◌, ◌<◌, ◌≤◌, cond, length, map, IfOk, IsOkUnless, None, Some, OnErr};
 ghost use Rattle.column_core.specs.FlatColumn.{leaf_of};
 ghost use Rattle.column_core.specs.Kinds.{list_fault};
@@ -20,9 +20,9 @@ use column_core::{
 use runend_array::{ArrayRef, Canonical};
 use std::alloc::Global;
 
-/// Returns the numbers of the rows from `start` on, as many as there are `items`; under null of rows that are not flat
-/// any number. Refused as `Unsupported` unless they are integers, as `TypeMismatch` for another type of them, as
-/// `BadRange` where the rows do not reach, and for memory unless the column is flat.
+/// Writes the numbers of the rows from `start` on, as many as there are `items`; under null of a column that is not
+/// flat any number may be written. Refused as `Unsupported` unless they are integers, as `TypeMismatch` for another
+/// type of them, as `BadRange` where there are fewer rows, and for memory unless the column is flat.
 #[tactic(auto, using(crate::proofs::FlatParts::flat_numbers, crate::proofs::FlatParts::flat_numbers_refused, crate::proofs::FlatParts::other_numbers, crate::proofs::FlatParts::other_numbers_refused))]
 pub fn read_numbers<T: NativePType>(
     alloc: Global,
@@ -42,8 +42,8 @@ pub fn read_numbers<T: NativePType>(
     }
 }
 
-/// Returns the decimals of the rows from `start` on, as many as there are `pairs`. Refused as `Unsupported` unless they
-/// are decimals, as `BadRange` where the rows do not reach, and for memory unless the column is flat.
+/// Writes the decimals of the rows from `start` on, as many as there are `pairs`. Refused as `Unsupported` unless they
+/// are decimals, as `BadRange` where there are fewer rows, and for memory unless the column is flat.
 #[tactic(auto, using(crate::proofs::FlatParts::flat_pairs, crate::proofs::FlatParts::flat_pairs_refused, crate::proofs::FlatParts::other_pairs, crate::proofs::FlatParts::other_pairs_refused))]
 pub fn read_decimals(
     alloc: Global,
@@ -63,8 +63,8 @@ pub fn read_decimals(
     }
 }
 
-/// Returns the booleans of `count` rows from `start` on, 64 to a word. Refused as `Unsupported` unless they are
-/// booleans, as `BadRange` where the rows do not reach, as `ColumnLength` for another number of words, and for memory.
+/// Writes the booleans of `count` rows from `start` on, 64 to a word. Refused as `Unsupported` unless they are
+/// booleans, as `BadRange` where there are fewer rows, as `ColumnLength` for another number of words, and for memory.
 #[tactic(auto, using(crate::proofs::FlatParts::truths_are_single, crate::proofs::FlatParts::or_first, crate::proofs::FlatParts::or_second, crate::proofs::FlatParts::accepted, crate::proofs::FlatParts::read_flat, crate::proofs::FlatParts::never, crate::proofs::FlatParts::truths_there))]
 pub fn read_booleans(
     alloc: Global,
@@ -87,8 +87,8 @@ pub fn read_booleans(
     read
 }
 
-/// Returns a bit for each of `count` rows from `start` on, 64 to a word: whether it is valid. Refused as `Unsupported`
-/// for lists, as `BadRange` where the rows do not reach, as `ColumnLength` for another number of words, and for memory.
+/// Writes a bit for each of `count` rows from `start` on, 64 to a word: whether it is valid. Refused as `Unsupported`
+/// for lists, as `BadRange` where there are fewer rows, as `ColumnLength` for another number of words, and for memory.
 #[tactic(auto, using(crate::proofs::FlatParts::or_first, crate::proofs::FlatParts::or_second, crate::proofs::FlatParts::accepted, crate::proofs::FlatParts::read_flat, crate::proofs::FlatParts::never))]
 pub fn read_validity(
     alloc: Global,
@@ -111,10 +111,10 @@ pub fn read_validity(
     read
 }
 
-/// Returns the offsets of the texts or bytes of the rows from `start` on: one more than rows, the first is 0, and the
-/// last is how many bytes these rows have. Refused as `Unsupported` unless they are texts or bytes, as `BadRange` where
-/// there is no offset or the rows do not reach, as `CastOutOfRange` where the type has no such offset, and for memory
-/// unless the column is flat.
+/// Writes the offsets of the texts or bytes of the rows from `start` on: one more than there are rows, the first of
+/// them 0, and the last the number of bytes of these rows. Refused as `Unsupported` unless they are texts or bytes, as
+/// `BadRange` where `offsets` is empty or there are fewer rows, as `CastOutOfRange` where an offset does not fit the
+/// type, and for memory unless the column is flat.
 #[tactic(auto, using(crate::proofs::FlatParts::flat_offsets, crate::proofs::FlatParts::flat_offsets_refused, crate::proofs::FlatParts::other_offsets, crate::proofs::FlatParts::other_offsets_refused))]
 pub fn read_offsets<T: NativePType>(
     alloc: Global,
@@ -134,9 +134,9 @@ pub fn read_offsets<T: NativePType>(
     }
 }
 
-/// Returns the bytes of `count` texts or bytes from row `start` on, one after the other. Refused as `Unsupported`
-/// unless they are texts or bytes, as `BadRange` where the rows do not reach, as `ColumnLength`, with their number and
-/// the room, unless the room is for just these bytes, and for memory unless the column is flat.
+/// Writes the bytes of `count` texts or bytes from row `start` on, one after the other. Refused as `Unsupported` unless
+/// they are texts or bytes, as `BadRange` where there are fewer rows, as `ColumnLength`, with their number and the
+/// room, unless the room is exactly for these bytes, and for memory unless the column is flat.
 #[tactic(auto, using(crate::proofs::FlatParts::flat_bytes, crate::proofs::FlatParts::flat_bytes_refused, crate::proofs::FlatParts::other_bytes, crate::proofs::FlatParts::other_bytes_refused))]
 pub fn read_bytes(
     alloc: Global,
@@ -157,7 +157,7 @@ pub fn read_bytes(
     }
 }
 
-/// Returns the bits of all booleans that a flat column stores, 64 to a word. Refused as `Unsupported` where it is not a
+/// Writes the bits of all booleans that a flat column stores, 64 to a word. Refused as `Unsupported` unless it is a
 /// flat column of booleans, and as `ColumnLength` for another number of words.
 pub fn read_all_booleans(array: &ArrayRef<Global>, words: &mut [u64]) -> VortexResult<()>
     ensures words { IfOk result (λ _. AreTruthWords (column_of array.now) words.new) }
@@ -171,8 +171,8 @@ pub fn read_all_booleans(array: &ArrayRef<Global>, words: &mut [u64]) -> VortexR
     }
 }
 
-/// Returns a bit for each row of a flat column, 64 to a word: whether it is valid. Refused as `Unsupported` where the
-/// column is not flat, and as `ColumnLength` for another number of words.
+/// Writes a bit for each row of a flat column, 64 to a word: whether it is valid. Refused as `Unsupported` unless the
+/// column is flat, and as `ColumnLength` for another number of words.
 pub fn read_all_validity(array: &ArrayRef<Global>, words: &mut [u64]) -> VortexResult<()>
     ensures words { IfOk result (λ _. AreValidityWords (column_of array.now) words.new) }
     ensures refused { IsRefusedOnlyBy (flags_fault (length words.old) (column_of array.now)) result }
@@ -288,7 +288,7 @@ fn read_other_bytes(
     read
 }
 
-// `count` rows from `start` on, which are there and are no lists, written flat. Refused only for memory.
+// `count` rows from `start` on, which are there and are not lists, written flat. Refused only for memory.
 #[tactic(auto, using(crate::proofs::FlatParts::no_lists, crate::proofs::FlatParts::part_length))]
 fn flat_part(
     alloc: Global,

@@ -7,8 +7,8 @@ ghost use Rattle.c_columns.specs.ReadFaults.{IsRefusedOnlyBy, past_fault, room_f
 use column_core::{BitBuffer, VortexError, VortexResult};
 use std::alloc::Global;
 
-/// Returns whether there are so many rows from `start` on. Else refused as `BadRange`, with the stop wanted, 2^64 - 1
-/// where no `usize` has it.
+/// Tests that there are `count` rows from `start` on. Refused as `BadRange`, with the stop that is asked for, or 2^64 -
+/// 1 where that does not fit `usize`.
 pub fn check_range(start: usize, count: usize, length: usize) -> VortexResult<()>
     ensures there { IfOk result (λ _. start + count ≤ length) }
     ensures refused { IsRefusedOnlyBy (past_fault start count length) result }
@@ -23,7 +23,8 @@ pub fn check_range(start: usize, count: usize, length: usize) -> VortexResult<()
     Ok(())
 }
 
-/// Returns whether there is room for just so many. Else refused as `ColumnLength`, with their number and the room.
+/// Tests that the room is exactly what is needed. Refused as `ColumnLength`, with the number that is needed and the
+/// room.
 pub fn check_room(needed: usize, room: usize) -> VortexResult<()>
     ensures there { IfOk result (λ _. needed ≡ room) }
     ensures refused { IsRefusedOnlyBy (room_fault needed room) result }

@@ -15,12 +15,12 @@ use Rattle.c_columns.specs.declared.error_fields.ErrorFields.{ErrorFields}
 abbrev Held : Type 0
 Held = Option (ArrayRef Global)
 
--- the rows that a mask chooses, in runs, as few as possible, or in a constant where all three columns are constants
+-- the rows that a mask chooses, in the least number of runs, or in a constant where all three columns are constants
 abbrev pub IsChosen : ArrayRef Global → ArrayRef Global → ArrayRef Global → ArrayRef Global → Type 0
 IsChosen mask left right made =
     IsAnswerColumn (is_constant (column_of mask) && are_constant (column_of left) (column_of right)) (chosen_rows (rows mask) (rows left) (rows right)) (with_nullability (dtype_of right) Nullable) (column_of made)
 
--- the same of what handles hold
+-- the columns of handles are chosen rows in this way
 abbrev pub AreChosenOf : Held → Held → Held → Held → Type 0
 AreChosenOf (Some mask) (Some left) (Some right) (Some made) = IsChosen mask left right made
 AreChosenOf mask left right made = ⊥

@@ -25,7 +25,7 @@ use Rattle.c_kernels.specs.DecimalPairs.{decimal_pair_fault, AreDecimalsCombined
 use Rattle.c_kernels.specs.declared.operators.PairOperator.{PairOperator}
 use Rattle.c_kernels.specs.declared.operators.PairOperator.TheVariants.{Compare, Calculate, Connect, Coalesce, Least, Greatest}
 
--- the operator of a number, from 0 to 13: comparisons have the numbers that they have where they are all that is asked
+-- the operator of a number, from 0 to 13: comparisons have the numbers that they have in the call for comparisons
 abbrev pub operator_numbered : ℕ → Option PairOperator
 operator_numbered zero = Some (Compare Eq)
 operator_numbered (suc zero) = Some (Compare NotEq)
@@ -43,7 +43,7 @@ operator_numbered (suc (suc (suc (suc (suc (suc (suc (suc (suc (suc (suc (suc ze
 operator_numbered (suc (suc (suc (suc (suc (suc (suc (suc (suc (suc (suc (suc (suc zero))))))))))))) = Some Greatest
 operator_numbered (suc (suc (suc (suc (suc (suc (suc (suc (suc (suc (suc (suc (suc (suc k)))))))))))))) = None
 
--- what is answered of the two rows at each place, in runs, as few as possible, or in a constant where both are constants
+-- the answers for the two rows at each place, in the least number of runs, or in a constant where both are constants
 abbrev pub AreAnswers : (Option Value → Option Value → Option Value) → (DType → DType → DType) → ArrayRef Global → ArrayRef Global → ArrayRef Global → Type 0
 AreAnswers answer dtype left right made =
     IsAnswerColumn (are_constant (column_of left) (column_of right)) (zip_rows answer (rows left) (rows right)) (dtype (dtype_of left) (dtype_of right)) (column_of made)
@@ -88,7 +88,7 @@ abbrev pub row_without : PairOperator → ArrayRef Global → ArrayRef Global �
 row_without (Calculate operator) left right row = IsFirstLarge operator (are_decimals (dtype_of left) (dtype_of right)) left right row
 row_without operator left right row = ⊥
 
--- refused by the fault where there is one, else by such a row where there is one, and else for memory only
+-- refused by the fault where there is one, else by such a row where there is one, and else only for memory
 abbrev pub IsPairRefusal : Option VortexError → (ℕ → Type 0) → ZipError → Type 0
 IsPairRefusal fault without (Refused error) = (error ≡ OutOfMemory) ⊎ (fault ≡ Some error)
 IsPairRefusal fault without (Overflow row) = (fault ≡ None) × without row

@@ -17,7 +17,7 @@ decimal_answers operator left right = zip_rows (decimal_numeric_of operator) (ro
 abbrev pub HasDecimalAnswer : NumericOperator → ArrayRef Global → ArrayRef Global → Option Value → Type 0
 HasDecimalAnswer operator left right answer = IsDecimalOrNull (answer_digits operator (dtype_of left) (dtype_of right)) answer
 
--- the answers in runs, as few as possible, or in a constant where both columns are constants; the type has each
+-- the answers in the least number of runs, or in a constant where both columns are constants; the type has each
 pub record AreDecimalsCombined (operator : NumericOperator) (left right made : ArrayRef Global) : Type 0 where
   pub answers : IsAnswerColumn (are_constant (column_of left) (column_of right)) (decimal_answers operator left right) (decimal_numeric_dtype operator (dtype_of left) (dtype_of right)) (column_of made)
   pub within : AllHave (HasDecimalAnswer operator left right) (decimal_answers operator left right)

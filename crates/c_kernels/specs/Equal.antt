@@ -7,7 +7,7 @@ use Rattle.runend_array.specs.Array.{dtype_of, rows}
 use Rattle.runend_array.specs.declared.array_ref.ArrayRef.{ArrayRef}
 use Rattle.runend_pairs.specs.Faults.{equality_fault}
 
--- of one type, but for null, and the same rows
+-- two columns of one type, except for nullability, with the same rows
 pub record AreEqual (c d : ArrayRef Global) : Type 0 where
   pub kind : same_kind (dtype_of c) (dtype_of d) ≡ true
   pub rows : rows c ≡ rows d

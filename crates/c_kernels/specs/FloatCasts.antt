@@ -55,7 +55,7 @@ pub record AreCast (Casts : Becoming) (target : PType) (given made : ArrayRef Gl
   pub cast : AreCastRuns Casts (rows given) (column.Primitive target (nullability_of (dtype_of given))) runs
   pub is : column_of made ≡ column_of_runs runs
 
--- the same of what the three casts make
+-- what the three casts make: the run column that encodes what the rows become
 abbrev pub AreFloatsCast : Bool → FloatFormat → ArrayRef Global → ArrayRef Global → Type 0
 AreFloatsCast is_rounded g floats made = AreCast (FloatBecomes is_rounded (format_of (dtype_of floats)) g) (keys_of_format g) floats made
 

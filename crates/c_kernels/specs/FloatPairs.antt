@@ -18,8 +18,8 @@ abbrev pub float_operator_numbered : ℕ → Option FloatOperator
 float_operator_numbered number =
     if number == 6 then Some Add else (if number == 7 then Some Subtract else (if number == 8 then Some Multiply else (if number == 14 then Some Divide else None)))
 
--- what the operator gives of the two floats at each place, in runs, as few as possible, or in a constant where both are
--- constants
+-- what the operator gives for the two floats at each place, in the least number of runs, or in a constant where both
+-- are constants
 abbrev pub AreFloatsCombined : FloatOperator → ArrayRef Global → ArrayRef Global → ArrayRef Global → Type 0
 AreFloatsCombined operator left right made =
     IsAnswerColumn (are_constant (column_of left) (column_of right)) (zip_rows (float_numeric_of operator (format_of (dtype_of left))) (rows left) (rows right)) (numeric_dtype (dtype_of left) (dtype_of right)) (column_of made)

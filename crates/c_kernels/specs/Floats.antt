@@ -91,7 +91,7 @@ pub record IsSumShown (floats : ArrayRef Global) (count bits : ℕ) : Type 0 whe
   pub counted : count ≡ (tally_in floats).rows
   pub rounded : IsRoundedSum (tally_in floats) bits
 
--- of a column that a row is asked of
+-- the fault of a look-up of a row
 abbrev pub look_up_fault : ℕ → ArrayRef Global → Option VortexError
 look_up_fault row floats = option_or (floats_fault (dtype_of floats)) (row_fault row (length (rows floats)))
 
@@ -105,7 +105,7 @@ abbrev pub EndsOnFloats : (DType → Option VortexError) → Option (ArrayRef Gl
 EndsOnFloats fault None code fields = code ≡ pos 22
 EndsOnFloats fault (Some c) code fields = EndsFirstBy (fault (dtype_of c)) code fields
 
--- the same of a look-up, which takes no memory
+-- how a look-up of a row ends, which takes no memory: with 22 where the handle is empty
 abbrev pub EndsOnLookUp : ℕ → Option (ArrayRef Global) → ℤ → ErrorFields → Type 0
 EndsOnLookUp row None code fields = code ≡ pos 22
 EndsOnLookUp row (Some c) code fields = EndsOnlyBy (look_up_fault row c) code fields

@@ -43,7 +43,7 @@ answer_format Greatest format = format
 answer_format First format = format
 answer_format Last format = format
 
--- two flat columns: the keys of the groups of rows with equal neighbouring keys, and what is answered of each
+-- two flat columns: the keys of the groups of rows with equal neighbouring keys, and the answer for each
 pub record AreGroups (fold : GroupFold) (keys values made_keys made_answers : ArrayRef Global) : Type 0 where
   pub ends : List ℕ
   pub leaf : Leaf
@@ -57,7 +57,7 @@ pub record AreGroups (fold : GroupFold) (keys values made_keys made_answers : Ar
   pub dtype : primitive_dtype numbers ≡ column.Primitive (answer_ptype fold (dtype_of values)) Nullable
   pub computed : IsComputed numbers
 
--- the same of what handles hold
+-- the columns of handles are groups in this way
 abbrev pub AreMade : GroupFold → Option (ArrayRef Global) → Option (ArrayRef Global) → Option (ArrayRef Global) → Option (ArrayRef Global) → Type 0
 AreMade fold (Some keys) (Some values) (Some made_keys) (Some made_answers) = AreGroups fold keys values made_keys made_answers
 AreMade fold keys values made_keys made_answers = ⊥

@@ -11,13 +11,13 @@ use Rattle.runend_sorts.specs.Reordered.{IsInNewOrder}
 use Rattle.c_columns.specs.declared.error_fields.ErrorFields.{ErrorFields}
 use Rattle.c_kernels.specs.Floats.{EndsOnFloats}
 
--- the rows of the first column in reverse order, of its type: a constant as it is, else runs, as few as possible
+-- the rows of the first column in reverse order, of its type: a constant as it is, else the least number of runs
 pub record AreReversed (column made : ArrayRef Global) : Type 0 where
   pub shown : rows made ≡ reverse (rows column)
   pub typed : dtype_of made ≡ dtype_of column
   pub form : IsInNewOrder (column_of column) (reverse (rows column)) (column_of made)
 
--- the rows of the first column in order, null first, of its type: a constant as it is, else runs, as few as possible
+-- the rows of the first column in order, null first, of its type: a constant as it is, else the least number of runs
 pub record AreSorted (column made : ArrayRef Global) : Type 0 where
   pub permutation : IsPermutation (rows column) (rows made)
   pub ordered : IsInOrder (rows made)

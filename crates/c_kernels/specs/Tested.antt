@@ -17,7 +17,7 @@ use Rattle.c_columns.specs.declared.error_fields.ErrorFields.{ErrorFields}
 use Rattle.c_kernels.specs.declared.tested.RowTest.{RowTest}
 use Rattle.c_kernels.specs.declared.tested.RowTest.TheVariants.{Not, Null, Valid}
 
--- the answer of a row
+-- the answer for a row
 abbrev pub test_answer : RowTest → Option Value → Option Value
 test_answer Not = negated
 test_answer Null = null_test
@@ -28,7 +28,7 @@ abbrev pub test_dtype : RowTest → DType → DType
 test_dtype Not dtype = dtype
 test_dtype test dtype = column.Bool NonNullable
 
--- the answers for the rows of a column, in runs, as few as possible, or in a constant where it is one
+-- the answers for the rows of a column, in the least number of runs, or in a constant where the column is one
 abbrev pub IsTested : RowTest → ArrayRef Global → ArrayRef Global → Type 0
 IsTested test c made = IsAnswerColumn (is_constant (column_of c)) (map (test_answer test) (rows c)) (test_dtype test (dtype_of c)) (column_of made)
 

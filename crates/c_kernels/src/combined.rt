@@ -15,8 +15,8 @@ use runend_pairs::{
 };
 use std::alloc::Global;
 
-/// Returns what the operator answers of the two rows at each place: a constant where both columns are constants that
-/// have a row, else runs, as few as possible. Refused as the operations of `runend_pairs` refuse, and for memory.
+/// Returns what the operator answers for the two rows at each place: a constant where both columns are constants and
+/// have a row, else the least number of runs. Refused as the operations of `runend_pairs` refuse, and for memory.
 pub fn combine(
     alloc: Global,
     left: &ArrayRef<Global>,

@@ -13,7 +13,7 @@ use runend_sorts::{ValueCounts, value_counts};
 use std::alloc::Global;
 use typed_columns::TypedColumn;
 
-/// Holds the distinct rows of a column and how many rows each of them is, as two columns on the heap.
+/// Holds the distinct rows of a column, and how many rows are equal to each, as two columns on the heap.
 #[derive(Drop)]
 pub struct BoxedCounts {
     pub values: Boxed,

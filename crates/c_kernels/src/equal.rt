@@ -15,8 +15,8 @@ use runend_array::ArrayRef;
 use runend_pairs::equals;
 use std::alloc::Global;
 
-/// Says by 1 or 0 whether two columns are of one type, but for null, and have the same rows, and returns 0. Else
-/// returns the number of an error: 22 for an empty handle, else as `are_equal` is refused.
+/// Writes 1 or 0, whether two columns have the same rows and are of one type except for nullability, and returns 0.
+/// Else returns the number of an error: 22 for an empty handle, else as `are_equal` is refused.
 pub fn equal_handles(
     alloc: Global,
     left: &mut Handle,
@@ -44,8 +44,8 @@ pub fn equal_handles(
     write_answer(outcome, truth, error)
 }
 
-/// Returns by 1 or 0 whether two columns are of one type, but for null, and have the same rows, null equal to null.
-/// Refused as `Unsupported` for two columns of lists of one type, and for memory.
+/// Returns 1 or 0, whether two columns have the same rows, null being equal to null, and are of one type except for
+/// nullability. Refused as `Unsupported` for two columns of lists of one type, and for memory.
 pub fn are_equal(
     alloc: Global,
     left: &ArrayRef<Global>,

@@ -33,7 +33,8 @@ pub(crate) fn write_float(
     }
 }
 
-/// Writes 1 and both, or 0 three times where no row counts, and returns 0; else as `write_float`.
+/// Writes 1 and both, or 0 three times where no row counts, and returns 0; else the number of a refusal, whose fields
+/// are written.
 pub(crate) fn write_extremes(
     outcome: VortexResult<Option<FloatExtremes>>,
     is_found: &mut u8,
@@ -64,7 +65,7 @@ pub(crate) fn write_extremes(
     }
 }
 
-/// Writes the number of rows and the sum, and returns 0; else as `write_float`.
+/// Writes the number of rows and the sum, and returns 0; else the number of a refusal, whose fields are written.
 pub(crate) fn write_sum(
     outcome: VortexResult<RoundedSum>,
     count: &mut u64,

@@ -17,9 +17,9 @@ use c_columns::kinds::{is_set, operator_by};
 use column_ops::CompareOperator;
 use std::alloc::Global;
 
-/// Puts the floats with the bits that the rows of a column are into a handle, as the run column of their keys, and
-/// returns 0; where `is_canonical` is not 0, by one pattern for each value. Else returns the number of an error, and
-/// leaves the handle: 22 for an empty one, then as `encoded` is refused.
+/// Puts the floats whose bits the rows of a column are into a handle, as the run column of their keys, with one pattern
+/// for each value where `is_canonical` is not 0, and returns 0. Else returns the number of an error, and leaves the
+/// handle: 22 for an empty one, then as `encoded` is refused.
 #[tactic(auto, using(crate::proofs::FloatEndings::floats_empty, crate::proofs::FloatEndings::column_ends, crate::proofs::FloatEndings::column_made))]
 pub fn encode_handle(
     alloc: Global,

@@ -15,9 +15,9 @@ use runend_array::{ArrayRef, RunEndArray};
 use runend_floats::{FloatPatterns, compare_numbers, compare_total, decode_floats, encode_floats};
 use std::alloc::Global;
 
-/// Returns the floats with the bits that the rows are, as the run column of their keys; by one pattern for each value
-/// where they are to be canonical. Refused as `TypeMismatch` exactly unless the type is `u16`, `u32` or `u64`, before
-/// any memory is taken, else only as `OutOfMemory`.
+/// Returns the floats whose bits the rows are, as the run column of their keys, with one pattern for each value where
+/// they are to be canonical. Refused as `TypeMismatch` exactly unless the type is `u16`, `u32` or `u64`, before any
+/// memory is taken, else only as `OutOfMemory`.
 #[tactic(auto, using(crate::proofs::FloatEndings::no_bits))]
 pub fn encoded(alloc: Global, bits: &ArrayRef<Global>, is_canonical: bool) -> VortexResult<Boxed>
     ensures made { IfOk result (λ made. AreFloatsOf is_canonical bits.now made.value.array) }
@@ -43,7 +43,7 @@ pub fn decoded(alloc: Global, floats: &ArrayRef<Global>) -> VortexResult<Boxed>
     boxed(alloc, ArrayRef::Primitive(bits))
 }
 
-/// Returns of each float whether it compares so with the one with these bits, in runs: as numbers by IEEE 754, or else
+/// Returns for each float whether it compares so with the one with these bits, in runs: as numbers by IEEE 754, or else
 /// in its total order. Refused as `TypeMismatch` unless the type is `i16`, `i32` or `i64`, then as `CastOutOfRange`
 /// where the format has fewer bits, both before any memory is taken, else only as `OutOfMemory`.
 pub fn compared(

@@ -16,7 +16,7 @@ use runend_array::ArrayRef;
 use runend_pairs::{FloatOperator, float_numeric};
 use std::alloc::Global;
 
-/// Puts what the operator of this number gives of the two floats at each place into a handle, and returns 0. Else
+/// Puts what the operator of this number gives for the two floats at each place into a handle, and returns 0. Else
 /// returns the number of an error, and leaves that handle: 23 for a number that names no operator, then 22 for an empty
 /// handle, and then as `floats_combined` is refused.
 pub fn combine_float_handles(
@@ -56,8 +56,8 @@ pub fn float_operator_by(number: u8) -> Option<FloatOperator>
     }
 }
 
-/// Returns what the operator gives of the two floats at each place: a constant where both columns are constants that
-/// have a row, else runs, as few as possible. Refused as `float_numeric` of `runend_pairs` is, before any memory is
+/// Returns what the operator gives for the two floats at each place: a constant where both columns are constants and
+/// have a row, else the least number of runs. Refused as `float_numeric` of `runend_pairs` is, before any memory is
 /// taken, else only as `OutOfMemory`.
 pub fn floats_combined(
     alloc: Global,

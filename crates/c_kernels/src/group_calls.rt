@@ -43,7 +43,7 @@ pub fn fold_handles(
     }
 }
 
-// The same, of a fold.
+// The same for a fold.
 fn fold_held(
     alloc: Global,
     keys: &mut Handle,

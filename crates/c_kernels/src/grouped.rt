@@ -19,9 +19,9 @@ pub struct BoxedGroups {
     pub answers: Boxed,
 }
 
-/// Returns the keys of the groups of rows with equal neighbouring keys, under the format of the keys, and what is asked
-/// of the values in each, under that of the values where it is one of them. Both are flat. Refused as `fold_by`
-/// refuses, and for memory.
+/// Returns the keys of the groups of rows with equal neighbouring keys, under the format of the keys, and the answer
+/// for the values in each, under the format of the values where the answer is one of them. Both are flat. Refused as
+/// `fold_by` refuses, and for memory.
 pub fn groups_of(
     alloc: Global,
     fold: GroupFold,

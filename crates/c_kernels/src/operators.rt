@@ -5,7 +5,7 @@ ghost use Rattle.c_kernels.specs.Combined.{operator_numbered};
 use column_ops::CompareOperator;
 use runend_pairs::{BooleanOperator, NumericOperator};
 
-/// Says what is answered of the two rows at each place.
+/// Names what is calculated from the two rows at each place.
 #[derive(Debug, Clone, Copy, PartialEq, Eq)]
 pub enum PairOperator {
     /// Compares the rows of two columns of one kind: booleans.
@@ -14,11 +14,11 @@ pub enum PairOperator {
     Calculate(NumericOperator),
     /// Connects booleans, where null is unknown.
     Connect(BooleanOperator),
-    /// Picks the left row, or the right one where that is null.
+    /// Picks the left row, or the right one where the left one is null.
     Coalesce,
-    /// Picks the lesser row, null where either is.
+    /// Picks the lesser row, null where either is null.
     Least,
-    /// Picks the greater row, null where either is.
+    /// Picks the greater row, null where either is null.
     Greatest,
 }
 

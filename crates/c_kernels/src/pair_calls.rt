@@ -14,7 +14,7 @@ use column_core::VortexError;
 use runend_pairs::ZipError;
 use std::alloc::Global;
 
-/// Puts what the operator of this number answers of the two rows at each place into a handle, and returns 0. Else
+/// Puts what the operator of this number answers for the two rows at each place into a handle, and returns 0. Else
 /// returns the number of an error, and leaves that handle: 23 for a number that names no operator, then 22 for an empty
 /// handle, and then as `combine` is refused, with 14 and the row in the first field for an integer or a decimal that
 /// the type of the answers does not have.
@@ -42,7 +42,7 @@ pub fn combine_handles(
     }
 }
 
-// The same, of an operator.
+// The same for an operator.
 fn combine_held(
     alloc: Global,
     left: &mut Handle,

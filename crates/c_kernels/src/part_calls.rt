@@ -26,7 +26,7 @@ pub struct PartPairs {
 }
 
 /// Writes what the rows of the column of a handle add to a sum, and returns 0: their total, and the least and the
-/// greatest sum on the way, one of which is the 0 before the first row. Else returns the number of an error, and writes
+/// greatest partial sum, one of which is the 0 before the first row. Else returns the number of an error, and writes
 /// none of them: 22 for an empty handle, then as `part_pairs` is refused.
 #[tactic(auto, using(crate::proofs::PartEndings::parts_empty, crate::proofs::PartEndings::parts_ends, crate::proofs::PartEndings::parts_shown))]
 pub fn sum_parts_in_handle(
@@ -53,7 +53,7 @@ pub fn sum_parts_in_handle(
     write_parts(outcome, total, least, greatest, error)
 }
 
-/// Returns how many rows of the column of a handle are null; 0 of no column. Takes no memory.
+/// Returns how many rows of the column of a handle are null; 0 for an empty handle. Takes no memory.
 pub fn nulls_in_handle(alloc: Global, column: &mut Handle) -> usize
     ensures same { column.new.column ≡ column.old.column }
     ensures counted { MatchOption (array_in column.old.column) (result ≡ 0) (λ c. result ≡ null_rows (rows c)) }

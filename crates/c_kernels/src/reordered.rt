@@ -13,8 +13,8 @@ use runend_sorts::{reverse, sort};
 use std::alloc::Global;
 use typed_columns::TypedColumn;
 
-/// Returns the rows in reverse order, under the same format: a constant stays one, and any other column becomes runs,
-/// as few as possible. Refused as `Unsupported` exactly for lists, before any memory is taken, else only as
+/// Returns the rows in reverse order, under the same format: a constant stays one, and any other column becomes the
+/// least number of runs. Refused as `Unsupported` exactly for lists, before any memory is taken, else only as
 /// `OutOfMemory`.
 pub fn reversed(alloc: Global, column: &TypedColumn<Global>) -> VortexResult<Boxed>
     ensures made { IfOk result (λ made. AreReversed column.now.array made.value.array) }

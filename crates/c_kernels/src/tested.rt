@@ -16,7 +16,7 @@ use runend_array::ArrayRef;
 use runend_pairs::{is_null, is_valid, not};
 use std::alloc::Global;
 
-/// Says what is answered of each row.
+/// Names what is answered for each row.
 #[derive(Debug, Clone, Copy, PartialEq, Eq)]
 pub enum RowTest {
     /// Answers the other boolean, null for null.
@@ -27,7 +27,7 @@ pub enum RowTest {
     Valid,
 }
 
-/// Puts what is answered of each row into a handle, and returns 0. Else returns the number of an error, and leaves that
+/// Puts the answer for each row into a handle, and returns 0. Else returns the number of an error, and leaves that
 /// handle: 22 for an empty handle, else as `tested` is refused.
 pub fn test_handle(
     alloc: Global,
@@ -50,8 +50,8 @@ pub fn test_handle(
     answer(outcome, out, error)
 }
 
-/// Returns what is answered of each row: a constant where the column is one that has a row, else runs, as few as
-/// possible. Refused as `Unsupported` unless the rows are booleans, of a test for null exactly for lists, and for
+/// Returns the answer for each row: a constant where the column is a constant and has a row, else the least number of
+/// runs. Refused as `Unsupported` unless the rows are booleans, or, by a test for null, exactly for lists, and for
 /// memory.
 pub fn tested(alloc: Global, array: &ArrayRef<Global>, test: RowTest) -> VortexResult<Boxed>
     ensures made { IfOk result (λ made. IsTested test array.now made.value.array) }

@@ -69,7 +69,7 @@ pub All-true : (bits : List Bool) → count_by (λ b. b) bits ≡ length bits �
 All-true bits h =
     All-same (λ b. b ≡ true) bits (replicate (length bits) true) (sym (all_set bits h)) (All-replicate (λ b. b ≡ true) (length bits) true refl)
 
--- a place that was just set is a true bit, and stands in the list of places
+-- a place that was just set is a true bit, and is in the list of places
 selected_here : (bits : List Bool) (places : List ℕ) (i k : ℕ) → i < length bits → k ≡ i → (get_or (set bits i true) k false ≡ true) ↔ Contains (places ++ i ∷ []) k
 selected_here bits places i k within same =
     (λ _. rw same (Contains-push places i), λ _. rw same (get_or-set_same bits i true false within))

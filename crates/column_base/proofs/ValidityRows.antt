@@ -20,7 +20,7 @@ slice_get-replicate n i b h =
 pub copy_at : (n i : ℕ) (b : Bool) → i < length (replicate n b) → slice_get (replicate n b) i ≡ Some b
 copy_at n i b h = slice_get-replicate n i b (subst (λ (k : ℕ). i < k) (length-replicate n b) h)
 
--- the flag of a row that it speaks of stands at that row
+-- the flag of a row that it has is at that row
 pub flags-at : (form : ValidityForm) (n i : ℕ) → HasLength form n → i < n → slice_get (flags form n) i ≡ Some (flag_at form i)
 flags-at NeverNull n i fits h = slice_get-replicate n i true h
 flags-at NoneNull n i fits h = slice_get-replicate n i true h

@@ -34,7 +34,7 @@ IsWordOf-push w v j bits b long within from of i =
     (cases_lt i j))
     (cases_eq i j))
 
--- a word more, of up to 64 bits, behind whole words
+-- a word more, of up to 64 bits, after whole words
 pub bits_push : (words : List ℕ) (w k n : ℕ) (bits more : List Bool) → k ≡ length words → n ≡ k * 64 + length more → length more ≤ 64 → first_bits (k * 64) words ≡ bits → IsWordOf w more
     → first_bits n (words ++ w ∷ []) ≡ bits ++ more
 bits_push words w k n bits more all count within told of =

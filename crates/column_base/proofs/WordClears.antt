@@ -1,4 +1,4 @@
--- Packed bits behind which the last word is cleared.
+-- Packed bits after which the last word is cleared.
 use Rattle.std.proofs.Common.{◌≡◌, ◌≢◌, ◌+◌, ◌-◌, ◌*◌, ◌/◌, ◌%◌, ◌^◌, ◌<◌, ◌≤◌, ◌∙◌, ℕ, List, Bool, false, length, set, Vec, refl, sym, ap, arith, get_or, bit_and, length-set, take, length-take, ⊎_elim}
 use Rattle.std.specs.Vec.{with_items}
 use Rattle.std.proofs.lemmas.Bool.{cases_eq, cases_lt}
@@ -43,7 +43,7 @@ IsClearedFrom-masked words n mask least part is = rw is (record {
   after = λ i h. cleared_after words n i least part h;
 })
 
--- where the last word is full, there is nothing behind it
+-- where the last word is full, there is nothing after it
 pub IsClearedFrom-full : (words : List ℕ) (n : ℕ) → length words ≡ (n + 63) / 64 → n % 64 ≡ 0 → IsClearedFrom words words n
 IsClearedFrom-full words n least full = record { len = refl; before = λ i h. refl; after = λ i h. digit_past words i (omega arith) }
 

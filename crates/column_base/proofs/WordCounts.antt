@@ -140,7 +140,7 @@ part_fits words m n fits i = ⊎_elim
 sum_of_digits-le : (words : List ℕ) (a n : ℕ) → sum_from (digit_at words) a n ≤ n
 sum_of_digits-le words a n = sum_from-le (digit_at words) a n (digit_at-le words)
 
--- the 1s of all words are the true bits, since there is none behind the last bit; the count fits a word
+-- the 1s of all words are the true bits, since there is none after the last bit; the count fits a word
 pub true_count_of : {n : ℕ} {words : List ℕ} {bits : List Bool} (items : List ℕ) → Holds n words bits → items ≡ words → ((i : ℕ) → Fits w64 (get_or items i 0))
     → sum_by count_ones items ≡ count_by (λ b. b) bits
 true_count_of {n} {words} {bits} items holds same fits =

@@ -52,12 +52,12 @@ view_of {n} {words} {bits} holds = first_bits_packed n words bits holds.packs ho
 pub invariant_of : {n : ℕ} {words : List ℕ} {bits : List Bool} → Holds n words bits → Packs words (first_bits n words)
 invariant_of holds = rw (view_of holds) holds.packs
 
--- a digit, by the word that it stands in
+-- a digit, by the word that it is in
 pub digit_in_word : (words : List ℕ) (k i : ℕ) → i / 64 ≡ k → digit_at words i ≡ bit_at (get_or words k 0) (i % 64)
 unfolding digit_at
 digit_in_word words k i same = ap (λ j. bit_at (get_or words j 0) (i % 64)) same
 
--- past the last word there is no 1
+-- past the last word all digits are 0
 pub digit_past : (words : List ℕ) (i : ℕ) → length words * 64 ≤ i → digit_at words i ≡ 0
 unfolding digit_at
 digit_past words i past =
@@ -73,7 +73,7 @@ pub digit_set_other : (words : List ℕ) (k w i : ℕ) → i / 64 ≢ k → digi
 unfolding digit_at
 digit_set_other words k w i other = ap (λ v. bit_at v (i % 64)) (get_or-set_other words k (i / 64) w 0 other)
 
--- a digit of words with more words behind them
+-- a digit of words with more words after them
 pub digit_left : (words more : List ℕ) (i : ℕ) → i / 64 < length words → digit_at (words ++ more) i ≡ digit_at words i
 unfolding digit_at
 digit_left words more i within = ap (λ v. bit_at v (i % 64)) (get_or_append_left words more 0 (i / 64) within)
@@ -109,7 +109,7 @@ pub digit_at-le : (words : List ℕ) (i : ℕ) → digit_at words i ≤ 1
 unfolding digit_at
 digit_at-le words i = omega (arith, bit_at-lt (get_or words (i / 64) 0) (i % 64))
 
--- past the last bit of a list there is no 1
+-- past the last bit of a list all digits are 0
 pub one_if_past : (bits : List Bool) (i : ℕ) → length bits ≤ i → one_if (get_or bits i false) ≡ 0
 one_if_past bits i h = ap one_if (get_or_past bits i false h)
 
@@ -121,7 +121,7 @@ Packs-none words none = rw none (record { least = refl; digit = λ i. digit_past
 pub Holds-none : (words : List ℕ) → words ≡ [] → Holds 0 words []
 Holds-none words none = record { packs = Packs-none words none; len = refl }
 
--- the length tells whether there is no bit
+-- the length says whether the list of bits is empty
 pub empty_if_none : (n : ℕ) (bits : List Bool) → length bits ≡ n → (IsTrue (eqb n 0)) ↔ (bits ≡ [])
 empty_if_none n [] same = (λ _. refl, λ _. rw (← same) refl)
 empty_if_none n (b ∷ bits) same = (λ h. absurd (omega (arith, eqb-true n 0 h)), λ h. absurd (omega (arith, ap length h)))

@@ -144,7 +144,8 @@ resized-length {n} {words} {bits} k w m resized holds same enough =
     let least = holds.packs.least in
     omega (arith, ap length same, length-append words (replicate (k - length words) w), length-replicate (k - length words) w, holds.len)
 
--- a buffer with m bits more: the last word filled up, words of the same bit, and the last of these cleared behind the end
+-- a buffer with m bits more: the last word filled up, words of the same bit, and the last of these cleared after the
+-- end
 pub grown_by : {n : ℕ} {words resized filled more : List ℕ} {bits : List Bool} {b : Bool} (k w m : ℕ) → Holds n words bits → resized ≡ words ++ replicate (k - length words) w → k ≡ (n + m + 63) / 64
     → ((j : ℕ) → j < 64 → bit_at w j ≡ one_if b) → IsFilled resized filled n ((n + 63) / 64 * 64) b → IsClearedFrom filled more (n + m)
     → Holds (n + m) more (bits ++ replicate m b)

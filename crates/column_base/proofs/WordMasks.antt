@@ -13,7 +13,7 @@ bit_at-shifted w low i = ap (λ x. x % 2) (shr-shr w low i)
 pub bit_at-cut : (w n i : ℕ) → i < n → bit_at (w % 2 ^ n) i ≡ bit_at w i
 bit_at-cut w n i h = rw (← and_mask w n) (bit_at_and w (2 ^ n - 1) i ∙ omega (arith, bit_at_ones n i h, bit_at-lt w i))
 
--- where a digit stands to a range
+-- the place of a digit relative to a range
 pub between_in : (low high j : ℕ) → low ≤ j → j < high → (leb low j && ltb j high) ≡ true
 between_in low high j p q = and_from (leb low j) (ltb j high) (le-leb low j p) (lt-ltb j high q)
 

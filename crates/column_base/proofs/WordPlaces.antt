@@ -81,7 +81,7 @@ without_lowest w t one none =
     ∙ and_block t (q * 2 + 1) (q * 2 + 0) 0 (2 ^ t - 1) (pow_pos t) (omega (arith, pow_pos t))
     ∙ ap (λ r. r * 2 ^ t + 0) (odd_and_even q)
 
--- without its lowest 1, the digits of w are 0 up to there, and those of w behind it
+-- without its lowest 1, the digits of w are 0 up to there, and those of w after it
 without_lowest-none : (w t i : ℕ) → bit_at w t ≡ 1 → ((j : ℕ) → j < t → bit_at w j ≡ 0) → i < suc t → bit_at (bit_and w (w - 1)) i ≡ 0
 without_lowest-none w t i one none h =
     let q = w / 2 ^ t / 2 in
@@ -141,7 +141,7 @@ ones_in_place words k =
     let place : i % 64 ≡ i - k * 64 = omega arith in
     sym (digit_in_word words k i (omega arith) ∙ ap (bit_at (get_or words k 0)) place))
 
--- where it has none, and there is a word behind it
+-- where it has none, and there is a word after it
 pub left_skip : (words : List ℕ) (current index : ℕ) → current ≡ 0 → index + 1 < length words → places_left words (get_or words (index + 1) 0) (index + 1) ≡ places_left words current index
 unfolding places_left
 left_skip words current index none more =

@@ -1,4 +1,4 @@
--- How the values of a native type stand for numbers.
+-- Which numbers the values of a native type are.
 use Rattle.std.specs.Prelude.{◌≡◌, ◌↔◌, ◌==◌, ℤ, pos, Bool, IsTrue, Option, Some, None}
 use Rattle.std.specs.Ordering.{int_cmp, int_eq, nat_cmp}
 use Rattle.std.specs.declared.cmp.Ordering.{Ordering}

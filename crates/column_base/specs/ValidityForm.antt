@@ -1,4 +1,4 @@
--- The form of a column's validity: which rows are null, and how that is told.
+-- The form of a column's validity: which rows are null, and how that is stored.
 use Rattle.std.specs.Prelude.{◌≡◌, ◌<◌, ℕ, List, Bool, true, false, Option, Some, None, length, replicate, slice_index_or}
 use Rattle.column_base.specs.declared.dtype.Nullability.{Nullability}
 use Rattle.column_base.specs.declared.dtype.Nullability.TheVariants.{NonNullable, Nullable}

@@ -15,16 +15,16 @@ digit_at words i = bit_at (slice_index words (i / 64)) (i % 64)
 unfoldable pub first_bits : ℕ → List ℕ → List Bool
 first_bits n words = map (λ i. nat_eq (digit_at words i) 1) (range_with_len 0 n)
 
--- the word holds the bits from its lowest one up, and 0 behind the last
+-- the word holds the bits from its lowest one up, and 0 after the last
 abbrev pub IsWordOf : ℕ → List Bool → Type 0
 IsWordOf word bits = (j : ℕ) → bit_at word j ≡ one_if (slice_index_or bits j false)
 
--- the words hold the bits: as few words as can, with 0 behind the last bit
+-- the words hold the bits: as few words as hold them, with 0 after the last bit
 pub record Packs (words : List ℕ) (bits : List Bool) : Type 0 where
   pub least : length words ≡ (length bits + 63) / 64
   pub digit : (i : ℕ) → digit_at words i ≡ one_if (slice_index_or bits i false)
 
--- the first n bits stay, and all behind them are 0
+-- the first n bits stay, and all after them are 0
 pub record IsClearedFrom (old new : List ℕ) (n : ℕ) : Type 0 where
   pub len : length new ≡ length old
   pub before : (i : ℕ) → i < n → digit_at new i ≡ digit_at old i
@@ -45,7 +45,7 @@ HasBitsFrom new n source start = (i : ℕ) → i < n * 64 → digit_at new i ≡
 unfoldable pub ones_from : (ℕ → ℕ) → ℕ → ℕ → List ℕ
 ones_from digit first n = filter (λ i. nat_eq (digit i) 1) (range_with_len first n)
 
--- the places of the 1s in `current`, which stands for the word at `index`, and in the words behind it
+-- the places of the 1s in `current`, which takes the place of the word at `index`, and in the words after it
 unfoldable pub places_left : List ℕ → ℕ → ℕ → List ℕ
 places_left words current index =
     ones_from (λ i. bit_at current (i - index * 64)) (index * 64) 64

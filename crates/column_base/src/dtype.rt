@@ -2,7 +2,7 @@
 ghost use Rattle.std.specs.Prelude.{◌≡◌, ◌↔◌, IsTrue};
 ghost use Rattle.column_base.specs.Types.{IsUnsigned, nullability_of, with_nullability as dtype_with};
 
-/// The native types of integers.
+/// Names the native types of integers.
 #[derive(Clone, Copy, Debug, PartialEq, Eq)]
 pub enum PType {
     U8,
@@ -15,21 +15,21 @@ pub enum PType {
     I64,
 }
 
-/// Whether rows may be null.
+/// Says whether rows may be null.
 #[derive(Clone, Copy, Debug, PartialEq, Eq)]
 pub enum Nullability {
     NonNullable,
     Nullable,
 }
 
-/// Decimals of so many digits, `scale` of them behind the point.
+/// Names decimals of `precision` digits, `scale` of them after the point.
 #[derive(Clone, Copy, Debug, PartialEq, Eq)]
 pub struct DecimalDType {
     pub precision: u8,
     pub scale: i8,
 }
 
-/// The type of the elements of a list.
+/// Names the type of the elements of a list.
 #[derive(Clone, Copy, Debug, PartialEq, Eq)]
 pub enum ElementDType {
     Bool(Nullability),
@@ -39,7 +39,8 @@ pub enum ElementDType {
     Binary(Nullability),
 }
 
-/// The type of a column. Two types are of the same kind where they differ in nullability alone.
+/// Names the type of a column. Two types are of the same kind where they differ only in
+/// nullability.
 #[derive(Clone, Copy, Debug, PartialEq, Eq)]
 pub enum DType {
     Bool(Nullability),

@@ -5,106 +5,107 @@ ghost use Rattle.column_base.specs.declared.error.VortexError.TheVariants.{OutOf
 use std::alloc::{AllocError, AllocFailed};
 use thiserror::Error;
 
-/// The answer of a call that may be refused.
+/// Holds the answer of a call that may be refused.
 pub type VortexResult<T> = Result<T, VortexError>;
 
-/// Why a call was refused. Each variant has a number, from 1 in the order below; its text is its
-/// name. Lengths, offsets and ends count rows, and runs are counted from 0.
+/// Says why a call was refused. Each variant has a number, from 1 in the order below, which is
+/// given in parentheses; its text is its name. Lengths, offsets and ends count rows, and runs are
+/// counted from 0.
 #[derive(Clone, Copy, Debug, PartialEq, Eq, Error)]
 pub enum VortexError {
-    /// 1: the ends are not a plain non-nullable column of an unsigned type.
+    /// Says that the ends are not a plain non-nullable column of an unsigned type (1).
     #[error("EndsNotUnsigned")]
     EndsNotUnsigned,
-    /// 2: there is not one value for each run.
+    /// Says that there is not one value for each run (2).
     #[error("LengthsDiffer")]
     LengthsDiffer {
         ends: usize,
         values: usize,
     },
-    /// 3: there is no run, yet the offset or the length is not 0.
+    /// Says that the column has no runs, but the offset or the length is not 0 (3).
     #[error("NoRunsWindow")]
     NoRunsWindow {
         offset: usize,
         length: usize,
     },
-    /// 4: the first run whose end is not above the end before it.
+    /// Has the first run whose end is not above the end before it (4).
     #[error("EndsNotStrict")]
     EndsNotStrict {
         run: usize,
     },
-    /// 5: offset and length add up to 2^64 or more.
+    /// Says that offset and length add up to 2^64 or more (5).
     #[error("WindowOverflow")]
     WindowOverflow,
-    /// 6: the first run ends before the window begins.
+    /// Says that the first run ends before the window begins (6).
     #[error("FirstEndBelowOffset")]
     FirstEndBelowOffset {
         end: usize,
         offset: usize,
     },
-    /// 7: the last run ends before the window does, which ends at `required`.
+    /// Says that the last run ends before the window does, which ends at `required` (7).
     #[error("LastEndBelowWindow")]
     LastEndBelowWindow {
         end: usize,
         required: usize,
     },
-    /// 8: an index is negative, or not below the length that it is compared with.
+    /// Has an index that is negative, or not below the length that it is compared with (8).
     #[error("OutOfBounds")]
     OutOfBounds {
         index: i128,
         length: usize,
     },
-    /// 9: a range begins after its stop, or stops after the length.
+    /// Has a range that begins after its stop, or stops after the length (9).
     #[error("BadRange")]
     BadRange {
         start: usize,
         stop: usize,
         length: usize,
     },
-    /// 10: a mask is of another number of rows than the column.
+    /// Says that a mask is of another number of rows than the column (10).
     #[error("MaskLength")]
     MaskLength {
         mask: usize,
         length: usize,
     },
-    /// 11: two columns that belong together differ in length.
+    /// Says that two columns which belong together differ in length (11).
     #[error("ColumnLength")]
     ColumnLength {
         left: usize,
         right: usize,
     },
-    /// 12: a type is not the one that is asked for.
+    /// Says that a type is not the one that is asked for (12).
     #[error("TypeMismatch")]
     TypeMismatch,
-    /// 13: the call does not serve columns of this type.
+    /// Says that the call does not serve columns of this type (13).
     #[error("Unsupported")]
     Unsupported,
-    /// 14: the type that is cast to does not have the number.
+    /// Says that the type that is cast to does not have the number (14).
     #[error("CastOutOfRange")]
     CastOutOfRange,
-    /// 15: a null where the type has none.
+    /// Says that there is a null where the type has none (15).
     #[error("NullNotAllowed")]
     NullNotAllowed,
-    /// 16: nulls are to be filled with null.
+    /// Says that nulls are to be filled with null (16).
     #[error("NullFill")]
     NullFill,
-    /// 17: bytes that are not a metadata record.
+    /// Says that bytes are not a metadata record or a message (17).
     #[error("BadMetadata")]
     BadMetadata,
-    /// 18: a metadata record with an unknown number for the type of the ends.
+    /// Says that a metadata record has an unknown number for the type of the ends (18).
     #[error("EndsTypeNumber")]
     EndsTypeNumber {
         number: u64,
     },
-    /// 19: a metadata record states another number of runs than there are.
+    /// Says that a metadata record states another number of runs than there are (19).
     #[error("RunCount")]
     RunCount {
         stated: u64,
         found: usize,
     },
-    /// 20: only a plain column of integers can be encoded.
+    /// Says that only a plain column of integers can be encoded (20).
     #[error("OnlyPrimitive")]
     OnlyPrimitive,
-    /// 21: a growth of memory was refused.
+    /// Says that a growth of memory was refused (21).
     #[error("OutOfMemory")]
     OutOfMemory,
 }

@@ -7,20 +7,20 @@ use crate::bits::{BitBuffer, BitBufferMut};
 use crate::error::{VortexError, VortexResult};
 use std::alloc::Allocator;
 
-/// A bit for each row, which says whether the row is selected.
+/// Says of each row whether it is selected.
 #[derive(Drop)]
 pub enum Mask<A: Allocator> {
-    /// So many rows, all of them selected.
+    /// Selects all rows; it holds their number.
     AllTrue(usize),
-    /// So many rows, none of them selected.
+    /// Selects none of the rows; it holds their number.
     AllFalse(usize),
-    /// A row for each bit, selected where the bit is true.
+    /// Selects the rows whose bit is true.
     Values(BitBuffer<A>),
 }
 
 impl<A: Allocator> Mask<A> {
-    /// Returns the mask of these bits, with no bits of its own where all are equal: `AllTrue` where no bit is false,
-    /// `AllFalse` where no bit is true and there is one. Takes no memory.
+    /// Returns the mask of these bits: `AllTrue` where no bit is false, `AllFalse` where there are bits and none is
+    /// true, else one with these bits. Takes no memory.
     pub fn from_buffer(bits: BitBuffer<A>) -> Self
         ensures bits { mask_bits result ≡ bits }
         ensures normal { IsNormalMask result }
@@ -47,7 +47,7 @@ impl<A: Allocator> Mask<A> {
         }
     }
 
-    /// Returns whether there are no rows.
+    /// Returns whether it has no rows.
     pub fn is_empty(&self) -> bool
         ensures { IsTrue result ↔ (mask_bits self.now ≡ []) }
     {

@@ -13,14 +13,14 @@ use crate::values::PrimitiveValues;
 use shared_buffer::Buffer;
 use std::alloc::Allocator;
 
-/// A native type of integers. Equality and order are those of the numbers, a number has at
-/// most one value, and the default is 0.
+/// Says what a native type of integers can do. Equality and order are those of the numbers, a number has at most one
+/// value, and the default is 0.
 pub trait NativePType: Copy + Default + Eq + Ord + Drop {
     const PTYPE: PType;
 
     ghost PTYPE: { PType };
 
-    // The number that a value stands for.
+    // The number of a value.
     ghost number: { Self → ℤ };
 
     /// Returns the value's number.
@@ -36,14 +36,14 @@ pub trait NativePType: Copy + Default + Eq + Ord + Drop {
         ensures shows { numbers result ≡ [] }
         ensures typed { ptype_of result ≡ PTYPE };
 
-    /// Puts the items in the place of the numbers of a buffer of this type.
+    /// Replaces the numbers of a buffer of this type by the items.
     fn swap_in<A: Allocator>(items: &mut Buffer<Self, A>, values: &mut PrimitiveValues<A>)
         requires { ptype_of values.old ≡ PTYPE }
         ensures shows { numbers values.new ≡ map number items.old.items }
         ensures typed { ptype_of values.new ≡ PTYPE };
 
-    /// The numbers of this vector, shared as `Buffer::shared` shares them. Nothing is copied, and want of memory
-    /// refuses nothing.
+    /// Returns the numbers of this vector, shared as `Buffer::shared` shares them. Copies nothing, and is not refused
+    /// where memory runs out.
     final fn wrap<A: Allocator + Copy>(items: Vec<Self, A>) -> PrimitiveValues<A>
         ensures shows { numbers result ≡ map number items.items }
         ensures typed { ptype_of result ≡ PTYPE }
@@ -52,7 +52,7 @@ pub trait NativePType: Copy + Default + Eq + Ord + Drop {
         Self::from_buffer(alloc, Buffer::shared(items))
     }
 
-    /// The numbers of this buffer. Nothing is copied, and no memory is asked for.
+    /// Returns the numbers of this buffer. Copies nothing and takes no memory.
     final fn from_buffer<A: Allocator + Copy>(
         alloc: A,
         mut items: Buffer<Self, A>,
@@ -78,9 +78,9 @@ pub trait NativePType: Copy + Default + Eq + Ord + Drop {
     ghost law: { IsNumbered Self.eq Self.cmp Self.is_default number };
 }
 
-/// One of the four unsigned types.
+/// Says that a type is one of the four unsigned ones.
 pub trait UnsignedPType: NativePType {
-    // The number that a value stands for, as a natural number.
+    // The number of a value, as a natural number.
     ghost natural: { Self → ℕ };
 
     /// Returns the value as a `u64`, which has the numbers of all four types.

@@ -9,23 +9,22 @@ use crate::error::{VortexError, VortexResult};
 use std::alloc::Allocator;
 use std::ops::Range;
 
-/// Which rows of a column are there, and which are null.
+/// Says which rows of a column are null.
 #[derive(Drop)]
 pub enum Validity<A: Allocator> {
-    /// The type has no null, so all rows are there.
+    /// Says that the type has no null, so that no row is null.
     NonNullable,
-    /// The type has null, and all rows are there.
+    /// Says that the type has null, and no row is null.
     AllValid,
-    /// All rows are null.
+    /// Says that all rows are null.
     AllInvalid,
-    /// A row for each bit, null where the bit is false.
+    /// Holds a bit for each row, which is null where the bit is false.
     Bits(BitBuffer<A>),
 }
 
 impl<A: Allocator> Validity<A> {
-    /// Returns the validity of these bits, with no bits of its own where all are equal: `AllValid` where no bit is
-    /// false, `AllInvalid` where no bit is true and there is one. Takes no memory. Where the first 64 bits are of both
-    /// kinds, no other is read.
+    /// Returns the validity of these bits: `AllValid` where no bit is false, `AllInvalid` where there are bits and none
+    /// is true, else one with these bits. Takes no memory. Where the first 64 bits are of both kinds, no other is read.
     pub fn from_bits(bits: BitBuffer<A>) -> Self
         ensures flags { validity_flags result (length bits) ≡ bits }
         ensures fits { HasLength (form_of result) (length bits) }
@@ -58,8 +57,7 @@ impl<A: Allocator> Validity<A> {
         }
     }
 
-    /// Returns how many rows it speaks of: as many as it has bits, and `None` where it has no bits, since it then
-    /// serves any number of rows.
+    /// Returns for how many rows it has bits, and `None` where it has no bits, since it then serves any number of rows.
     pub fn len(&self) -> Option<usize>
         ensures { result ≡ length_of (form_of self.now) }
     {
@@ -71,7 +69,7 @@ impl<A: Allocator> Validity<A> {
         }
     }
 
-    /// Returns whether the row at `index` is there.
+    /// Returns whether the row at `index` is valid.
     pub fn is_valid(&self, index: usize) -> bool
         requires { HasRow (form_of self.now) index }
         ensures { result ≡ flag_at (form_of self.now) index }
@@ -99,7 +97,7 @@ impl<A: Allocator + Copy> Validity<A> {
         }
     }
 
-    /// Returns a copy of the validity in its form, with bits that are shared with none. Refused only for memory.
+    /// Returns a copy of the validity in its form, with bits that nothing else shares. Refused only for memory.
     pub fn compact(&self, alloc: A) -> VortexResult<Validity<A>>
         ensures same { IfOk result (λ copy. form_of copy ≡ form_of self.now) }
         ensures only { IsOkUnless result VortexError.OutOfMemory }
@@ -112,8 +110,9 @@ impl<A: Allocator + Copy> Validity<A> {
         }
     }
 
-    /// Returns the validity of the rows from `range.start` to `range.end - 1`, with bits only where it says of both
-    /// kinds of rows that they are there. Where the type has null, no rows are `AllValid`. Refused only for memory.
+    /// Returns the validity of the rows from `range.start` to `range.end - 1`, with bits only where some of them are
+    /// null and others are not. Where the type has null, the validity of no rows is `AllValid`. Refused only for
+    /// memory.
     pub fn slice(&self, alloc: A, range: Range<usize>) -> VortexResult<Validity<A>>
         requires ordered { range.start ≤ range.end }
         requires in_bounds { IfSome (length_of (form_of self.now)) (λ count. range.end ≤ count) }

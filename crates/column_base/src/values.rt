@@ -9,7 +9,7 @@ use shared_buffer::Buffer;
 use std::alloc::Allocator;
 use std::ops::Range;
 
-/// Numbers of one native type, in order, in a buffer that columns may share.
+/// Holds numbers of one native type, in order, in a buffer that columns may share.
 #[derive(Drop)]
 pub enum PrimitiveValues<A: Allocator> {
     U8(Buffer<u8, A>),
@@ -22,7 +22,7 @@ pub enum PrimitiveValues<A: Allocator> {
     I64(Buffer<i64, A>),
 }
 
-/// The body at the `Buffer` of the numbers, whatever their type.
+/// Evaluates the body with the `Buffer` of the numbers, whatever their type.
 #[macro_export]
 macro_rules! match_each_native {
     ($values:expr, $items:ident => $body:expr) => {
@@ -39,8 +39,8 @@ macro_rules! match_each_native {
     };
 }
 
-/// Evaluates the first body at the `Buffer` of numbers of an unsigned type, else the second. Without a second body the
-/// numbers are known to be of an unsigned type.
+/// Evaluates the first body with the `Buffer` of numbers of an unsigned type, else the second. Without a second body
+/// the numbers are known to be of an unsigned type.
 #[macro_export]
 macro_rules! match_each_unsigned {
     ($values:expr, $items:ident => $body:expr, _ => $other:expr) => {
@@ -71,7 +71,7 @@ impl<A: Allocator> PrimitiveValues<A> {
         match_each_native!(self, items => items.len())
     }
 
-    /// Returns whether there are no numbers.
+    /// Returns whether it has no numbers.
     pub fn is_empty(&self) -> bool
         ensures { IsTrue result ↔ (numbers self.now ≡ []) }
     {
@@ -95,8 +95,8 @@ impl<A: Allocator> PrimitiveValues<A> {
 }
 
 impl<A: Allocator + Copy> PrimitiveValues<A> {
-    /// Returns the numbers of the vector, shared as `Buffer::shared` shares them. Nothing is copied, and want of memory
-    /// refuses nothing.
+    /// Returns the numbers of the vector, shared as `Buffer::shared` shares them. Copies nothing, and is not refused
+    /// where memory runs out.
     pub fn from_vec<T: NativePType>(items: Vec<T, A>) -> PrimitiveValues<A>
         ensures shows { numbers result ≡ map T.number items.items }
         ensures typed { ptype_of result ≡ T.PTYPE }
@@ -104,8 +104,8 @@ impl<A: Allocator + Copy> PrimitiveValues<A> {
         T::wrap(items)
     }
 
-    /// Returns a copy of the numbers, of the same type: shared with these where these are shared, and else in memory of
-    /// its own. Refused only as `OutOfMemory`.
+    /// Returns a copy of the numbers, of the same type. Shares them if they are shared, and copies them otherwise.
+    /// Refused only as `OutOfMemory`.
     pub fn try_clone(&self, alloc: A) -> VortexResult<PrimitiveValues<A>>
         ensures only { IsOkUnless result VortexError.OutOfMemory }
         ensures shows { IfOk result (λ values. numbers values ≡ numbers self.now) }
@@ -114,8 +114,8 @@ impl<A: Allocator + Copy> PrimitiveValues<A> {
         match_each_native!(self, items => clone_of(alloc, items))
     }
 
-    /// Returns the numbers from `range.start` to `range.end - 1`, of the same type: shared with these where these are
-    /// shared, and else copied. Refused only as `OutOfMemory`.
+    /// Returns the numbers from `range.start` to `range.end - 1`, of the same type. Shares them if they are shared, and
+    /// copies them otherwise. Refused only as `OutOfMemory`.
     pub fn slice(&self, alloc: A, range: Range<usize>) -> VortexResult<PrimitiveValues<A>>
         requires ordered { range.start ≤ range.end }
         requires in_bounds { range.end ≤ length (numbers self.now) }
@@ -126,8 +126,8 @@ impl<A: Allocator + Copy> PrimitiveValues<A> {
         match_each_native!(self, items => part_of(alloc, items, range.start, range.end))
     }
 
-    /// Returns a copy of the numbers, of the same type, shared with none: what these are a part of may then be freed.
-    /// Refused only as `OutOfMemory`.
+    /// Returns a copy of the numbers, of the same type, that nothing else shares: a longer buffer that these are a part
+    /// of may then be freed. Refused only as `OutOfMemory`.
     pub fn compact(&self, alloc: A) -> VortexResult<PrimitiveValues<A>>
         ensures only { IsOkUnless result VortexError.OutOfMemory }
         ensures shows { IfOk result (λ values. numbers values ≡ numbers self.now) }

@@ -100,7 +100,7 @@ some_same (column.Binary n) (Bytes x) (Text y) p q e = absurd q.typed
 some_same (column.Binary n) (Bytes x) (Bytes y) p q e = ap Bytes e
 some_same (column.List d n) v w p q e = absurd p.plain
 
--- ---- how null is told
+-- ---- how null is written
 
 pub may_be_null : (n : Nullability) → MayBeNull n → n ≡ Nullable
 may_be_null NonNullable h = absurd h
@@ -141,7 +141,7 @@ value_same t u (Some v) (Some w) p q k n e =
     let q' : IsStoredValue t (Some w) = subst (λ (x : DType). IsStoredValue x (Some w)) (sym one) q in
     (one, ap Some (some_same t v w p q' (e ∙ ap (λ (x : DType). some_bytes x w) (sym one))))
 
--- a value with these bytes is told so, and has these items
+-- a value with these bytes is written so, and has these items
 told_as : (kind : ℕ) (validity : ValidityForm) (items bytes : List ℕ) (scalar : ScalarForm) → length bytes < 2 ^ 64 → HasLength validity 0 → bytes ≡ flat_fields validity items → IsValueIn kind bytes scalar → (validity ≡ value_validity (nullability_of scalar.dtype) scalar.value) × (items ≡ value_bytes scalar.dtype scalar.value)
 told_as kind validity items bytes scalar lt len b h =
     flat_same validity (value_validity (nullability_of scalar.dtype) scalar.value) 0 items (value_bytes scalar.dtype scalar.value) (omega arith) len (told_length (nullability_of scalar.dtype) scalar.value) (items_small validity items bytes lt b) (items_small (value_validity (nullability_of scalar.dtype) scalar.value) (value_bytes scalar.dtype scalar.value) bytes lt h.spelt) (sym b ∙ h.spelt)

@@ -60,7 +60,7 @@ decimal_at bytes (column.List e n) value k s b = absurd (omega (arith, k))
 scalar_at : (bytes : List ℕ) (s : ScalarForm) → IsScalarIn 10 bytes s → DecimalAt bytes s.dtype s.value
 scalar_at bytes s h = decimal_at bytes s.dtype s.value h.kind_is h.stored h.spelt
 
--- what is read is told so by each scalar of these bytes
+-- what is read is written so by each scalar of these bytes
 told_as : (v : ValidityForm) (d : DecimalDType) (items bytes : List ℕ) (t : DType) (value : Option FlatValue) → length bytes < 2 ^ 64 → HasLength v 0 → IsDecimalType d → bytes ≡ decimal_fields v d items → (at : DecimalAt bytes t value) → (v ≡ value_validity at.nullability value) × (d ≡ at.decimal) × (items ≡ value_bytes (column.Decimal at.decimal at.nullability) value)
 told_as v d items bytes t value lt len native b at =
     let own : List ℕ = value_bytes (column.Decimal at.decimal at.nullability) value in

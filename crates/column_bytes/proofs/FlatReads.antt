@@ -28,7 +28,7 @@ use Rattle.column_bytes.proofs.ListColumns.{index_is, index_stored_at, flags_byt
 use Rattle.column_bytes.proofs.Messages.{body_of, no_header, no_fields, no_runs, runs_body, message_one, runs_at, fields_are, leaf_bytes, runs_bytes, index_bytes, index_column, index_message_at, flags_column}
 use Rattle.column_bytes.proofs.RunLaws.{no_body_of, body_message, rest_small}
 
--- what a result tells, where it tells two things
+-- what a result says, where it says two things
 pub both_ok : {T : Type 0} (r : Result T VortexError) (P R : T → Type 0) (Q : Type 0) → ((x : T) → P x → Q → R x) → IfOk r P → OnOk r Q → IfOk r R
 both_ok (Ok x) P R Q f p q = f x p q
 both_ok (Err e) P R Q f p q = tt
@@ -224,7 +224,7 @@ flags_found r s rows message bytes rest same h counted b =
       spelt = ap (λ (x : List ℕ). number_field 5 5 ++ x) b ∙ sym (append_assoc (number_field 5 5) (bytes_field 16 message) rest) ∙ ap (λ (x : List ℕ). x ++ rest) (flags_bytes r message plain h.message.spelt);
     })
 
--- a validity behind the field that says that runs tell it
+-- a validity after the field that says that it is in runs
 pub record FlagsAt (rows : ℕ) (bytes rest : List ℕ) : Type 0 where
   pub ends_type : PType
   pub ends : List ℕ

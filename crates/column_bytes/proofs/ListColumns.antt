@@ -165,7 +165,7 @@ offsets_within l = omega (arith, list_fields_long (leaf_message l.elements) (ind
 pub sizes_within : (l : Lists) → length (index_message l.sizes) ≤ length (list_fields (leaf_message l.elements) (index_message l.offsets) (index_message l.sizes))
 sizes_within l = omega (arith, list_fields_long (leaf_message l.elements) (index_message l.offsets) (index_message l.sizes), bytes_long 19 (index_message l.sizes))
 
--- ---- written in place, behind a key with their size
+-- ---- written in place, after a key with their size
 
 pub elements_written : (leaf shown : Leaf) (old new : List ℕ) → shown ≡ leaf → new ≡ old ++ column_bytes (OfLeaf shown) → new ≡ old ++ leaf_message leaf
 elements_written leaf shown old new is p = p ∙ ap (λ (x : List ℕ). old ++ x) (leaf_bytes shown ∙ ap leaf_message is)

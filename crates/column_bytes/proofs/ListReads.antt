@@ -18,7 +18,7 @@ use Rattle.column_bytes.specs.ListRead.{IsLeafMessage, IsNoLeafMessage, IsIndexM
 use Rattle.column_bytes.specs.Read.{IsBody, IsNoBody}
 use Rattle.column_bytes.proofs.Messages.{index_one, leaf_message_one, lists_at, lists_body_is, parts_long, validity_one}
 
--- ---- why parts are no column of lists
+-- ---- why parts do not make a column of lists
 
 told_rows : (v : RowValidityForm) (n told : ℕ) → HasRows v n → rows_told v ≡ Some told → n ≡ told
 told_rows (ByRows NeverNull) n told h e = cc
@@ -76,7 +76,7 @@ module _ (levels rows : ℕ) (elements : Leaf) (validity : RowValidityForm) (fir
         absent (subst (λ (x : Index). AreListsOf levels rows (lists_with elements offsets x validity)) ss (subst (λ (x : Index). AreListsOf levels rows (lists_with elements x h.sizes validity)) os h.are));
   }
 
--- ---- what is behind the validity
+-- ---- what is after the validity
 
 module _ (levels rows : ℕ) (validity : RowValidityForm) (bytes : List ℕ) (lt : length bytes < 2 ^ 64) where
   pub no_list_fields : AreNoListFields bytes → AreNoListsBehind levels rows validity bytes
@@ -137,7 +137,7 @@ no_validity levels kind rows bytes absent = record {
       absent.none at.lists.validity (list_fields (leaf_message at.lists.elements) (index_message at.lists.offsets) (index_message at.lists.sizes)) (validity_in levels rows bytes at.lists at.are);
 }
 
--- the lists are those behind their validity
+-- the lists are those after their validity
 behind_own : (levels rows : ℕ) (bytes : List ℕ) (l : Lists) → AreListsIn levels rows bytes l → AreListsBehind levels rows l.validity (list_fields (leaf_message l.elements) (index_message l.offsets) (index_message l.sizes)) (OfLists l)
 behind_own levels rows bytes l h = record {
   elements = l.elements;

@@ -212,7 +212,7 @@ module _ (rows : ℕ) (bytes : List ℕ) (form : RowValidityForm) (rest : List �
   flags_rise : Rises true 0 flags_here.ends
   flags_rise = ends_rise flags_here.ends_type flags_here.ends (OfLeaf (OfTruths (bool_with flags_here.bits NeverNull))) flags_here.offset rows flags_stored.fit flags_stored.runs
 
--- bytes that are no such runs
+-- bytes that are not such runs
 module _ (rows : ℕ) (flags bytes back : List ℕ) (lt : length bytes < 2 ^ 64) (small : length flags < 2 ^ 64) (b : bytes ≡ bytes_field 16 flags ++ back) where
   own_message : (form : RowValidityForm) (rest : List ℕ) (h : BeginsWithValidity rows (number_field 5 5 ++ bytes) form rest) → flags ≡ (flags_here rows bytes form rest lt h).message
   own_message form rest h =

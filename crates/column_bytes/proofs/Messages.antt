@@ -66,7 +66,7 @@ count_small (OfRuns ends_type ends values offset count) s = omega (arith, s.1.wi
 count_small (OfConstant constant) s = s.small
 count_small (OfLists lists) s = index_small lists.offsets s.offsets
 
--- the body behind a header that is read
+-- the body after a header that is read
 pub body_of : (levels kind form rows : ℕ) (bytes rest : List ℕ) (c : Column) → kind < 2 ^ 64 → form < 2 ^ 64 → rows < 2 ^ 64 → bytes ≡ header_bytes kind form rows ++ rest → IsMessage levels bytes c → IsBody levels kind form rows rest c
 body_of levels kind form rows bytes rest c p q r b m =
     let s = header_same kind form rows (kind_number (column_dtype c)) (form_number c) (column_count c) rest (column_body c) p q r (kind_small (column_dtype c)) (form_small c) (count_small c m.writable.stored) (sym b ∙ m.spelt) in
@@ -270,7 +270,7 @@ index_one a b p q lt e =
 abbrev pub flags_column : PType → List ℕ → List Bool → ℕ → ℕ → Column
 flags_column t ends bits offset count = OfRuns t ends (OfLeaf (OfTruths (bool_with bits NeverNull))) offset count
 
--- the validity that runs of flags tell
+-- the validity that runs of flags give
 abbrev flags_of : Column → RowValidityForm
 flags_of (OfLeaf leaf) = ByRows NeverNull
 flags_of (OfConstant constant) = ByRows NeverNull

@@ -19,13 +19,13 @@ use Rattle.column_bytes.specs.Values.{IsStoredScalar, constant_fields}
 use Rattle.column_bytes.specs.Read.{IsScalarIn, HasNoScalarIn, IsNullOfLists, IsNullOfNoLists}
 use Rattle.column_bytes.proofs.Leaves.{type_at_most}
 
--- ---- the fields of null, and the type behind them
+-- ---- the fields of null, and the type after them
 
 null_parts : (e : ElementDType) → constant_fields (column.List e Nullable) None ≡ number_field 5 3 ++ (bytes_field 7 [] ++ element_type e)
 unfolding flat_fields validity_field
 null_parts e = append_assoc (number_field 5 3) (bytes_field 7 []) (element_type e)
 
--- what is read has to do with each type that the bytes tell
+-- what is read has to do with each type that the bytes name
 module _ (e : ElementDType) (bytes : List ℕ) (h : IsNullOfLists bytes e) where
   after_validity : (first : List ℕ) → bytes ≡ number_field 5 3 ++ first → first ≡ bytes_field 7 [] ++ element_type e
   after_validity first b = append_cancel_left (number_field 5 3) _ _ (sym b ∙ h.spelt ∙ null_parts e)

@@ -37,7 +37,7 @@ use Rattle.column_bytes.specs.Bytes.{column_bytes, leaf_runs_message}
 use Rattle.column_fields.specs.Lengths.{lengths_bytes}
 use Rattle.column_fields.specs.RunFields.{run_fields}
 
--- ---- optional items tell the items and the flags
+-- ---- optional items determine the items and the flags
 
 map_one : {X Y : Type 0} (f : X → Y) → ((x y : X) → f x ≡ f y → x ≡ y) → (xs ys : List X) → map f xs ≡ map f ys → xs ≡ ys
 map_one f one [] [] e = refl
@@ -89,7 +89,7 @@ items_one blank (x ∷ xs) (y ∷ ys) (false ∷ bs) (false ∷ cs) p q a b e =
 items_one blank (x ∷ xs) (y ∷ ys) (true ∷ bs) (false ∷ cs) p q a b e = absurd cc
 items_one blank (x ∷ xs) (y ∷ ys) (false ∷ bs) (true ∷ cs) p q a b e = absurd cc
 
--- ---- flags and the type tell the form of a validity
+-- ---- flags and the type determine the form of a validity
 
 flag_is : (n k : ℕ) (b c : Bool) → k < length (replicate n b) → get_or (replicate n b) k c ≡ b
 flag_is n k b c lt = get_or-replicate n k b c (omega (arith, length-replicate n b))
@@ -155,7 +155,7 @@ varbin_one Binary x y e = cc
 single_one : (x y : FlatValue) → Single x ≡ Single y → x ≡ y
 single_one x y e = cc
 
--- the rows as values tell the flat rows
+-- the rows as values determine the flat rows
 flat_one : (xs ys : List (Option FlatValue)) → map (option_map Single) xs ≡ map (option_map Single) ys → xs ≡ ys
 flat_one xs ys e = map_one (option_map Single) (option_one Single single_one) xs ys e
 

@@ -15,7 +15,7 @@ use Rattle.column_bytes.proofs.DecimalReads.{decimal_one}
 use Rattle.column_bytes.proofs.Leaves.{type_at_most}
 use Rattle.column_bytes.proofs.NullLists.{list_one}
 
--- ---- types that their number tells
+-- ---- types that their number determines
 
 plain_stored : (t : DType) → IsPlainType t → IsStoredType t
 plain_stored (column.Primitive t n) p = p

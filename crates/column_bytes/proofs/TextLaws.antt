@@ -67,7 +67,7 @@ pub text_fields_long : (form : VarBinForm) → length (text_fields form.validity
 unfolding text_fields text_items
 text_fields_long form = omega (arith, length-append (validity_field form.validity) (bytes_field 12 (sizes_bytes (text_sizes form)) ++ bytes_field 13 (text_bytes form)), length-append (bytes_field 12 (sizes_bytes (text_sizes form))) (bytes_field 13 (text_bytes form)))
 
--- so many bytes have the fields
+-- how many bytes the fields have
 pub text_fields_sum : (form : VarBinForm) (v : ValidityForm) (sizes content a b c : ℕ) → v ≡ form.validity → sizes ≡ length (sizes_bytes (text_sizes form)) → content ≡ sum (text_sizes form) → a ≡ length (validity_field v) → b ≡ length (varint (12 * 8 + 2) ++ varint sizes) → c ≡ length (varint (13 * 8 + 2) ++ varint content) → a + (b + c) + sizes + content ≡ length (text_fields form.validity (text_sizes form) (text_bytes form))
 text_fields_sum form v sizes content a b c v-is s-is c-is p q r =
     let shown : content ≡ length (text_bytes form) = c-is ∙ summed-own form in
@@ -79,7 +79,7 @@ text_fields_sum form v sizes content a b c v-is s-is c-is p q r =
 pub text_fields_past : (form : VarBinForm) → length (sizes_bytes (text_sizes form)) + sum (text_sizes form) ≤ length (text_fields form.validity (text_sizes form) (text_bytes form))
 text_fields_past form = omega (arith, text_fields_long form, bytes_long 12 (sizes_bytes (text_sizes form)), bytes_long 13 (text_bytes form), summed-own form)
 
--- a column with these fields, behind the validity that is read
+-- a column with these fields, after the validity that is read
 record At (kind : VarBinKind) (rows : ℕ) (v : ValidityForm) (rest : List ℕ) (form : VarBinForm) : Type 0 where
   pub same : v ≡ form.validity
   pub rest_is : rest ≡ text_items (sizes_bytes (text_sizes form)) (text_bytes form)

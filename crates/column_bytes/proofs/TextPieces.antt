@@ -1,4 +1,4 @@
--- Rows one behind the other, and what they show.
+-- Rows one after the other, and what they show.
 use Rattle.std.proofs.Common.{◌≡◌, ℕ, ◌+◌, ◌-◌, ◌≤◌, Bool, true, false, Option, Some, None, List, [], ◌∷◌, ◌++◌, length, map, take, drop, sum, refl, sym, ap, ◌∙◌, arith}
 use Rattle.std.specs.Prelude.{option_map}
 use Rattle.std.specs.List.{concat}
@@ -80,7 +80,7 @@ shown-optionals (xs ∷ xss) [] h blank = absurd (omega arith)
 shown-optionals (xs ∷ xss) (true ∷ bs) h blank = ap (λ (yss : List (List ℕ)). xs ∷ yss) (shown-optionals xss bs (omega arith) blank.1)
 shown-optionals (xs ∷ xss) (false ∷ bs) h blank = ap (λ (ys : List ℕ). ys ∷ map or_none (optionals xss bs)) (sym (blank.0 refl)) ∙ ap (λ (yss : List (List ℕ)). xs ∷ yss) (shown-optionals xss bs (omega arith) blank.1)
 
--- what is shown and which rows are null tell the rows
+-- what is shown and which rows are null determine the rows
 pub optionals-shown : (xss : List (List ℕ)) (bs : List Bool) → length bs ≡ length xss → optionals (map or_none (optionals xss bs)) bs ≡ optionals xss bs
 optionals-shown [] bs h = refl
 optionals-shown (xs ∷ xss) [] h = absurd (omega arith)
@@ -102,7 +102,7 @@ blank-pieces [] content bs blank = tt
 blank-pieces (size ∷ sizes) content [] blank = tt
 blank-pieces (size ∷ sizes) content (b ∷ bs) blank = (λ e. blank-piece size content (blank.0 e), blank-pieces sizes (drop size content) bs blank.1)
 
--- ---- views one behind the other
+-- ---- views one after the other
 
 pub length-views : (start : ℕ) (sizes : List ℕ) → length (views_from start sizes) ≡ length sizes
 length-views start [] = refl

@@ -15,7 +15,7 @@ get-length [] k lt = absurd (omega arith)
 get-length (xs ∷ xss) zero lt = refl
 get-length (xs ∷ xss) (suc k) lt = get-length xss k (omega arith)
 
--- the sizes from a row on are its own and those behind it
+-- the sizes from a row on are its own and those after it
 size_here : (form : VarBinForm) (row size : ℕ) (bytes : List ℕ) → row < length (shown_rows form) → bytes ≡ get_or (shown_rows form) row [] → size ≡ length bytes → drop row (text_sizes form) ≡ size ∷ drop (row + 1) (text_sizes form)
 size_here form row size bytes lt b s =
     let within : row < length (text_sizes form) = omega (arith, length-map (shown_rows form) length) in
@@ -25,7 +25,7 @@ pub one_size : (form : VarBinForm) (row size : ℕ) (bytes out new whole : List 
 one_size form row size bytes out new whole lt b s inv n =
     ap (λ (t : List ℕ). t ++ sizes_bytes (drop (row + 1) (text_sizes form))) n ∙ append_assoc out (varint size) (sizes_bytes (drop (row + 1) (text_sizes form))) ∙ ap (λ (t : List ℕ). out ++ t) (sym (sizes_cons size (drop (row + 1) (text_sizes form))) ∙ ap sizes_bytes (sym (size_here form row size bytes lt b s))) ∙ inv
 
--- how many bytes are left to tell
+-- how many bytes are left to count
 pub left_size : (form : VarBinForm) (row size : ℕ) (bytes : List ℕ) → row < length (shown_rows form) → bytes ≡ get_or (shown_rows form) row [] → size ≡ length bytes → length (sizes_bytes (drop row (text_sizes form))) ≡ length (varint size) + length (sizes_bytes (drop (row + 1) (text_sizes form)))
 left_size form row size bytes lt b s =
     ap (λ (ns : List ℕ). length (sizes_bytes ns)) (size_here form row size bytes lt b s) ∙ ap length (sizes_cons size (drop (row + 1) (text_sizes form))) ∙ length-append (varint size) (sizes_bytes (drop (row + 1) (text_sizes form)))

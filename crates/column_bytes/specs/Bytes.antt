@@ -55,7 +55,7 @@ column_count (OfRuns ends_type ends values offset count) = count
 column_count (OfConstant constant) = constant.count
 column_count (OfLists lists) = list_count lists
 
--- what a flat column's message says behind its header: which rows are null, and the items, stored under null too; of
+-- what a flat column's message says after its header: which rows are null, and the items, stored under null too; of
 -- texts and bytes what the rows show
 abbrev pub leaf_fields : Leaf → List ℕ
 leaf_fields (OfNumbers form) = flat_fields form.validity (numbers_bytes form.ptype form.numbers)
@@ -80,19 +80,19 @@ abbrev pub index_message : Index → List ℕ
 index_message (PlainIndex numbers) = leaf_message (OfNumbers (index_form numbers))
 index_message (RunIndex ends_type ends numbers offset count) = leaf_runs_message ends_type ends (OfNumbers (index_form numbers)) offset count
 
--- the fields that tell which lists are valid: those of flat rows, or 5 and a message of runs of booleans
+-- the fields that say which lists are valid: those of flat rows, or 5 and a message of runs of booleans
 abbrev pub row_validity_field : RowValidityForm → List ℕ
 row_validity_field (ByRows form) = validity_field form
 row_validity_field (ByRuns ends_type ends bits offset count) = number_field 5 5 ++ bytes_field 16 (leaf_runs_message ends_type ends (OfTruths (bool_with bits NeverNull)) offset count)
 
--- what the message of lists says behind its header: elements, offsets and sizes are messages of their own
+-- what the message of lists says after its header: elements, offsets and sizes are messages of their own
 abbrev pub lists_body : Lists → List ℕ
 lists_body lists = row_validity_field lists.validity ++ list_fields (leaf_message lists.elements) (index_message lists.offsets) (index_message lists.sizes)
 
 abbrev pub column_header : Column → List ℕ
 column_header c = header_bytes (kind_number (column_dtype c)) (form_number c) (column_count c)
 
--- what a message says behind its header; of runs the values are a message of their own
+-- what a message says after its header; the values of runs are a message of their own
 unfoldable pub column_body : Column → List ℕ
 column_body (OfLeaf leaf) = leaf_fields leaf
 column_body (OfConstant constant) = constant_fields constant.dtype constant.value

@@ -56,7 +56,7 @@ pub record IsIndexMessage (bytes : List ℕ) (index : Index) : Type 0 where
 pub record IsNoIndexMessage (bytes : List ℕ) : Type 0 where
   pub none : (index : Index) → IsIndexMessage bytes index → ⊥
 
--- bytes begin with the fields of a validity of so many rows
+-- bytes begin with the fields of a validity of `rows` rows
 pub record BeginsWithValidity (rows : ℕ) (bytes : List ℕ) (form : RowValidityForm) (rest : List ℕ) : Type 0 where
   pub stored : IsStoredValidity form
   pub counted : HasRows form rows
@@ -67,13 +67,13 @@ pub record BeginsWithNoValidity (rows : ℕ) (bytes : List ℕ) : Type 0 where
 
 -- ---- lists
 
--- a column of so many lists, with at most so many levels of runs
+-- a column of `rows` lists, with at most `levels` levels of runs
 pub record AreListsOf (levels rows : ℕ) (lists : Lists) : Type 0 where
   pub are : AreLists lists
   pub shallow : lists_depth lists ≤ levels
   pub counted : list_count lists ≡ rows
 
--- the column of so many lists of these elements and this validity, of which these are the messages of offsets and sizes
+-- the column of `rows` lists of these elements and this validity, with these messages of offsets and sizes
 pub record AreListsOver (levels rows : ℕ) (elements : Leaf) (validity : RowValidityForm) (first counts : List ℕ) (c : Column) : Type 0 where
   pub offsets : Index
   pub sizes : Index
@@ -85,7 +85,7 @@ pub record AreListsOver (levels rows : ℕ) (elements : Leaf) (validity : RowVal
 pub record AreNoListsOver (levels rows : ℕ) (elements : Leaf) (validity : RowValidityForm) (first counts : List ℕ) : Type 0 where
   pub none : (c : Column) → AreListsOver levels rows elements validity first counts c → ⊥
 
--- the column of so many lists with this validity, of which the bytes are what the message says behind it
+-- the column of `rows` lists with this validity; the bytes are what its message says after the validity
 pub record AreListsBehind (levels rows : ℕ) (validity : RowValidityForm) (bytes : List ℕ) (c : Column) : Type 0 where
   pub elements : Leaf
   pub message : List ℕ
@@ -98,7 +98,7 @@ pub record AreListsBehind (levels rows : ℕ) (validity : RowValidityForm) (byte
 pub record AreNoListsBehind (levels rows : ℕ) (validity : RowValidityForm) (bytes : List ℕ) : Type 0 where
   pub none : (c : Column) → AreListsBehind levels rows validity bytes c → ⊥
 
--- the bytes are what the message of so many lists says behind its header
+-- the bytes are what the message of `rows` lists says after its header
 pub record AreListsIn (levels rows : ℕ) (bytes : List ℕ) (lists : Lists) : Type 0 where
   pub stored : AreStoredLists lists
   pub packed : IsPackedLeaf lists.elements

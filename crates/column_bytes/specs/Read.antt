@@ -1,4 +1,4 @@
--- What bytes are as messages, with at most so many levels of runs.
+-- What bytes are as messages, with a limited number of levels of runs.
 use Rattle.std.specs.Prelude.{◌≡◌, ◌⊎◌, ℕ, ℤ, ◌≤◌, true, Some, None, List, [], length, FitsSigned}
 use Rattle.std.specs.Int.{w128}
 use Rattle.column_base.specs.declared.dtype.Nullability.{Nullability}
@@ -28,7 +28,7 @@ use Rattle.column_bytes.specs.Bytes.{kind_number, form_number, column_count, lea
 use Rattle.column_bytes.specs.Values.{IsPlainType, IsStoredValue, IsStoredScalar, some_bytes, value_fields, constant_fields}
 use Rattle.column_bytes.specs.Stored.{IsStored, AreNumbers, AreTruths, AreDecimals}
 
--- the column has bytes, and no more levels of runs than so many
+-- the column has bytes, and at most `levels` levels of runs
 pub record IsWritable (levels : ℕ) (c : Column) : Type 0 where
   pub stored : IsStored c
   pub shallow : depth c ≤ levels
@@ -44,7 +44,7 @@ pub record IsNoMessage (levels : ℕ) (bytes : List ℕ) : Type 0 where
 
 -- ---- what follows a header
 
--- the bytes are what the message of the column says behind a header with these numbers
+-- the bytes are what the message of the column says after a header with these numbers
 pub record IsBody (levels kind form rows : ℕ) (bytes : List ℕ) (c : Column) : Type 0 where
   pub writable : IsWritable levels c
   pub packed : IsPacked c
@@ -56,7 +56,7 @@ pub record IsBody (levels kind form rows : ℕ) (bytes : List ℕ) (c : Column) 
 pub record IsNoBody (levels kind form rows : ℕ) (bytes : List ℕ) : Type 0 where
   pub none : (c : Column) → IsBody levels kind form rows bytes c → ⊥
 
--- the bytes are what the message of so many numbers of a type says behind its header
+-- the bytes are what the message of `rows` numbers of a type says after its header
 pub record AreNumbersOf (t : PType) (rows : ℕ) (bytes : List ℕ) (form : PrimitiveForm) : Type 0 where
   pub typed : form.ptype ≡ t
   pub counted : length form.numbers ≡ rows
@@ -66,7 +66,7 @@ pub record AreNumbersOf (t : PType) (rows : ℕ) (bytes : List ℕ) (form : Prim
 pub record AreNoNumbersOf (t : PType) (rows : ℕ) (bytes : List ℕ) : Type 0 where
   pub none : (form : PrimitiveForm) → AreNumbersOf t rows bytes form → ⊥
 
--- the same of booleans
+-- the bytes are what the message of `rows` booleans says after its header
 pub record AreTruthsOf (rows : ℕ) (bytes : List ℕ) (form : BoolForm) : Type 0 where
   pub counted : length form.bits ≡ rows
   pub stored : AreTruths form
@@ -75,7 +75,7 @@ pub record AreTruthsOf (rows : ℕ) (bytes : List ℕ) (form : BoolForm) : Type 
 pub record AreNoTruthsOf (rows : ℕ) (bytes : List ℕ) : Type 0 where
   pub none : (form : BoolForm) → AreTruthsOf rows bytes form → ⊥
 
--- the same of decimals
+-- the bytes are what the message of `rows` decimals says after its header
 pub record AreDecimalsOf (rows : ℕ) (bytes : List ℕ) (form : DecimalForm) : Type 0 where
   pub counted : length form.numbers ≡ rows
   pub stored : AreDecimals form
@@ -84,7 +84,7 @@ pub record AreDecimalsOf (rows : ℕ) (bytes : List ℕ) (form : DecimalForm) : 
 pub record AreNoDecimalsOf (rows : ℕ) (bytes : List ℕ) : Type 0 where
   pub none : (form : DecimalForm) → AreDecimalsOf rows bytes form → ⊥
 
--- the bytes are what the message of a constant of this value says behind its header
+-- the bytes are what the message of a constant of this value says after its header
 pub record IsScalarIn (kind : ℕ) (bytes : List ℕ) (scalar : ScalarForm) : Type 0 where
   pub kind_is : kind_number scalar.dtype ≡ kind
   pub stored : IsStoredScalar scalar.dtype scalar.value
@@ -105,7 +105,7 @@ pub record IsNullDecimal (decimal : DecimalDType) (bytes : List ℕ) (scalar : S
   pub is : scalar ≡ record { dtype = column.Decimal decimal Nullable; value = None }
   pub spelt : bytes ≡ []
 
--- the bytes are what the message of a constant of lists of this type says behind its header: it is null
+-- the bytes are what the message of a constant of lists of this type says after its header: it is null
 pub record IsNullOfLists (bytes : List ℕ) (element : ElementDType) : Type 0 where
   pub typed : IsElementType element
   pub spelt : bytes ≡ constant_fields (column.List element Nullable) None
@@ -113,7 +113,7 @@ pub record IsNullOfLists (bytes : List ℕ) (element : ElementDType) : Type 0 wh
 pub record IsNullOfNoLists (bytes : List ℕ) : Type 0 where
   pub none : (element : ElementDType) → IsNullOfLists bytes element → ⊥
 
--- the bytes are what the message of a constant of integers, booleans, texts or bytes says behind its header
+-- the bytes are what the message of a constant of integers, booleans, texts or bytes says after its header
 pub record IsValueIn (kind : ℕ) (bytes : List ℕ) (scalar : ScalarForm) : Type 0 where
   pub kind_is : kind_number scalar.dtype ≡ kind
   pub stored : IsStoredValue scalar.dtype scalar.value
@@ -159,7 +159,7 @@ pub record HasNoValueOf (t : DType) (bytes : List ℕ) : Type 0 where
 pub record HasNoPlainType (kind : ℕ) : Type 0 where
   pub none : (t : DType) → IsPlainType t → kind_number t ≡ kind → ⊥
 
--- a flat column of ends of the type, of which these are the run lengths
+-- a flat column of ends of the type, of runs with these lengths
 pub record IsEndsColumn (t : PType) (lengths : List ℕ) (form : PrimitiveForm) : Type 0 where
   pub typed : form.ptype ≡ t
   pub plain : IsEndsType (primitive_dtype form)
@@ -183,7 +183,7 @@ pub record AreNoRunsOf (kind rows offset : ℕ) (t : PType) (lengths : List ℕ)
 abbrev pub IsUnsupportedOrMemory : VortexError → Type 0
 IsUnsupportedOrMemory error = (error ≡ Unsupported) ⊎ (error ≡ OutOfMemory)
 
--- over each column of which the values are the message, these are runs
+-- these are runs over each column that the values are the message of
 pub record JoinsRuns (kind rows offset : ℕ) (t : PType) (lengths values : List ℕ) : Type 0 where
   pub some : (levels : ℕ) (v : Column) → IsMessage levels values v → (c : Column) × AreRunsOf kind rows offset t lengths v c
 

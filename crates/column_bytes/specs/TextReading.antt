@@ -7,7 +7,7 @@ use Rattle.column_core.specs.Optionals.{AreBlankAtNulls}
 use Rattle.column_core.specs.VarBinForm.{VarBinForm, AreVarBins, IsOfKind, varbin_with}
 use Rattle.column_bytes.specs.Texts.{AreTexts, packed, sizes_bytes, sizes_in, text_bytes, text_fields, text_items, text_sizes, views_from}
 
--- the bytes are the fields of the packed column of so many rows of texts, or of bytes
+-- the bytes are the fields of the packed column of `rows` texts, or bytes
 pub record AreTextsOf (kind : VarBinKind) (rows : ℕ) (bytes : List ℕ) (form : VarBinForm) : Type 0 where
   pub kind_is : form.kind ≡ kind
   pub counted : length form.views ≡ rows
@@ -18,11 +18,11 @@ pub record AreTextsOf (kind : VarBinKind) (rows : ℕ) (bytes : List ℕ) (form 
 pub record AreNoTextsOf (kind : VarBinKind) (rows : ℕ) (bytes : List ℕ) : Type 0 where
   pub none : (form : VarBinForm) → AreTextsOf kind rows bytes form → ⊥
 
--- the bytes are no sizes and content
+-- the bytes are not sizes and content
 pub record AreNoTextItems (bytes : List ℕ) : Type 0 where
   pub none : (sizes content : List ℕ) → length sizes < 2 ^ 64 → length content < 2 ^ 64 → bytes ≡ text_items sizes content → ⊥
 
--- the views of so many rows one behind the other, where these are the bytes of their sizes, which are so many together
+-- the views of `rows` rows one after the other, with these bytes of their sizes; all rows together have `total` bytes
 pub record AreViewsOf (rows total : ℕ) (bytes : List ℕ) (views : List View) : Type 0 where
   pub are : views ≡ views_from 0 (sizes_in views)
   pub counted : length views ≡ rows
@@ -48,7 +48,7 @@ pub record AreTextsOver (kind : VarBinKind) (views : List View) (content : List 
 pub record HasNoTextsOver (kind : VarBinKind) (views : List View) (content : List ℕ) (validity : ValidityForm) : Type 0 where
   pub none : AreVarBins (varbin_with kind views (content ∷ []) validity) → ⊥
 
--- the column of so many rows with this validity, where these are the bytes of the sizes, and those that the rows show
+-- the column of `rows` rows with this validity, with these bytes of the sizes, and these bytes that the rows show
 pub record AreTextsIn (kind : VarBinKind) (rows : ℕ) (validity : ValidityForm) (bytes content : List ℕ) (form : VarBinForm) : Type 0 where
   pub sizes : List ℕ
   pub is : form ≡ varbin_with kind (views_from 0 sizes) (content ∷ []) validity

@@ -44,12 +44,12 @@ text_fields validity sizes content = validity_field validity ++ text_items (size
 abbrev pub sizes_in : List View → List ℕ
 sizes_in views = map (λ (view : View). view.size) views
 
--- the views of rows with these sizes, one behind the other from `start` on
+-- the views of rows with these sizes, one after the other from `start` on
 abbrev pub views_from : ℕ → List ℕ → List View
 views_from start [] = []
 views_from start (size ∷ sizes) = record { buffer = 0; start = start; size = size } ∷ views_from (start + size) sizes
 
--- the column of rows with these sizes, one behind the other in one buffer
+-- the column of rows with these sizes, one after the other in one buffer
 abbrev pub packed_with : VarBinKind → List ℕ → List ℕ → ValidityForm → VarBinForm
 packed_with kind sizes content validity = varbin_with kind (views_from 0 sizes) (content ∷ []) validity
 

@@ -14,7 +14,7 @@ use Rattle.column_fields.specs.ElementFields.{IsElementType, element_type}
 use Rattle.column_fields.specs.FlatFields.{flat_fields}
 use Rattle.column_fields.specs.NumberBytes.{number_bytes}
 
--- a type of integers, booleans, texts or bytes: one that its number tells, but for null
+-- a type of integers, booleans, texts or bytes: its number says all of it but whether it has null
 abbrev pub IsPlainType : DType → Type 0
 IsPlainType (column.Primitive t n) = Unit {0}
 IsPlainType (column.Bool n) = Unit {0}
@@ -42,7 +42,7 @@ pub record IsStoredScalar (t : DType) (value : Option FlatValue) : Type 0 where
   pub stored : IsStoredType t
   pub typed : IsRowOf t (option_map Single value)
 
--- how a value that is not null is told: the type has no null, or has null
+-- the validity of a value that is not null: the type has no null, or has null
 abbrev pub some_validity : Nullability → ValidityForm
 some_validity NonNullable = NeverNull
 some_validity Nullable = NoneNull
@@ -68,13 +68,13 @@ value_bytes t (Some v) = some_bytes t v
 abbrev pub value_fields : DType → Option FlatValue → List ℕ
 value_fields t value = flat_fields (value_validity (nullability_of t) value) (value_bytes t value)
 
--- what its number does not tell of a type: of decimals precision and scale, of lists the type of the elements
+-- what the number of a type does not say of it: precision and scale of decimals, the type of the elements of lists
 abbrev pub type_fields : DType → List ℕ
 type_fields (column.Decimal d n) = decimal_type d
 type_fields (column.List e n) = element_type e
 type_fields t = []
 
--- what the message of a constant says behind its header
+-- what the message of a constant says after its header
 abbrev pub constant_fields : DType → Option FlatValue → List ℕ
 constant_fields t value = value_fields t value ++ type_fields t
 

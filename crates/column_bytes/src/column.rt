@@ -22,11 +22,11 @@ use column_fields::{read_header, read_run_fields};
 use runend_array::{ArrayRef, RunEndArraySlotsExt};
 use std::alloc::Allocator;
 
-/// How many levels of runs a message has at most. Lists whose offsets, sizes or validity are in runs count as two.
+/// Bounds the levels of runs of a message. Lists whose offsets, sizes or validity are in runs count as two.
 pub const MOST_LEVELS: usize = 16;
 
 /// Returns the message of a column, in memory of the allocator `alloc` that is taken once. Refused as `Unsupported`
-/// exactly where there are more than 16 levels of runs, before any memory is taken; fails else only with `OutOfMemory`.
+/// exactly where there are more than 16 levels of runs, before any memory is taken; else only as `OutOfMemory`.
 pub fn write_column<A: Allocator + Copy, B: Allocator + Copy>(
     alloc: B,
     array: &ArrayRef<A>,
@@ -44,11 +44,11 @@ pub fn write_column<A: Allocator + Copy, B: Allocator + Copy>(
     Ok(out)
 }
 
-/// Writes the message of a column to the end of a buffer: a vector, or any other of the crate `bytes`. Takes no memory
-/// but what the buffer takes for these bytes. Refused as `Unsupported` exactly where there are more than 16 levels of
-/// runs, else as `OutOfMemory`, and so only where the buffer has less room for certain than `message_size` says, or no
-/// count says it. An `Err` may leave a part of the message at the end. The earlier content of the buffer stays in front
-/// all the same: cut to its old length, the buffer is as it was.
+/// Writes the message of a column to the end of a buffer: a vector, or any other of the crate `bytes`. Takes only the
+/// memory that the buffer takes for these bytes. Refused as `Unsupported` exactly where there are more than 16 levels
+/// of runs, else as `OutOfMemory`, and this only where the buffer is sure of less room than `message_size` says, or the
+/// size does not fit `usize`. An `Err` may leave a part of the message at the end. The earlier content of the buffer
+/// stays in front in any case: cut to its old length, the buffer is as it was.
 pub fn put_message<A: Allocator + Copy, W: BufMut>(
     out: &mut W,
     array: &ArrayRef<A>,
@@ -66,9 +66,9 @@ pub fn put_message<A: Allocator + Copy, W: BufMut>(
     put_column(out, array, MOST_LEVELS)
 }
 
-/// Returns the column of which the bytes are the message. Refused as `BadMetadata` exactly where they are the message
-/// of no column with at most 16 levels of runs, else only with `OutOfMemory`: after a refusal for memory `is_message`
-/// looks at the bytes once more, without memory.
+/// Returns the column that the bytes are the message of. Refused as `BadMetadata` exactly where they are not the
+/// message of a column with at most 16 levels of runs, else only as `OutOfMemory`: after a refusal for memory
+/// `is_message` looks at the bytes once more, without memory.
 pub fn read_column<A: Allocator + Copy>(alloc: A, bytes: &[u8]) -> VortexResult<ArrayRef<A>>
     ensures found { IfOk result (λ array. IsMessage 16 bytes.now (column_of array)) }
     ensures bad { IsErrOf result VortexError.BadMetadata → IsNoMessage 16 bytes.now }
@@ -88,7 +88,7 @@ pub fn read_column<A: Allocator + Copy>(alloc: A, bytes: &[u8]) -> VortexResult<
     }
 }
 
-// Writes the message of a column with at most so many levels of runs at the end.
+// Appends the message of a column with at most `levels` levels of runs.
 fn put_column<A: Allocator + Copy, W: BufMut>(
     out: &mut W,
     array: &ArrayRef<A>,
@@ -123,7 +123,7 @@ fn put_column<A: Allocator + Copy, W: BufMut>(
     }
 }
 
-// The column of which the bytes are the message, with at most so many levels of runs.
+// The column that the bytes are the message of, with at most `levels` levels of runs.
 fn read_message<A: Allocator + Copy>(
     alloc: A,
     bytes: &[u8],

@@ -1,4 +1,4 @@
-//! How many bytes the messages of constants have, told without writing them.
+//! How many bytes the messages of constants have, counted without writing them.
 ghost use Rattle.std.specs.Prelude.{◌≡◌, ◌+◌, ◌*◌, ◌≤◌, ◌++◌, length, option_map, OnOk, IfOk, IfErr};
 ghost use Rattle.column_base.specs.Types.{nullability_of};
 ghost use Rattle.column_core.specs.Value.{Number, Single, IsRowOf};
@@ -23,7 +23,8 @@ use column_fields::{
 use runend_array::ConstantArray;
 use std::alloc::Allocator;
 
-/// Returns how many bytes the message of a constant has. Refused as `OutOfMemory` exactly where no count tells them.
+/// Returns how many bytes the message of a constant has. Refused as `OutOfMemory` exactly where their number does not
+/// fit `usize`.
 pub(crate) fn constant_size<A: Allocator>(array: &ConstantArray<A>) -> VortexResult<usize>
     ensures size { IfOk result (λ size. size ≡ length (column_bytes (OfConstant array.now))) }
     ensures stored { OnOk result (IsStoredConstant array.now) }
@@ -45,7 +46,7 @@ pub(crate) fn constant_size<A: Allocator>(array: &ConstantArray<A>) -> VortexRes
     }
 }
 
-// How many bytes tell what its number does not tell of a type.
+// How many bytes say of a type what its number does not say.
 fn type_size(dtype: DType) -> usize
     ensures size { result ≡ length (type_fields dtype) }
     ensures stored { IsStoredType dtype }
@@ -57,7 +58,7 @@ fn type_size(dtype: DType) -> usize
     }
 }
 
-// How many bytes tell of which type the elements of lists are.
+// How many bytes name the type of the elements of lists.
 fn element_type_size(element: ElementDType) -> usize
     ensures size { result ≡ length (element_type element) }
     ensures typed { IsElementType element }
@@ -75,7 +76,7 @@ fn element_type_size(element: ElementDType) -> usize
     }
 }
 
-// How many bytes tell the number of a type, and whether it has a null.
+// How many bytes say the number of a type, and whether it has a null.
 fn numbered_size(number: u64, nullability: Nullability) -> usize
     ensures size { result ≡ length (numbered_type number nullability) }
     ensures most { result ≤ 40 }
@@ -83,7 +84,7 @@ fn numbered_size(number: u64, nullability: Nullability) -> usize
     number_size(20, number) + nullability_size(nullability)
 }
 
-// How many bytes tell whether a type of elements has a null.
+// How many bytes say whether a type of elements has a null.
 fn nullability_size(nullability: Nullability) -> usize
     ensures size { result ≡ length (number_field 21 (nullability_number nullability)) }
     ensures most { result ≤ 20 }
@@ -94,7 +95,7 @@ fn nullability_size(nullability: Nullability) -> usize
     }
 }
 
-// How many bytes tell the value.
+// How many bytes say the value.
 fn scalar_size<A: Allocator>(scalar: &Scalar<A>) -> VortexResult<usize>
     ensures size { IfOk result (λ size. size ≡ length (value_fields scalar.now.dtype scalar.now.value)) }
     ensures typed { IsRowOf scalar.now.dtype (option_map Single scalar.now.value) }
@@ -113,7 +114,7 @@ fn scalar_size<A: Allocator>(scalar: &Scalar<A>) -> VortexResult<usize>
     }
 }
 
-// The same of a number, where the type is one of numbers.
+// The same for a number, where the type is one of numbers.
 fn whole_size(dtype: DType, number: i128) -> VortexResult<usize>
     requires { IsNumberIn dtype number }
     ensures size { IfOk result (λ size. size ≡
@@ -127,7 +128,7 @@ fn whole_size(dtype: DType, number: i128) -> VortexResult<usize>
     }
 }
 
-// The same of a value of so many bytes, which is not null.
+// The same for a value of `count` bytes, which is not null.
 #[tactic(auto, unfolding(column_fields::specs::Validity::validity_field))]
 fn some_size(nullability: Nullability, count: usize) -> VortexResult<usize>
     ensures size { IfOk result (λ size. size ≡ length (validity_field (some_validity nullability)) +

@@ -62,7 +62,7 @@ pub(crate) fn put_constant<A: Allocator, W: BufMut>(
     Ok(())
 }
 
-// Writes what its number does not tell of a type.
+// Writes of a type what its number does not say.
 fn put_type<W: BufMut>(out: &mut W, dtype: DType) -> VortexResult<()>
     ensures ok { OnOk result (W.written out.new ≡ W.written out.old ++ type_fields dtype) }
     ensures room { UsesRoom result (W.spare out.old) (W.spare out.new) (length (type_fields dtype)) }
@@ -125,7 +125,7 @@ fn put_some<W: BufMut>(out: &mut W, nullability: Nullability, bytes: &[u8]) -> V
     Ok(())
 }
 
-// The same of a boolean.
+// The same for a boolean.
 fn put_truth<W: BufMut>(out: &mut W, nullability: Nullability, truth: bool) -> VortexResult<()>
     ensures ok { OnOk result (W.written out.new ≡ W.written out.old ++
         flat_fields (some_validity nullability) (one_if truth ∷ [])) }
@@ -139,7 +139,7 @@ fn put_truth<W: BufMut>(out: &mut W, nullability: Nullability, truth: bool) -> V
     Ok(())
 }
 
-// The same of a decimal.
+// The same for a decimal.
 fn put_number_of<W: BufMut>(out: &mut W, nullability: Nullability, number: i128) -> VortexResult<()>
     ensures ok { OnOk result (W.written out.new ≡ W.written out.old ++
         flat_fields (some_validity nullability) (decimal_bytes number)) }
@@ -154,7 +154,7 @@ fn put_number_of<W: BufMut>(out: &mut W, nullability: Nullability, number: i128)
     Ok(())
 }
 
-// The same of a number, where the type is one of numbers.
+// The same for a number, where the type is one of numbers.
 fn put_whole<W: BufMut>(out: &mut W, dtype: DType, number: i128) -> VortexResult<()>
     requires { IsNumberIn dtype number }
     ensures ok { OnOk result (W.written out.new ≡ W.written out.old ++
@@ -190,7 +190,7 @@ fn put_told<W: BufMut>(out: &mut W, nullability: Nullability) -> VortexResult<()
     }
 }
 
-/// Returns the constant that stands behind this header. Refused as `BadMetadata` exactly where none does, else only as
+/// Returns the constant after this header. Refused as `BadMetadata` exactly where there is none, else only as
 /// `OutOfMemory`.
 pub(crate) fn read_constant<A: Allocator + Copy>(
     alloc: A,
@@ -223,7 +223,7 @@ fn read_scalar<A: Allocator + Copy>(alloc: A, kind: u64, bytes: &[u8]) -> Vortex
     read_plain(alloc, kind, bytes)
 }
 
-// The same of a type of integers, booleans, texts or bytes.
+// The same for a type of integers, booleans, texts or bytes.
 fn read_plain<A: Allocator + Copy>(alloc: A, kind: u64, bytes: &[u8]) -> VortexResult<Scalar<A>>
     ensures found { IfOk result (λ scalar. IsValueIn kind bytes.now scalar) }
     ensures bad { IsErrOf result VortexError.BadMetadata → HasNoValueIn kind bytes.now }
@@ -241,7 +241,7 @@ fn read_plain<A: Allocator + Copy>(alloc: A, kind: u64, bytes: &[u8]) -> VortexR
     }
 }
 
-// Null, of which these are the bytes.
+// The null that these bytes hold.
 fn read_null<A: Allocator + Copy>(kind: u64, bytes: &[u8]) -> VortexResult<Scalar<A>>
     ensures found { IfOk result (λ scalar. IsNullOf kind bytes.now scalar) }
     ensures bad { IsErrOf result VortexError.BadMetadata → HasNoNullOf kind bytes.now }
@@ -256,7 +256,7 @@ fn read_null<A: Allocator + Copy>(kind: u64, bytes: &[u8]) -> VortexResult<Scala
     }
 }
 
-// The value of which these are the bytes, where it is of the type of that number.
+// The value that these bytes hold, where it is of the type of that number.
 fn read_some<A: Allocator + Copy>(
     alloc: A,
     kind: u64,
@@ -274,7 +274,7 @@ fn read_some<A: Allocator + Copy>(
     Ok(Scalar::try_new(dtype, Some(value)).unwrap())
 }
 
-// The value of the type of which these are the bytes.
+// The value of the type that these bytes hold.
 fn read_value<A: Allocator + Copy>(
     alloc: A,
     dtype: DType,
@@ -305,7 +305,7 @@ fn read_value<A: Allocator + Copy>(
     }
 }
 
-// The boolean of which this is the byte.
+// The boolean that this byte holds.
 pub(crate) fn read_truth(bytes: &[u8]) -> Option<bool>
     ensures found { IfSome result (λ truth. one_if truth ∷ [] ≡ bytes.now) }
     ensures none { IfNone result ((truth : Bool) → one_if truth ∷ [] ≡ bytes.now → ⊥) }
@@ -316,7 +316,7 @@ pub(crate) fn read_truth(bytes: &[u8]) -> Option<bool>
     Some(bytes[0] == 1)
 }
 
-// The number of the type of which these are the bytes.
+// The number of the type that these bytes hold.
 fn read_whole<A: Allocator>(ptype: PType, bytes: &[u8]) -> Option<ScalarValue<A>>
     ensures owned { IfSome result (λ value. (n : Nullability) → IsOwnedOf (Primitive ptype n) value) }
     ensures found { IfSome result (λ value. IsWholeOf ptype bytes.now (flat_of value)) }

@@ -9,7 +9,7 @@ use column_core::{Scalar, ScalarValue};
 use column_fields::{DECIMAL_SIZE, load_decimal, read_decimal_fields};
 use std::alloc::Allocator;
 
-/// Returns what the bytes say of a decimal, or of null. Refused as `BadMetadata` exactly where they say nothing, else
+/// Returns the decimal, or the null, that the bytes hold. Refused as `BadMetadata` exactly where they hold none, else
 /// only as `OutOfMemory`.
 pub(crate) fn read_decimal<A: Allocator + Copy>(alloc: A, bytes: &[u8]) -> VortexResult<Scalar<A>>
     ensures found { IfOk result (λ scalar. IsScalarIn 10 bytes.now scalar) }
@@ -28,7 +28,7 @@ pub(crate) fn read_decimal<A: Allocator + Copy>(alloc: A, bytes: &[u8]) -> Vorte
     }
 }
 
-// The decimal of which these are the bytes.
+// The decimal that these bytes hold.
 fn some_decimal<A: Allocator>(
     decimal: DecimalDType,
     nullability: Nullability,
@@ -45,7 +45,7 @@ fn some_decimal<A: Allocator>(
     Ok(Scalar::try_new(DType::Decimal(decimal, nullability), Some(value)).unwrap())
 }
 
-// Null, of which these are the bytes.
+// The null that these bytes hold.
 fn null_decimal<A: Allocator>(decimal: DecimalDType, bytes: &[u8]) -> VortexResult<Scalar<A>>
     ensures found { IfOk result (λ scalar. IsNullDecimal decimal bytes.now scalar) }
     ensures bad { IsErrOf result VortexError.BadMetadata → ¬ (bytes.now ≡ []) }

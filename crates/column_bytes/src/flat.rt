@@ -22,16 +22,16 @@ use column_fields::{
 use runend_array::ArrayRef;
 use std::alloc::Allocator;
 
-/// The number of the type of booleans.
+/// Numbers the type of booleans.
 pub(crate) const TRUTHS: u64 = 9;
 
-/// The number of the type of decimals.
+/// Numbers the type of decimals.
 pub(crate) const DECIMALS: u64 = 10;
 
-/// The number of the type of texts.
+/// Numbers the type of texts.
 pub(crate) const TEXTS: u64 = 11;
 
-/// The number of the type of bytes.
+/// Numbers the type of bytes.
 pub(crate) const BYTES: u64 = 12;
 
 /// Writes a flat column of integers at the end. Refused only as `OutOfMemory`.
@@ -48,7 +48,7 @@ pub(crate) fn put_numbers<A: Allocator, W: BufMut>(
 {
     let rows = array.len();
     let ptype = array.ptype();
-    // No memory has so many bytes, but no count could tell them.
+    // No memory has these bytes, but their number would not fit `usize`.
     let Some(count) = rows.checked_mul(size_of_type(ptype)) else {
         return Err(VortexError::OutOfMemory);
     };
@@ -107,7 +107,7 @@ pub(crate) fn put_decimal_rows<A: Allocator, W: BufMut>(
     ensures only { IsOkUnless result VortexError.OutOfMemory }
 {
     let rows = array.len();
-    // No memory has so many bytes, but no count could tell them.
+    // No memory has these bytes, but their number would not fit `usize`.
     let Some(count) = rows.checked_mul(DECIMAL_SIZE) else {
         return Err(VortexError::OutOfMemory);
     };
@@ -126,8 +126,8 @@ pub(crate) fn put_decimal_rows<A: Allocator, W: BufMut>(
     Ok(())
 }
 
-/// Returns the flat column that stands behind this header. Refused as `BadMetadata` exactly where none does, else only
-/// as `OutOfMemory`.
+/// Returns the flat column after this header. Refused as `BadMetadata` exactly where there is none, else only as
+/// `OutOfMemory`.
 pub(crate) fn read_leaf<A: Allocator + Copy>(
     alloc: A,
     header: Header,
@@ -236,7 +236,7 @@ fn read_decimals<A: Allocator + Copy>(
     }
 }
 
-// Are so many rows of that size so many bytes?
+// Do `rows` rows of `size` bytes each have `count` bytes?
 fn is_size(rows: usize, size: usize, count: usize) -> bool
     ensures { IsTrue result ↔ (count ≡ rows * size) }
 {

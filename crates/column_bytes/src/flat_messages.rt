@@ -12,8 +12,8 @@ use column_fields::{read_header, read_run_fields};
 use runend_array::{ArrayRef, RunEndArray};
 use std::alloc::Allocator;
 
-/// Returns the runs over a flat column of that type of which the bytes are the message. Refused as `BadMetadata`
-/// exactly where they are that of none, else only as `OutOfMemory`.
+/// Returns the runs over a flat column of that type that the bytes are the message of. Refused as `BadMetadata` exactly
+/// where they are not the message of such runs, else only as `OutOfMemory`.
 pub(crate) fn read_flat_runs<A: Allocator + Copy>(
     alloc: A,
     bytes: &[u8],
@@ -36,8 +36,8 @@ pub(crate) fn read_flat_runs<A: Allocator + Copy>(
     read_run_array(alloc, header, fields, values)
 }
 
-/// Returns the flat column of that type of which the bytes are the message. Refused as `BadMetadata` exactly where they
-/// are that of none, else only as `OutOfMemory`.
+/// Returns the flat column of that type that the bytes are the message of. Refused as `BadMetadata` exactly where they
+/// are not the message of such a column, else only as `OutOfMemory`.
 pub(crate) fn read_flat<A: Allocator + Copy>(
     alloc: A,
     bytes: &[u8],

@@ -1,4 +1,4 @@
-//! How many bytes the messages of flat columns have, told without writing them.
+//! How many bytes the messages of flat columns have, counted without writing them.
 ghost use Rattle.std.specs.Prelude.{◌≡◌, ◌+◌, ◌*◌, ◌^◌, ◌≤◌, ◌++◌, length, IfOk, IfErr, OnOk};
 ghost use Rattle.column_base.specs.Validity.{form_of};
 ghost use Rattle.column_core.specs.Leaf.{OfNumbers, OfTruths, OfDecimals, OfVarBins};
@@ -22,8 +22,8 @@ use column_fields::{
 };
 use std::alloc::Allocator;
 
-/// Returns how many bytes the message of a flat column of integers has. Refused as `OutOfMemory` exactly where no count
-/// tells them.
+/// Returns how many bytes the message of a flat column of integers has. Refused as `OutOfMemory` exactly where their
+/// number does not fit `usize`.
 pub(crate) fn numbers_size<A: Allocator>(array: &PrimitiveArray<A>) -> VortexResult<usize>
     ensures size { IfOk result (λ size. size ≡ length (column_bytes (OfLeaf (OfNumbers array.now)))) }
     ensures stored { AreNumbers array.now }
@@ -38,7 +38,7 @@ pub(crate) fn numbers_size<A: Allocator>(array: &PrimitiveArray<A>) -> VortexRes
     size_of_total(head as u128 + count as u128)
 }
 
-/// Returns the same of a flat column of booleans.
+/// Returns the same for a flat column of booleans.
 pub(crate) fn truths_size<A: Allocator>(array: &BoolArray<A>) -> VortexResult<usize>
     ensures size { IfOk result (λ size. size ≡ length (column_bytes (OfLeaf (OfTruths array.now)))) }
     ensures stored { AreTruths array.now }
@@ -50,7 +50,7 @@ pub(crate) fn truths_size<A: Allocator>(array: &BoolArray<A>) -> VortexResult<us
     size_of_total(head as u128 + count as u128)
 }
 
-/// Returns the same of a flat column of decimals.
+/// Returns the same for a flat column of decimals.
 pub(crate) fn decimals_size<A: Allocator>(array: &DecimalArray<A>) -> VortexResult<usize>
     ensures size { IfOk result (λ size. size ≡ length (column_bytes (OfLeaf (OfDecimals array.now)))) }
     ensures stored { AreDecimals array.now }
@@ -66,7 +66,7 @@ pub(crate) fn decimals_size<A: Allocator>(array: &DecimalArray<A>) -> VortexResu
     size_of_total(head as u128 + count as u128 + typed as u128)
 }
 
-/// Returns the same of a flat column of texts or of bytes.
+/// Returns the same for a flat column of texts or of bytes.
 pub(crate) fn texts_size<A: Allocator>(array: &VarBinViewArray<A>) -> VortexResult<usize>
     ensures size { IfOk result (λ size. size ≡ length (column_bytes (OfLeaf (OfVarBins array.now)))) }
     ensures stored { OnOk result (AreTexts array.now) }
@@ -86,7 +86,7 @@ pub(crate) fn texts_size<A: Allocator>(array: &VarBinViewArray<A>) -> VortexResu
     }
 }
 
-// How many bytes stand ahead of so many bytes of items.
+// How many bytes come before the bytes of items.
 fn head_size<A: Allocator>(kind: u64, rows: usize, validity: &Validity<A>, count: usize) -> usize
     ensures size { result ≡ length (header_bytes kind 1 rows) + length (validity_field (form_of validity.now)) +
         length (varint (7 * 8 + 2) ++ varint count) }

@@ -11,42 +11,42 @@ use column_base::VortexResult;
 use runend_array::ArrayRef;
 use std::alloc::Allocator;
 
-/// Bytes are those of at most one column.
+/// Proves that bytes are those of at most one column.
 pub fn spelling_is_unique()
     ensures { SpellingIsUnique }
 {}
 
-/// What is written of a column is a message: that of the same column, its texts and bytes packed.
+/// Proves that what is written of a column is a message of the same column, with its texts and bytes packed.
 /// For file writers: no reader may refuse it as `BadMetadata`.
 pub fn written_is_a_message()
     ensures { WrittenIsAMessage }
 {}
 
-/// Two encodings of the same rows and type, which is none of lists, have the same message, byte for byte, whichever
-/// columns they were made of and wherever their texts lie. An encoding is what `encode_rows` of `runend_builder`
-/// answers: the tight exact cover, from the first row on, with ends of the least type and flat values as a call
-/// computes them. `RunEnd::encode` answers it too, but of a column whose validity says by its form that all rows are
-/// null.
+/// Proves that two encodings of the same rows and type, unless they are lists, have the same message, byte for byte,
+/// whichever columns they were made of and wherever their texts lie. An encoding is what `encode_rows` of
+/// `runend_builder` returns: the tight exact cover, from the first row on, with ends of the least type and flat values
+/// as a call computes them. `RunEnd::encode` returns it too, except for a column whose validity says by its form that
+/// all rows are null.
 /// For caches, group-by and databases: bytes can be compared and hashed in place of rows.
 pub fn equal_rows_equal_bytes()
     ensures { EqualRowsEqualBytes }
 {}
 
-/// Columns that have the same message have the same type and the same rows.
+/// Proves that columns which have the same message have the same type and the same rows.
 /// For caches and group-by: a comparison of bytes takes no two columns for one.
 pub fn equal_bytes_equal_rows()
     ensures { EqualBytesEqualRows }
 {}
 
-/// A column that was read takes at most 24 bytes for each byte of its message, as `bytes_used` counts them: as many as
-/// the view of an empty text has, whose size is one byte there.
-/// For servers: how much memory a message can ask for is known by its length, before it is read.
+/// Proves that a column that was read takes at most 24 bytes for each byte of its message, as `bytes_used` counts them:
+/// the view of an empty text has 24 bytes, and its size is one byte of the message.
+/// For servers: the length of a message says, before it is read, how much memory it can ask for.
 pub fn read_takes_few_bytes()
     ensures { ReadTakesFewBytes }
 {}
 
-/// Writes a column and reads what was written: it is a column of the same form but for the views and buffers of texts
-/// and bytes, which are packed, and has the same rows. Refused as `Unsupported` where `write_column` is, else only as
+/// Writes a column and reads what was written: it is a column with the same rows, in the same form, except that the
+/// views and buffers of texts and bytes are packed. Refused as `Unsupported` where `write_column` is, else only as
 /// `OutOfMemory`.
 pub fn write_then_read<A: Allocator + Copy>(
     alloc: A,

@@ -7,7 +7,7 @@ use column_core::Scalar;
 use column_fields::{read_bytes, read_constant, read_element_type};
 use std::alloc::Allocator;
 
-/// Null of lists, of which the bytes tell the type. Refused as `BadMetadata` exactly where they tell none.
+/// Returns null, of the type of lists that the bytes name. Refused as `BadMetadata` exactly where they name none.
 pub(crate) fn read_null_list<A: Allocator>(bytes: &[u8]) -> VortexResult<Scalar<A>>
     ensures found { IfOk result (λ scalar. IsScalarIn 13 bytes.now scalar) }
     ensures bad { IsErrOf result VortexError.BadMetadata → HasNoScalarIn 13 bytes.now }
@@ -20,7 +20,7 @@ pub(crate) fn read_null_list<A: Allocator>(bytes: &[u8]) -> VortexResult<Scalar<
     Ok(Scalar::try_new(dtype, None).unwrap())
 }
 
-// The type of the elements of lists, behind the fields of null.
+// The type of the elements of lists, after the fields of null.
 pub(crate) fn read_element(bytes: &[u8]) -> Option<ElementDType>
     ensures found { IfSome result (λ element. IsNullOfLists bytes.now element) }
     ensures none { IfNone result (IsNullOfNoLists bytes.now) }

@@ -19,8 +19,8 @@ use runend_array::{ArrayRef, RowValidity};
 use std::alloc::Allocator;
 use std::rc::Rc;
 
-/// Returns which of so many lists are valid, and the bytes after it. Refused as `BadMetadata` exactly where the bytes
-/// begin with none, else only as `OutOfMemory`.
+/// Returns which of `rows` lists are valid, and the bytes after the validity. Refused as `BadMetadata` exactly where
+/// the bytes begin with none, else only as `OutOfMemory`.
 pub(crate) fn read_row_validity<A: Allocator + Copy>(
     alloc: A,
     bytes: &[u8],
@@ -38,7 +38,7 @@ pub(crate) fn read_row_validity<A: Allocator + Copy>(
     Ok((by_rows(validity), rest))
 }
 
-// A validity that is told row by row.
+// A validity that is held row by row.
 fn by_rows<A: Allocator>(validity: Validity<A>) -> RowValidity<A>
     ensures form { validity_of result ≡ ByRows (form_of validity) }
     ensures plain { IsRowValidity result }
@@ -51,7 +51,7 @@ fn by_rows<A: Allocator>(validity: Validity<A>) -> RowValidity<A>
     }
 }
 
-// The validity that runs of booleans tell, behind the field that says so, and the bytes after it.
+// The validity in runs of booleans, after the field that says so, and the bytes after it.
 fn read_run_validity<A: Allocator + Copy>(
     alloc: A,
     bytes: &[u8],
@@ -80,8 +80,8 @@ fn read_run_validity<A: Allocator + Copy>(
     }
 }
 
-/// Returns the elements of lists of which the bytes are the message. Refused as `BadMetadata` exactly where they are
-/// that of no flat column, else only as `OutOfMemory`.
+/// Returns the elements of lists that the bytes are the message of. Refused as `BadMetadata` exactly where they are not
+/// the message of a flat column, else only as `OutOfMemory`.
 pub(crate) fn read_elements<A: Allocator + Copy>(
     alloc: A,
     bytes: &[u8],
@@ -114,8 +114,8 @@ fn flat_of<A: Allocator>(array: ArrayRef<A>) -> FlatColumn<A>
     }
 }
 
-/// Returns the offsets or sizes of which the bytes are the message: flat, or runs over a flat column. Refused as
-/// `BadMetadata` exactly where they are that of none, else only as `OutOfMemory`.
+/// Returns the offsets or sizes that the bytes are the message of: flat, or runs over a flat column. Refused as
+/// `BadMetadata` exactly where they are not such a message, else only as `OutOfMemory`.
 pub(crate) fn read_index<A: Allocator + Copy>(alloc: A, bytes: &[u8]) -> VortexResult<ArrayRef<A>>
     ensures found { IfOk result (λ index. IsIndexMessage bytes.now (index_of (column_of index))) }
     ensures plain { IfOk result (λ index. IsIndex (column_of index)) }

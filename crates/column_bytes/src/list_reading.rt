@@ -18,8 +18,8 @@ use runend_array::{ArrayRef, Canonical, ExecutionCtx, ListViewArray, RowValidity
 use std::alloc::Allocator;
 use std::rc::Rc;
 
-/// Returns the column of lists that stands behind this header, with at most so many levels of runs. Refused as
-/// `BadMetadata` exactly where none does, else only as `OutOfMemory`.
+/// Returns the column of lists after this header, with at most `levels` levels of runs. Refused as `BadMetadata`
+/// exactly where there is none, else only as `OutOfMemory`.
 pub(crate) fn read_lists<A: Allocator + Copy>(
     alloc: A,
     header: Header,
@@ -38,7 +38,7 @@ pub(crate) fn read_lists<A: Allocator + Copy>(
     read_behind_validity(alloc, rows, levels, rest, validity)
 }
 
-// The lists with this validity of which the bytes are all else.
+// The lists with this validity; the bytes hold all else of them.
 fn read_behind_validity<A: Allocator + Copy>(
     alloc: A,
     rows: usize,
@@ -69,7 +69,7 @@ fn read_behind_validity<A: Allocator + Copy>(
     }
 }
 
-// The lists of these elements with this validity, of which these are the messages of the offsets and of the sizes.
+// The lists of these elements with this validity, from the messages of the offsets and of the sizes.
 fn read_over_elements<A: Allocator + Copy>(
     alloc: A,
     rows: usize,
@@ -105,7 +105,7 @@ fn read_over_elements<A: Allocator + Copy>(
     }
 }
 
-// The column of so many lists of these parts.
+// The column of `rows` lists of these parts.
 fn join_lists<A: Allocator + Copy>(
     alloc: A,
     rows: usize,
@@ -130,7 +130,7 @@ fn join_lists<A: Allocator + Copy>(
     }
 }
 
-// The lists as a column, if they are so many, with at most so many levels of runs.
+// The lists as a column, if there are `rows` of them, with at most `levels` levels of runs.
 fn of_shape<A: Allocator + Copy>(
     alloc: A,
     rows: usize,

@@ -1,4 +1,4 @@
-//! How many bytes the messages of columns of lists have, told without writing them.
+//! How many bytes the messages of columns of lists have, counted without writing them.
 ghost use Rattle.std.specs.Prelude.{◌≡◌, ◌^◌, ◌<◌, ◌≤◌, ◌⊎◌, length, OnOk, IfOk, IfErr, IsErrOf};
 ghost use Rattle.column_core.specs.FlatColumn.{leaf_of};
 ghost use Rattle.column_fields.specs.ListFields.{list_fields};
@@ -23,8 +23,8 @@ use runend_array::{ArrayRef, ListViewArray, RowValidity, RunEndArray, RunEndArra
 use std::alloc::Allocator;
 
 /// Returns how many bytes the message of a column of lists has. Refused as `Unsupported` exactly where its offsets, its
-/// sizes or its validity are in runs and fewer than two levels are left, and as `OutOfMemory` where no count tells the
-/// bytes.
+/// sizes or its validity are in runs and fewer than two levels are left, and as `OutOfMemory` where the number of bytes
+/// does not fit `usize`.
 pub(crate) fn lists_size<A: Allocator + Copy>(
     lists: &ListViewArray<A>,
     levels: usize,
@@ -69,7 +69,7 @@ fn message_of_lists<A: Allocator + Copy>(lists: &ListViewArray<A>) -> VortexResu
     }
 }
 
-// How many bytes the fields have that tell which lists are valid.
+// How many bytes the fields have that say which lists are valid.
 #[tactic(auto, unfolding(column_fields::specs::Validity::validity_field))]
 fn row_validity_size<A: Allocator + Copy>(validity: &RowValidity<A>) -> VortexResult<usize>
     requires { IsRowValidity validity.now }
@@ -86,7 +86,7 @@ fn row_validity_size<A: Allocator + Copy>(validity: &RowValidity<A>) -> VortexRe
     }
 }
 
-// The same where runs of booleans tell it.
+// The same where runs of booleans say it.
 fn run_validity_size<A: Allocator + Copy>(runs: &RunEndArray<A>) -> VortexResult<usize>
     requires { IsPlainTruths runs.now.values }
     ensures size { IfOk result (λ size. size ≡ length (row_validity_field (runs_validity runs.now))) }
@@ -130,7 +130,8 @@ fn parts_size<A: Allocator + Copy>(lists: &ListViewArray<A>) -> VortexResult<usi
     }
 }
 
-/// Returns how many bytes the message of the elements has. Refused as `OutOfMemory` exactly where no count tells them.
+/// Returns how many bytes the message of the elements has. Refused as `OutOfMemory` exactly where their number does not
+/// fit `usize`.
 pub(crate) fn elements_size<A: Allocator>(column: &FlatColumn<A>) -> VortexResult<usize>
     ensures size { IfOk result (λ size. size ≡ length (column_bytes (OfLeaf (leaf_of column.now)))) }
     ensures stored { OnOk result (IsStoredLeaf (leaf_of column.now)) }
@@ -144,7 +145,7 @@ pub(crate) fn elements_size<A: Allocator>(column: &FlatColumn<A>) -> VortexResul
     }
 }
 
-/// Returns the same of the message of offsets or of sizes.
+/// Returns the same for the message of offsets or of sizes.
 pub(crate) fn index_size<A: Allocator + Copy>(index: &ArrayRef<A>) -> VortexResult<usize>
     requires { IsIndex (column_of index.now) }
     ensures size { IfOk result (λ size. size ≡ length (column_bytes (column_of index.now))) }
@@ -159,7 +160,7 @@ pub(crate) fn index_size<A: Allocator + Copy>(index: &ArrayRef<A>) -> VortexResu
     }
 }
 
-/// Returns the same of the message of runs over flat integers or booleans.
+/// Returns the same for the message of runs over flat integers or booleans.
 pub(crate) fn flat_runs_size<A: Allocator + Copy>(runs: &RunEndArray<A>) -> VortexResult<usize>
     requires { IsPlainIndex runs.now.values ⊎ IsPlainTruths runs.now.values }
     ensures size { IfOk result (λ size. size ≡ length (column_bytes (column_of_runs runs.now))) }
@@ -176,7 +177,7 @@ pub(crate) fn flat_runs_size<A: Allocator + Copy>(runs: &RunEndArray<A>) -> Vort
     }
 }
 
-/// Returns the same of the message of their values.
+/// Returns the same for the message of their values.
 pub(crate) fn run_values_size<A: Allocator>(values: &ArrayRef<A>) -> VortexResult<usize>
     requires { IsPlainIndex (column_of values.now) ⊎ IsPlainTruths (column_of values.now) }
     ensures size { IfOk result (λ size. size ≡ length (column_bytes (column_of values.now))) }

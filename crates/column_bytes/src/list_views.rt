@@ -15,10 +15,10 @@ use column_fields::{
     ValidityView, holds_bits, holds_values, read_bytes, read_constant, read_header, view_validity,
 };
 
-/// The number of the type of offsets and of sizes.
+/// Numbers the type of offsets and of sizes.
 const INDICES: u64 = 4;
 
-/// How many elements there are, and offsets, sizes and validity.
+/// Holds the number of elements, and the offsets, sizes and validity of lists.
 #[derive(Clone, Copy)]
 pub(crate) struct ListsView<'a> {
     pub(crate) elements: u64,
@@ -27,21 +27,21 @@ pub(crate) struct ListsView<'a> {
     pub(crate) validity: RowValidityView<'a>,
 }
 
-/// Offsets or sizes: the bytes of flat ones, or runs.
+/// Holds offsets or sizes: the bytes of flat ones, or runs.
 #[derive(Clone, Copy)]
 pub(crate) enum IndexView<'a> {
     Flat(&'a [u8]),
     Runs(RunsView<'a>),
 }
 
-/// Which lists are valid, row by row or in runs.
+/// Says which lists are valid, row by row or in runs.
 #[derive(Clone, Copy)]
 pub(crate) enum RowValidityView<'a> {
     Rows(ValidityView<'a>),
     Runs(RunsView<'a>),
 }
 
-/// Returns the offsets or sizes of which the bytes are the message, or `None` exactly where they are that of none.
+/// Returns the offsets or sizes that the bytes are the message of, or `None` exactly where they are not such a message.
 /// Takes no memory.
 pub(crate) fn view_index(bytes: &[u8]) -> Option<IndexView<'_>>
     ensures found { IfSome result (λ v. (index : Index) × IsIndexMessage bytes.now index × ShowsIndex v index) }
@@ -91,8 +91,8 @@ fn view_run_validity(bytes: &[u8], rows: u64) -> Option<(RowValidityView<'_>, &[
     Some((RowValidityView::Runs(runs), rest))
 }
 
-/// Returns how many elements there are in the flat column of which the bytes are the message, or `None` exactly where
-/// they are that of none. Takes no memory.
+/// Returns how many elements the flat column has that the bytes are the message of, or `None` exactly where they are
+/// not such a message. Takes no memory.
 pub(crate) fn count_elements(bytes: &[u8]) -> Option<u64>
     ensures found { IfSome result (λ n. (leaf : Leaf) × IsLeafMessage bytes.now leaf × (length (leaf_rows leaf) ≡ n)) }
     ensures none { IfNone result (IsNoLeafMessage bytes.now) }

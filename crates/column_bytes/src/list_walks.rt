@@ -33,7 +33,7 @@ pub(crate) fn rows_fit(view: ListsView<'_>, rows: u64) -> bool
     true
 }
 
-/// How far the run lengths of the parts of lists are read.
+/// Says how far the run lengths of the parts of lists are read.
 #[derive(Clone, Copy)]
 pub(crate) struct Cursors<'a> {
     pub(crate) flags: RunCursor<'a>,
@@ -41,8 +41,8 @@ pub(crate) struct Cursors<'a> {
     pub(crate) sizes: RunCursor<'a>,
 }
 
-/// Whether a row is null or its elements lie within those that there are, and before which row the rows from it on stop
-/// to be like it.
+/// Says whether a row is null or its elements lie within those that there are, and how far the rows from it on are like
+/// it.
 #[derive(Clone, Copy)]
 pub(crate) struct Step<'a> {
     pub(crate) fits: bool,
@@ -161,7 +161,8 @@ impl<'a> IndexView<'a> {
         }
     }
 
-    // The offset or size of a row: of flat ones that row alone, in runs up to the end of its run.
+    // The offset or size of a row, for this row only if they are flat, and up to the end of its run if they are in
+    // runs.
     fn number_from(self, cursor: RunCursor<'a>, row: u64) -> Option<Stretch<'a, u64>>
         requires { row + 1 < 2 ^ 64 }
         ensures past { IfSome result (λ s. row < s.stop) }

@@ -23,7 +23,7 @@ use column_fields::{Header, put_bit_validity, put_bytes_key, put_header, put_num
 use runend_array::{ArrayRef, ListViewArray, RowValidity, RunEndArray, RunEndArraySlotsExt};
 use std::alloc::Allocator;
 
-/// The number of the type of lists.
+/// Numbers the type of lists.
 pub(crate) const LISTS: u64 = 13;
 
 /// Writes a column of lists at the end. Refused as `Unsupported` exactly where its offsets, its sizes or its validity
@@ -83,7 +83,7 @@ fn is_in_runs<A: Allocator>(array: &ArrayRef<A>) -> bool
     }
 }
 
-// Writes the fields that tell which lists are valid.
+// Writes the fields that say which lists are valid.
 #[tactic(auto, unfolding(column_fields::specs::Validity::validity_field))]
 fn put_row_validity<A: Allocator + Copy, W: BufMut>(
     out: &mut W,
@@ -106,7 +106,7 @@ fn put_row_validity<A: Allocator + Copy, W: BufMut>(
     }
 }
 
-// Writes that runs of booleans tell the validity, and their message.
+// Writes that the validity is in runs of booleans, and their message.
 fn put_run_validity<A: Allocator + Copy, W: BufMut>(
     out: &mut W,
     runs: &RunEndArray<A>,

@@ -7,8 +7,8 @@ ghost use Rattle.column_bytes.specs.Read.{JoinsRuns, JoinsNoRuns};
 
 use column_fields::{EndsSpan, Header, RunFields, read_header, span_of_lengths};
 
-/// Returns whether there are runs with this header and these fields over the column of which the values are the
-/// message, if they are one. Only the header of the values is looked at.
+/// Returns whether runs can have this header and these fields, over the column that the values are the message of, if
+/// they are a message. Looks only at the header of the values.
 pub(crate) fn joins_runs(header: Header, fields: RunFields<'_>) -> bool
     ensures yes { OnTrue result (JoinsRuns header.kind header.rows fields.entry.offset fields.entry.ends_type
         fields.entry.lengths.now fields.entry.values.now) }

@@ -6,7 +6,7 @@ ghost use Rattle.column_bytes.specs.ListViews.{IsReadTo};
 
 use column_fields::read_shortest;
 
-/// How far run lengths are read: how many runs, the end of the last of them, or 0 before the first, and the bytes of
+/// Says how far run lengths are read: how many runs, the end of the last of them (0 before the first), and the bytes of
 /// the lengths after it.
 #[derive(Clone, Copy)]
 pub(crate) struct RunCursor<'a> {

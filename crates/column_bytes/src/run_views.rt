@@ -8,8 +8,8 @@ use column_fields::{
     read_constant, read_header, read_last_bytes, read_run_fields, span_of_lengths,
 };
 
-/// A window over runs of a flat column without null: how many rows it shows, from which offset on, how many runs there
-/// are, and the bytes of the run lengths and of the items.
+/// Holds a window over runs of a flat column without null: how many rows it shows, from which offset on, how many runs
+/// there are, and the bytes of the run lengths and of the items.
 #[derive(Clone, Copy)]
 pub(crate) struct RunsView<'a> {
     pub(crate) rows: u64,
@@ -20,7 +20,7 @@ pub(crate) struct RunsView<'a> {
 }
 
 /// Returns the runs over a flat column without null whose type has this number, or `None` exactly where the bytes are
-/// the message of none, whatever its items. The items are not looked at. Takes no memory.
+/// not the message of such runs, whatever their items. The items are not looked at. Takes no memory.
 pub(crate) fn view_runs(bytes: &[u8], kind: u64) -> Option<RunsView<'_>>
     ensures found { IfSome result (λ v. (t : EndsType) × (ends : List ℕ) × AreRunsSeen kind bytes.now t ends v) }
     ensures none { IfNone result (AreRunsOfNone kind bytes.now) }
@@ -48,8 +48,8 @@ pub(crate) fn view_runs(bytes: &[u8], kind: u64) -> Option<RunsView<'_>>
 }
 
 /// Returns how many rows a flat column without null has whose type has this number, and the bytes of its items, or
-/// `None` exactly where the bytes are the message of none, whatever its items. The items are not looked at. Takes no
-/// memory.
+/// `None` exactly where the bytes are not the message of such a column, whatever its items. The items are not looked
+/// at. Takes no memory.
 pub(crate) fn view_flat(bytes: &[u8], kind: u64) -> Option<(u64, &[u8])>
     ensures found { IfSome result (λ r. IsFlatOf kind bytes.now r.0 r.1.now) }
     ensures none { IfNone result (IsFlatOfNone kind bytes.now) }

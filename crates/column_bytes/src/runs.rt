@@ -25,8 +25,8 @@ use runend_array::{ArrayRef, RunEnd, RunEndArray, RunEndArrayExt, RunEndArraySlo
 use runend_windows::last_end_of;
 use std::alloc::Allocator;
 
-/// Writes a run column at the end, but for the message of its values, which is to stand behind it and has so many
-/// bytes. Refused only as `OutOfMemory`.
+/// Appends a run column, except for the message of its values, which has `values` bytes and has to come next. Refused
+/// only as `OutOfMemory`.
 pub(crate) fn put_runs<A: Allocator + Copy, W: BufMut>(
     out: &mut W,
     runs: &RunEndArray<A>,
@@ -56,8 +56,8 @@ pub(crate) fn put_runs<A: Allocator + Copy, W: BufMut>(
     Ok(())
 }
 
-/// Returns how many bytes the message of a run column has, where that of its values has so many. Refused as
-/// `OutOfMemory` exactly where no count tells them.
+/// Returns how many bytes the message of a run column has, given the number of bytes of the message of its values.
+/// Refused as `OutOfMemory` exactly where the answer does not fit `usize`.
 pub(crate) fn runs_size<A: Allocator + Copy>(
     runs: &RunEndArray<A>,
     values: usize,
@@ -91,7 +91,7 @@ fn header_of<A: Allocator + Copy>(runs: &RunEndArray<A>) -> Header
     }
 }
 
-/// Returns the run column behind this header, with these fields and values. Refused as `BadMetadata` exactly where they
+/// Returns the run column after this header, with these fields and values. Refused as `BadMetadata` exactly where they
 /// make none, else only as `OutOfMemory`.
 pub(crate) fn read_runs<A: Allocator + Copy>(
     alloc: A,
@@ -109,7 +109,7 @@ pub(crate) fn read_runs<A: Allocator + Copy>(
     ArrayRef::of_runs(alloc, runs)
 }
 
-/// Returns the same, as a run column.
+/// Returns the same run column, not as an array.
 pub(crate) fn read_run_array<A: Allocator + Copy>(
     alloc: A,
     header: Header,
@@ -137,7 +137,7 @@ pub(crate) fn read_run_array<A: Allocator + Copy>(
     }
 }
 
-// The ends of that type of which these are the run lengths.
+// The ends, of that type, of runs with these lengths.
 fn read_ends<A: Allocator + Copy>(
     alloc: A,
     ends_type: PType,
@@ -184,8 +184,8 @@ fn join_runs<A: Allocator + Copy>(
     Ok(RunEnd::new_unchecked(ArrayRef::Primitive(ends), values, offset, rows))
 }
 
-// Do ends that rise and so many values make runs that show so many rows from an offset on? Takes a look at the first
-// and the last end alone.
+// Do ends that rise and this number of values make runs that show `rows` rows from `offset` on? Looks only at the first
+// and the last end.
 fn are_runs<A: Allocator>(
     ends: &PrimitiveArray<A>,
     values: usize,

@@ -1,4 +1,4 @@
-//! How many bytes the message of a column has, told without writing it.
+//! How many bytes the message of a column has, counted without writing it.
 ghost use Rattle.std.specs.Prelude.{◌≡◌, ◌^◌, ◌<◌, ◌≤◌, length, OnOk, IfOk, IfErr, IsErrOf};
 ghost use Rattle.runend_array.specs.Array.{column_of};
 ghost use Rattle.runend_array.specs.Column.{depth};
@@ -15,7 +15,7 @@ use runend_array::{ArrayRef, RunEndArraySlotsExt};
 use std::alloc::Allocator;
 
 /// Returns how many bytes the message of a column has. Takes no memory. Refused as `Unsupported` exactly where
-/// `write_column` is, and as `OutOfMemory` exactly where no count tells so many bytes, as no memory has them.
+/// `write_column` is, and as `OutOfMemory` exactly where their number does not fit `usize`: no memory has them.
 pub fn message_size<A: Allocator + Copy>(array: &ArrayRef<A>) -> VortexResult<usize>
     ensures size { IfOk result (λ size. size ≡ length (column_bytes (column_of array.now))) }
     ensures writable { OnOk result (IsWritable 16 (column_of array.now)) }
@@ -28,7 +28,7 @@ pub fn message_size<A: Allocator + Copy>(array: &ArrayRef<A>) -> VortexResult<us
     size_within(array, MOST_LEVELS)
 }
 
-/// Returns the same of a message with at most so many levels of runs.
+/// Returns the same for a message with at most `levels` levels of runs.
 pub(crate) fn size_within<A: Allocator + Copy>(
     array: &ArrayRef<A>,
     levels: usize,

@@ -13,8 +13,8 @@ use column_core::{VarBinKind, VarBinViewArray, View};
 use column_fields::{read_bytes, read_last_bytes, read_validity};
 use std::alloc::Allocator;
 
-/// Returns the flat column of so many rows of texts, or of bytes, of which the bytes are the fields: one buffer has the
-/// bytes that the rows show, one row after the other. Refused as `BadMetadata` exactly where they are those of no such
+/// Returns the flat column of `rows` texts, or bytes, that the bytes are the fields of: one buffer has the bytes that
+/// the rows show, one row after the other. Refused as `BadMetadata` exactly where they are not the fields of such a
 /// column, else only as `OutOfMemory`.
 pub fn read_text_fields<A: Allocator + Copy>(
     alloc: A,
@@ -47,7 +47,7 @@ pub(crate) fn read_text_items(bytes: &[u8]) -> Option<(&[u8], &[u8])>
     Some((sizes, content))
 }
 
-// The column of so many rows with this validity, where these are the bytes of the sizes, and those that the rows show.
+// The column of `rows` rows with this validity, from the bytes of the sizes, and the bytes that the rows show.
 fn read_rows<A: Allocator + Copy>(
     alloc: A,
     kind: VarBinKind,

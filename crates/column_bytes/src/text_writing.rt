@@ -15,12 +15,11 @@ use column_fields::{
 };
 use std::alloc::Allocator;
 
-// The most that a count tells.
+// The greatest number of a `usize`.
 const MOST: u128 = usize::MAX as u128;
 
-/// Writes which rows are null, how many bytes each row shows, and these bytes, at the end. Refused as `OutOfMemory`
-/// only, where the buffer has less room or no count says how many bytes these are; what it held stays in front also
-/// then.
+/// Appends which rows are null, how many bytes each row shows, and these bytes. Refused only as `OutOfMemory`, where
+/// the buffer has less room or the number of bytes does not fit `usize`; what it held stays in front also then.
 pub fn put_text_fields<A: Allocator, W: BufMut>(
     out: &mut W,
     array: &VarBinViewArray<A>,
@@ -42,7 +41,7 @@ pub fn put_text_fields<A: Allocator, W: BufMut>(
     Ok(())
 }
 
-/// Returns how many bytes these fields have. Refused as `OutOfMemory` exactly where no count tells them.
+/// Returns how many bytes these fields have. Refused as `OutOfMemory` exactly where their number does not fit `usize`.
 pub fn text_fields_size<A: Allocator>(array: &VarBinViewArray<A>) -> VortexResult<usize>
     ensures size { IfOk result (λ size. size ≡
         length (text_fields array.now.validity (text_sizes array.now) (text_bytes array.now))) }
@@ -63,8 +62,8 @@ pub fn text_fields_size<A: Allocator>(array: &VarBinViewArray<A>) -> VortexResul
     }
 }
 
-// How many bytes tell how many bytes each row shows, and how many the rows show together. Refused as `OutOfMemory`
-// where no count tells them.
+// How many bytes the sizes of all rows have, and how many bytes the rows show together. Refused as `OutOfMemory` where
+// a number does not fit `usize`.
 fn count<A: Allocator>(array: &VarBinViewArray<A>) -> VortexResult<(usize, usize)>
     ensures sizes { IfOk result (λ r. r.0 ≡ length (sizes_bytes (text_sizes array.now))) }
     ensures content { IfOk result (λ r. r.1 ≡ sum (text_sizes array.now)) }
@@ -80,7 +79,7 @@ fn count<A: Allocator>(array: &VarBinViewArray<A>) -> VortexResult<(usize, usize
     Ok((sizes as usize, content as usize))
 }
 
-// The same, past what a count tells too.
+// The same, also where a number does not fit `usize`.
 fn measure<A: Allocator>(array: &VarBinViewArray<A>) -> (u128, u128)
     ensures sizes { result.0 ≡ length (sizes_bytes (text_sizes array.now)) }
     ensures content { result.1 ≡ sum (text_sizes array.now) }

@@ -44,8 +44,8 @@ pub(crate) fn put_texts<A: Allocator, W: BufMut>(
     Ok(())
 }
 
-/// Returns the flat column of so many rows of texts, or of bytes, that stands behind its header. Refused as
-/// `BadMetadata` exactly where none does, else only as `OutOfMemory`.
+/// Returns the flat column of `rows` texts, or bytes, after its header. Refused as `BadMetadata` exactly where there is
+/// none, else only as `OutOfMemory`.
 pub(crate) fn read_texts<A: Allocator + Copy>(
     alloc: A,
     kind: VarBinKind,

@@ -24,8 +24,9 @@ use std::alloc::Allocator;
 use std::str;
 
 /// Returns how many bytes the message of a column with the logical type of this name has. An empty name says that the
-/// column has none: the message is that of `put_message`. Takes no memory. Refused as `Unsupported` exactly where the
-/// column has more than 16 levels of runs, and as `OutOfMemory` exactly where these are 2^64 bytes or more.
+/// column has none: the message is the one that `put_message` writes. Takes no memory. Refused as `Unsupported` exactly
+/// where the column has more than 16 levels of runs, and as `OutOfMemory` exactly where the message has 2^64 bytes or
+/// more.
 pub fn typed_size<A: Allocator + Copy>(format: &str, array: &ArrayRef<A>) -> VortexResult<usize>
     ensures size { IfOk result (λ size.
         size ≡ length (typed_bytes format.now (column_bytes (column_of array.now)))) }
@@ -47,7 +48,7 @@ pub fn typed_size<A: Allocator + Copy>(format: &str, array: &ArrayRef<A>) -> Vor
 
 /// Writes the message of a column with the logical type of this name to the end of a buffer: version 2, the name, and
 /// the message of the column. An empty name says that the column has none: then it is only that message. Refused as
-/// `put_message` is, and what an `Err` leaves is as there.
+/// `put_message` is, and an `Err` leaves the same.
 pub fn put_typed<A: Allocator + Copy, W: BufMut>(
     out: &mut W,
     format: &str,
@@ -96,9 +97,9 @@ pub fn write_typed<A: Allocator + Copy, B: Allocator + Copy>(
     Ok(out)
 }
 
-/// Returns the column of which the bytes are the message, and the name of its logical type, which is empty where it has
-/// none. Refused as `BadMetadata` exactly where they are the message of no column with at most 16 levels of runs, with
-/// or without a logical type; else only as `OutOfMemory`.
+/// Returns the column that the bytes are the message of, and the name of its logical type, which is empty where it has
+/// none. Refused as `BadMetadata` exactly where they are not the message of a column with at most 16 levels of runs,
+/// with or without a logical type; else only as `OutOfMemory`.
 pub fn read_typed<A: Allocator + Copy>(alloc: A, bytes: &[u8]) -> VortexResult<(&str, ArrayRef<A>)>
     ensures found { IfOk result (λ read. IsTypedMessage 16 bytes.now read.0.now (column_of read.1)) }
     ensures bad { IsErrOf result VortexError.BadMetadata → IsNoTypedMessage 16 bytes.now }
@@ -135,7 +136,8 @@ pub fn type_start(format: &str) -> usize
     number_size(1, 2) + bytes_key_size(22, format.len())
 }
 
-/// Bytes are those of at most one logical type and column. The function does nothing: its clause is the law.
+/// Proves that bytes are those of at most one logical type and column. The function does nothing: its clause is the
+/// law.
 pub fn typed_spelling_is_unique()
     ensures { TypedSpellingIsUnique }
 {}

@@ -1,4 +1,4 @@
-//! Views of rows that stand one behind the other.
+//! Views of rows whose bytes come one after the other.
 ghost use Rattle.std.specs.Prelude.{◌≡◌, ◌^◌, ◌<◌, ◌≤◌, length, vec_capacity, IfOk, IfErr, IsErrOf, IsTrue, IsFalse};
 ghost use Rattle.std.specs.Bool.{OnTrue, OnFalse};
 ghost use Rattle.column_base.specs.Validity.{form_of, validity_flags};
@@ -13,9 +13,9 @@ use column_core::View;
 use column_fields::read_shortest;
 use std::alloc::Allocator;
 
-/// Returns the views of rows that stand one behind the other, where these are the bytes of their sizes, which are so
-/// many bytes together; a null row has none. Refused as `BadMetadata` exactly where there are no such rows, else only
-/// as `OutOfMemory`.
+/// Returns the views of rows whose bytes come one after the other, from the bytes of their sizes; all rows together
+/// have `total` bytes, and a null row has none. Refused as `BadMetadata` exactly where the bytes are not the sizes of
+/// such rows, else only as `OutOfMemory`.
 pub(crate) fn read_views<A: Allocator + Copy>(
     alloc: A,
     validity: &Validity<A>,
@@ -36,8 +36,8 @@ pub(crate) fn read_views<A: Allocator + Copy>(
     Ok(views)
 }
 
-// The views of so many rows that stand one behind the other, where these are the bytes of their sizes, which are so
-// many bytes together. Takes memory only where there are at least as many bytes as rows.
+// The views of `rows` rows whose bytes come one after the other, from the bytes of their sizes; all rows together have
+// `total` bytes. Takes memory only where there are at least as many bytes as rows.
 fn load_views<A: Allocator>(
     alloc: A,
     rows: usize,

@@ -23,7 +23,7 @@ shown-number number items ns i item seen shown within is same =
     ap (option_map (λ n. Some (Single (Number n))))
     (ap (λ (all : List ℤ). slice_get all i) (sym shown) ∙ slice_get-map number items i ∙ ap (option_map number) read ∙ ap Some (sym same))
 
--- a number of so many bits fits
+-- a number of as many bits as its width fits
 pub fits-unsigned : (w : Width) (n : ℕ) → n < 2 ^ bits w → FitsUnsigned w (pos n)
 fits-unsigned w n small = (omega (arith, ints), omega (arith, ints))
 

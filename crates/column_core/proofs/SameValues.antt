@@ -1,4 +1,4 @@
--- What `==` says of two owned values of one type: that they stand for one flat value.
+-- What `==` says of two owned values of one type: that they hold one flat value.
 use Rattle.std.proofs.Common.{◌≡◌, Option, Some, None, refl, ap}
 use Rattle.std.specs.Prelude.{option_map, ◌==◌, pos}
 use Rattle.std.specs.Option.{option_eq}
@@ -32,7 +32,7 @@ module _ (A : RattleType) (G : Ghosts A.Denot) (d e : Dict) where
   same_value (owned.Signed a) (owned.Unsigned b) t h k = absurd h
   same_value a b t h k = refl
 
-  -- equality of optional owned values is that of what they stand for
+  -- equality of optional owned values is equality of what they hold
   pub same_values : (a b : Option (ScalarValue A.Denot)) (t : DType) → IsScalarOf t a → IsScalarOf t b
       → option_eq (value_eq.ghosts A G d e).eq a b ≡ option_eq same_flat (option_map flat_of a) (option_map flat_of b)
   same_values None None t h k = refl

@@ -35,14 +35,14 @@ valid-where_told form n k told has within is set = flag-of_row form n k has with
 pub null-where_told : (form : ValidityForm) (n k : ℕ) (told : Bool) → HasLength form n → k < n → told ≡ flag_at form k → told ≡ false → ¬ (get_or (flags form n) k false ≡ true)
 null-where_told form n k told has within is unset valid = false≢true (sym unset ∙ is ∙ sym (flag-of_row form n k has within) ∙ valid)
 
--- a validity that tells the number of its rows speaks of so many
+-- a validity that has a number of rows is one of that number
 pub has-length-told : (form : ValidityForm) (n count : ℕ) → length_of form ≡ Some count → count ≡ n → HasLength form n
 has-length-told NeverNull n count told same = tt
 has-length-told NoneNull n count told same = tt
 has-length-told AllNull n count told same = tt
 has-length-told (ByBits bits) n count told same = let long : length bits ≡ count = cc in long ∙ same
 
--- and one that tells none speaks of any
+-- and one that has none is one of any number
 pub has-length-untold : (form : ValidityForm) (n : ℕ) → ((count : ℕ) → ¬ (length_of form ≡ Some count)) → HasLength form n
 has-length-untold NeverNull n untold = tt
 has-length-untold NoneNull n untold = tt

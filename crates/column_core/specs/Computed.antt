@@ -12,14 +12,14 @@ use Rattle.column_core.specs.Leaf.{Leaf, OfNumbers, OfTruths, OfDecimals, OfVarB
 abbrev pub HasRowIfAllNull : ValidityForm → ℕ → Type 0
 HasRowIfAllNull form count = form ≡ AllNull → 0 < count
 
--- items as a call computes them: the blank one is stored under null, bits stand only for rows of both kinds, and no
+-- items as a call computes them: the blank one is stored under null, there are bits only for rows of both kinds, and no
 -- rows are not all null
 pub record AreComputed {B : Type 0} (blank : B) (items : List B) (validity : ValidityForm) : Type 0 where
   pub blanked : AreBlankAtNulls blank items (flags validity (length items))
   pub normal : IsNormal validity
   pub some : HasRowIfAllNull validity (length items)
 
--- items as a constant is written out, of which there may be none
+-- items as a constant is written out; there may be none
 pub record AreWrittenOut {B : Type 0} (blank : B) (items : List B) (validity : ValidityForm) : Type 0 where
   pub blanked : AreBlankAtNulls blank items (flags validity (length items))
   pub normal : IsNormal validity
@@ -42,7 +42,7 @@ IsWrittenLeaf (OfTruths form) = AreWrittenOut false form.bits form.validity
 IsWrittenLeaf (OfDecimals form) = AreWrittenOut (pos 0) form.numbers form.validity
 IsWrittenLeaf (OfVarBins form) = AreWrittenOut zero_view form.views form.validity
 
--- the validity of rows of which none is null
+-- the validity of rows none of which is null
 abbrev pub without_nulls : Nullability → ValidityForm
 without_nulls NonNullable = NeverNull
 without_nulls Nullable = NoneNull

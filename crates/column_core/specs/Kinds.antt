@@ -1,4 +1,4 @@
--- Kinds of types: types that differ in nullability alone are of one kind.
+-- Kinds of types: types that differ only in nullability are of one kind.
 use Rattle.std.specs.Prelude.{if◌then◌else◌, Bool, true, false, Option, Some, None}
 use Rattle.column_base.specs.contracts.dtype.DTypePartialEq.TheImpl as dtype_eq
 use Rattle.column_base.specs.declared.dtype.Nullability.TheVariants.{NonNullable}
@@ -30,6 +30,6 @@ is_numbers (column.Utf8 n) = false
 is_numbers (column.Binary n) = false
 is_numbers (column.List e n) = false
 
--- whether two types are equal but for nullability
+-- whether two types are equal except for nullability
 abbrev pub same_kind : DType → DType → Bool
 same_kind t u = (dtype_eq.ghosts).eq (with_nullability t NonNullable) (with_nullability u NonNullable)

@@ -1,4 +1,4 @@
--- Items of which some are null: the items as they are stored, and a flag for each.
+-- Items some of which are null: the items as they are stored, and a flag for each.
 use Rattle.std.specs.Prelude.{◌≡◌, List, [], ◌∷◌, Bool, false, Option, Some, None, if◌then◌else◌}
 
 -- each item where its flag is true, and null elsewhere

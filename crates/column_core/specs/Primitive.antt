@@ -1,4 +1,4 @@
--- The column of two parts.
+-- The column with two given parts.
 use Rattle.column_base.specs.declared.values.PrimitiveValues.{PrimitiveValues}
 use Rattle.column_base.specs.declared.validity.Validity.{Validity}
 use Rattle.column_base.specs.Numbers.{numbers, ptype_of}

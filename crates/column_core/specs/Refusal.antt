@@ -4,11 +4,11 @@ use Rattle.std.specs.Option.{option_or}
 use Rattle.column_base.specs.declared.error.VortexError.{VortexError}
 use Rattle.column_base.specs.declared.error.VortexError.TheVariants.{BadRange, OutOfBounds, OutOfMemory}
 
--- a range of so many rows begins after its stop, or stops after the last row
+-- a range begins after its stop, or stops after the last of the rows
 abbrev pub range_fault : ℕ → ℕ → ℕ → Option VortexError
 range_fault start stop count = cond (nat_lt stop start || nat_lt count stop) (Some (BadRange start stop count)) None
 
--- there is no row of this number
+-- the column has no row of this number
 abbrev pub row_fault : ℕ → ℕ → Option VortexError
 row_fault index count = cond (nat_lt index count) None (Some (OutOfBounds (pos index) count))
 

@@ -7,7 +7,7 @@ use Rattle.column_core.specs.Value.{FlatValue, Truth, Number, DecimalNumber, Tex
 use Rattle.column_core.specs.declared.scalar.ScalarValue.{ScalarValue}
 use Rattle.column_core.specs.declared.scalar.ScalarValue.TheVariants as owned
 
--- the flat value that an owned value stands for
+-- the flat value that an owned value holds
 abbrev pub flat_of : {A : Type 0} → ScalarValue A → FlatValue
 flat_of (owned.Bool b) = Truth b
 flat_of (owned.Unsigned n) = Number (pos n)

@@ -1,4 +1,4 @@
--- What stands in a row, and what a column is to its user.
+-- What is in a row, and what a column is to its user.
 use Rattle.std.specs.Prelude.{ℕ, ℤ, Bool, List, Option, Some, None, All, FitsSigned}
 use Rattle.std.specs.Int.{w128}
 use Rattle.std.specs.Str.{IsUtf8}

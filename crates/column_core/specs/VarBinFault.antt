@@ -1,4 +1,4 @@
--- Why parts are no flat column of texts or of bytes: the first fault, in the order in which they are tested.
+-- Why parts do not make a flat column of texts or of bytes: the first fault, in the order in which they are tested.
 use Rattle.std.specs.Prelude.{◌≡◌, ◌≢◌, ℕ, ◌<◌, pos, length, Some, slice_index_or}
 use Rattle.column_base.specs.declared.error.VortexError.{VortexError}
 use Rattle.column_base.specs.declared.error.VortexError.TheVariants.{ColumnLength, OutOfBounds, TypeMismatch}
@@ -34,7 +34,7 @@ pub record IsNoText (form : VarBinForm) (row : ℕ) : Type 0 where
   pub valid : IsValidRow form row
   pub otherwise : ¬ IsOfKindAt form row
 
--- the first fault: lengths that differ, then a view outside of its buffer, then bytes that are no text
+-- the first fault: lengths that differ, then a view outside of its buffer, then bytes that are not a text
 abbrev pub VarBinFault : VarBinForm → VortexError → Type 0
 VarBinFault form (ColumnLength views count) = (views ≡ length form.views) × (length_of form.validity ≡ Some count) × (views ≢ count)
 VarBinFault form (OutOfBounds index count) = HasLength form.validity (length form.views) × (count ≡ length form.views) × ((row : ℕ) × ((index ≡ pos row) × IsFirstOutside form row))

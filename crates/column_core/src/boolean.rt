@@ -14,7 +14,7 @@ use std::alloc::Allocator;
 use std::marker::Model;
 use std::ops::Range;
 
-/// Booleans, of which some rows may be null. Under null a bit is stored that no row shows.
+/// Holds booleans, and says which rows are null. Under null a bit is stored that no row shows.
 #[derive(Drop)]
 pub struct BoolArray<A: Allocator> {
     bits: BitBuffer<A>,
@@ -76,7 +76,7 @@ impl<A: Allocator> BoolArray<A> {
         self.bits.len()
     }
 
-    /// Returns whether there are no rows.
+    /// Returns whether the column has no rows.
     pub fn is_empty(&self) -> bool
         ensures { IsTrue result ↔ (self.now.bits ≡ []) }
     {
@@ -128,8 +128,8 @@ impl<A: Allocator> BoolArray<A> {
 }
 
 impl<A: Allocator + Copy> BoolArray<A> {
-    /// Returns a copy of the column in its form. Its buffers are shared with these where these are shared, and else
-    /// copied. Refused only as `OutOfMemory`.
+    /// Returns a copy of the column in its form. Shares the buffers that are shared, and copies the others. Refused
+    /// only as `OutOfMemory`.
     pub fn try_clone(&self, alloc: A) -> VortexResult<BoolArray<A>>
         ensures only { IsOkUnless result VortexError.OutOfMemory }
         ensures form { IfOk result (λ array. array ≡ self.now) }
@@ -139,8 +139,8 @@ impl<A: Allocator + Copy> BoolArray<A> {
         Ok(BoolArray { bits, validity })
     }
 
-    /// Returns a copy of the column in the same form, with buffers that are shared with none: what these are a part of
-    /// may then be freed. Refused only as `OutOfMemory`.
+    /// Returns a copy of the column in its form, with buffers that nothing else shares: a longer buffer that these are
+    /// a part of may then be freed. Refused only as `OutOfMemory`.
     pub fn compact(&self, alloc: A) -> VortexResult<BoolArray<A>>
         ensures only { IsOkUnless result VortexError.OutOfMemory }
         ensures form { IfOk result (λ array. array ≡ self.now) }
@@ -150,10 +150,10 @@ impl<A: Allocator + Copy> BoolArray<A> {
         Ok(BoolArray { bits, validity })
     }
 
-    /// Returns the rows from `range.start` to `range.end - 1`, with the bits as they are stored, shared with these as
-    /// `BitBuffer::slice` shares them, and else copied. Refused as `BadRange`, with both bounds and the number of rows,
-    /// exactly where the range begins after its end or ends after the last row, and that before any memory is taken;
-    /// else only as `OutOfMemory`.
+    /// Returns the rows from `range.start` to `range.end - 1`, with the bits as they are stored. Shares the bits as
+    /// `BitBuffer::slice` does, and copies them otherwise. Refused as `BadRange`, with both bounds and the number of
+    /// rows, exactly where the range begins after its end or ends after the last row, before any memory is taken; else
+    /// only as `OutOfMemory`.
     pub fn slice(&self, alloc: A, range: Range<usize>) -> VortexResult<BoolArray<A>>
         ensures refused { let count = length (bool_rows self.now) in
             IsErrOf result (VortexError.BadRange range.start range.end count) ↔ IsBadRange range.start range.end count }

@@ -1,4 +1,4 @@
-//! The ends of runs, where each test of an end is counted in contracts alone.
+//! The ends of runs. Each test of an end is counted, which only contracts see.
 ghost use Rattle.std.specs.Prelude.{◌≡◌, ◌+◌, ◌-◌, ◌^◌, ◌<◌, ◌≤◌, ◌↔◌, IsTrue, length, map, min, slice_index};
 
 mod test_count;
@@ -7,13 +7,12 @@ use crate::counted::test_count::TestCount;
 use column_base::UnsignedPType;
 use std::marker::Model;
 
-/// The ends of runs, of which nothing can be read but how many there are, and what `test`,
-/// `number_if_ended` and `rows_to_end` say. The first two are one test each, and the third counts as the
-/// tests that would say the same. So a contract on the count of tests bounds all that a search can learn
-/// of the ends.
+/// Lends the ends of runs, of which only the number, `test`, `number_if_ended` and `rows_to_end` can be read. A call of
+/// `test` or `number_if_ended` counts as one test, and a call of `rows_to_end` as the tests that would say the same. So
+/// a contract on the number of tests bounds all that a search can learn of the ends.
 ///
-/// A contract sees a record: `ends`, the ends as natural numbers (in rows), and `tests`, how many
-/// tests were made. The count takes no bytes and no time.
+/// A contract sees a record: `ends`, the ends as natural numbers (in rows), and `tests`, the number of tests so far.
+/// The count takes no bytes and no time.
 #[derive(Drop)]
 pub struct CountedEnds<'a, E: UnsignedPType> {
     ends: &'a [E],
@@ -30,7 +29,7 @@ impl<'a, E: UnsignedPType> Model for CountedEnds<'a, E> {
 }
 
 impl<'a, E: UnsignedPType> CountedEnds<'a, E> {
-    /// These ends, of which none was tested yet.
+    /// Returns these ends, of which none was tested yet.
     pub fn new(ends: &'a [E]) -> CountedEnds<'a, E>
         ensures { result ≡ record { ends = map E.natural ends.now; tests = 0 } }
     {
@@ -47,7 +46,7 @@ impl<'a, E: UnsignedPType> CountedEnds<'a, E> {
         self.ends.len()
     }
 
-    /// Returns whether there are no runs.
+    /// Returns whether it has no runs.
     pub fn is_empty(&self) -> bool
         ensures { IsTrue result ↔ (length self.now.ends ≡ 0) }
     {
@@ -65,8 +64,8 @@ impl<'a, E: UnsignedPType> CountedEnds<'a, E> {
         self.tested_end(run) <= row as u64
     }
 
-    /// Returns the number where the run ends at or below the row, and else 0. This is one test, and a search that adds
-    /// the number takes no branch on what the test says.
+    /// Returns the number where the run ends at or below the row, and else 0. This is one test. A search that adds the
+    /// number needs no branch on the test.
     #[inline(always)]
     pub fn number_if_ended(&mut self, run: usize, row: usize, number: usize) -> usize
         requires { run < length self.old.ends }
@@ -78,9 +77,9 @@ impl<'a, E: UnsignedPType> CountedEnds<'a, E> {
         number & ended_mask(self.tested_end(run), row as u64) as usize
     }
 
-    /// Returns how many of `limit` rows, from `position` on, lie before the end of the run. That is what tests from row
-    /// to row tell, up to the first row that is not before the end, and it counts as these tests do: one for each row
-    /// that lies before the end, and one more where the end comes before the limit. The end is read once.
+    /// Returns how many of `limit` rows, from `position` on, lie before the end of the run. Tests of one row after the
+    /// other would find this, up to the first row that is not before the end, and it counts as many tests: one for each
+    /// row that lies before the end, and one more where the end comes before the limit. The end is read once.
     #[inline]
     pub fn rows_to_end(&mut self, run: usize, position: usize, limit: usize) -> usize
         requires { run < length self.old.ends }
@@ -106,7 +105,7 @@ impl<'a, E: UnsignedPType> CountedEnds<'a, E> {
         self.end(run)
     }
 
-    // The end of a run, for those alone that count it.
+    // The end of a run, only for callers that count the test.
     #[inline]
     fn end(&self, run: usize) -> u64
         requires { run < length self.now.ends }
@@ -117,8 +116,8 @@ impl<'a, E: UnsignedPType> CountedEnds<'a, E> {
     }
 }
 
-// All ones where the end is at or below the row, and else 0. The upper half of a difference of 128 bits is what it
-// borrowed. A comparison would be made a branch again, which a search misses at every other test.
+// All ones where the end is at or below the row, and else 0: the upper 64 bits of a difference of 128 bits, which are
+// what it borrowed. The compiler would make a branch of a comparison again, and a search mispredicts every other test.
 #[inline(always)]
 fn ended_mask(end: u64, row: u64) -> u64
     ensures ended { end ≤ row → result ≡ 2 ^ 64 - 1 }

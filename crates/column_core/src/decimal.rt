@@ -17,9 +17,9 @@ use std::alloc::Allocator;
 use std::marker::Model;
 use std::ops::Range;
 
-/// Decimals of one precision and scale, of which some rows may be null. Each is stored as the integer
-/// that it is times 10 to the power of the scale, and that number is not tested against the
-/// precision. Under null a number is stored that no row shows.
+/// Holds decimals of one precision and scale, and says which rows are null. A decimal is stored as the integer that it
+/// is times 10 to the power of the scale, and that number is not tested against the precision. Under null a number is
+/// stored that no row shows.
 #[derive(Drop)]
 pub struct DecimalArray<A: Allocator> {
     values: Buffer<i128, A>,
@@ -41,8 +41,9 @@ impl<A: Allocator> Model for DecimalArray<A> {
 }
 
 impl<A: Allocator + Copy> DecimalArray<A> {
-    /// Returns the column of these integers of decimals, null where the validity says so. Refused as `ColumnLength`,
-    /// with both lengths, where the validity is of another number of rows. Want of memory refuses nothing.
+    /// Returns the column of these integers of decimals, null where the validity says so. Refused only as
+    /// `ColumnLength`, with both lengths, where the validity is of another number of rows, and not where memory runs
+    /// out.
     pub fn try_new(
         values: Vec<i128, A>,
         decimal_dtype: DecimalDType,
@@ -94,7 +95,7 @@ impl<A: Allocator> DecimalArray<A> {
         self.values.len()
     }
 
-    /// Returns whether there are no rows.
+    /// Returns whether the column has no rows.
     pub fn is_empty(&self) -> bool
         ensures { IsTrue result ↔ (self.now.numbers ≡ []) }
     {
@@ -153,8 +154,8 @@ impl<A: Allocator> DecimalArray<A> {
 }
 
 impl<A: Allocator + Copy> DecimalArray<A> {
-    /// Returns a copy of the column in its form. Its buffers are shared with these where these are shared, and else
-    /// copied. Refused only as `OutOfMemory`.
+    /// Returns a copy of the column in its form. Shares the buffers that are shared, and copies the others. Refused
+    /// only as `OutOfMemory`.
     pub fn try_clone(&self, alloc: A) -> VortexResult<DecimalArray<A>>
         ensures only { IsOkUnless result VortexError.OutOfMemory }
         ensures form { IfOk result (λ array. array ≡ self.now) }
@@ -168,8 +169,8 @@ impl<A: Allocator + Copy> DecimalArray<A> {
         })
     }
 
-    /// Returns a copy of the column in the same form, with buffers that are shared with none: what these are a part of
-    /// may then be freed. Refused only as `OutOfMemory`.
+    /// Returns a copy of the column in its form, with buffers that nothing else shares: a longer buffer that these are
+    /// a part of may then be freed. Refused only as `OutOfMemory`.
     pub fn compact(&self, alloc: A) -> VortexResult<DecimalArray<A>>
         ensures only { IsOkUnless result VortexError.OutOfMemory }
         ensures form { IfOk result (λ array. array ≡ self.now) }
@@ -183,10 +184,10 @@ impl<A: Allocator + Copy> DecimalArray<A> {
         })
     }
 
-    /// Returns the rows from `range.start` to `range.end - 1`, with the numbers as they are stored, shared with these
-    /// where these are shared, and else copied. Refused as `BadRange`, with both bounds and the number of rows, exactly
-    /// where the range begins after its end or ends after the last row, and that before any memory is taken; else only
-    /// as `OutOfMemory`.
+    /// Returns the rows from `range.start` to `range.end - 1`, with the numbers as they are stored. Shares the buffers
+    /// that are shared, and copies the others. Refused as `BadRange`, with both bounds and the number of rows, exactly
+    /// where the range begins after its end or ends after the last row, before any memory is taken; else only as
+    /// `OutOfMemory`.
     pub fn slice(&self, alloc: A, range: Range<usize>) -> VortexResult<DecimalArray<A>>
         ensures refused { let count = length (decimal_rows self.now) in
             IsErrOf result (VortexError.BadRange range.start range.end count) ↔ IsBadRange range.start range.end count }

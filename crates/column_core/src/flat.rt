@@ -20,7 +20,7 @@ use column_base::{DType, Validity, VortexError, VortexResult};
 use std::alloc::Allocator;
 use std::ops::Range;
 
-/// A column whose rows are stored one by one.
+/// Holds a column whose rows are stored one by one.
 #[derive(Drop)]
 pub enum FlatColumn<A: Allocator> {
     Primitive(PrimitiveArray<A>),
@@ -97,8 +97,8 @@ impl<A: Allocator> FlatColumn<A> {
 }
 
 impl<A: Allocator + Copy> FlatColumn<A> {
-    /// Returns a copy of the column in its form. Its buffers are shared with these where these are shared, and else
-    /// copied. Refused only as `OutOfMemory`.
+    /// Returns a copy of the column in its form. Shares the buffers that are shared, and copies the others. Refused
+    /// only as `OutOfMemory`.
     pub fn try_clone(&self, alloc: A) -> VortexResult<FlatColumn<A>>
         ensures only { IsOkUnless result VortexError.OutOfMemory }
         ensures form { IfOk result (λ column. leaf_of column ≡ leaf_of self.now) }
@@ -111,8 +111,8 @@ impl<A: Allocator + Copy> FlatColumn<A> {
         }
     }
 
-    /// Returns a copy of the column in the same form, with buffers that are shared with none: what these are a part of
-    /// may then be freed. The bytes of texts stay shared. Refused only as `OutOfMemory`.
+    /// Returns a copy of the column in its form, with buffers that nothing else shares: a longer buffer that these are
+    /// a part of may then be freed. The bytes of texts stay shared. Refused only as `OutOfMemory`.
     pub fn compact(&self, alloc: A) -> VortexResult<FlatColumn<A>>
         ensures only { IsOkUnless result VortexError.OutOfMemory }
         ensures form { IfOk result (λ column. leaf_of column ≡ leaf_of self.now) }
@@ -125,10 +125,9 @@ impl<A: Allocator + Copy> FlatColumn<A> {
         }
     }
 
-    /// Returns the rows from `range.start` to `range.end - 1`, in buffers that are shared with these where these are
-    /// shared, and else copied. Refused as `BadRange`, with both bounds and the number of rows, exactly where the range
-    /// begins after its end or ends after the last row, and that before any memory is taken; else as `OutOfMemory`
-    /// alone.
+    /// Returns the rows from `range.start` to `range.end - 1`. Shares the buffers that are shared, and copies the
+    /// others. Refused as `BadRange`, with both bounds and the number of rows, exactly where the range begins after its
+    /// end or ends after the last row, before any memory is taken; else only as `OutOfMemory`.
     pub fn slice(&self, alloc: A, range: Range<usize>) -> VortexResult<FlatColumn<A>>
         ensures refused { let count = length (leaf_rows (leaf_of self.now)) in
             IsErrOf result (VortexError.BadRange range.start range.end count) ↔ IsBadRange range.start range.end count }

@@ -17,8 +17,8 @@ use crate::view::ScalarView;
 use column_base::{DType, Validity, VortexError, VortexResult};
 use std::alloc::Allocator;
 
-/// A column whose rows are stored one by one, borrowed from whoever owns it. What only reads such a
-/// column takes this view, so that nothing is copied for it.
+/// Borrows a column whose rows are stored one by one. A call that only reads such a column takes
+/// this view, so that nothing is copied for it.
 #[derive(Clone, Copy)]
 pub enum FlatView<'a, A: Allocator> {
     Primitive(&'a PrimitiveArray<A>),
@@ -40,7 +40,7 @@ impl<'a, A: Allocator> FlatView<'a, A> {
         }
     }
 
-    /// Returns whether there are no rows.
+    /// Returns whether the column has no rows.
     pub fn is_empty(self) -> bool
         ensures { IsTrue result ↔ (length (leaf_rows (leaf_in self.entry)) ≡ 0) }
     {
@@ -73,7 +73,7 @@ impl<'a, A: Allocator> FlatView<'a, A> {
         }
     }
 
-    /// Returns the row at `index`, borrowed from the column for as long as the view is.
+    /// Returns the row at `index`, borrowed from the column for as long as the view borrows it.
     #[tactic(auto, using(crate::proofs::OptionalRows::rows_within))]
     pub fn get(self, index: usize) -> ScalarView<'a, A>
         requires { index < length (leaf_rows (leaf_in self)) }

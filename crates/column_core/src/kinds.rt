@@ -16,7 +16,8 @@ pub fn is_list_type(dtype: DType) -> bool
     }
 }
 
-/// Why rows of this type are refused where lists are: `Unsupported` for lists, else nothing.
+/// Returns why a call that does not serve lists refuses this type: `Unsupported` for lists, else
+/// nothing.
 pub fn fault_of_lists(dtype: DType) -> Option<VortexError>
     ensures { result ≡ list_fault dtype }
 {

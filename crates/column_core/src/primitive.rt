@@ -20,8 +20,7 @@ use std::alloc::Allocator;
 use std::marker::Model;
 use std::ops::Range;
 
-/// Integers of one native type, of which some rows may be null. Under null a number is stored
-/// that no row shows.
+/// Holds integers of one native type, and says which rows are null. Under null a number is stored that no row shows.
 #[derive(Drop)]
 pub struct PrimitiveArray<A: Allocator> {
     values: PrimitiveValues<A>,
@@ -79,7 +78,7 @@ impl<A: Allocator> PrimitiveArray<A> {
         self.values.len()
     }
 
-    /// Returns whether there are no rows.
+    /// Returns whether the column has no rows.
     pub fn is_empty(&self) -> bool
         ensures { IsTrue result ↔ (self.now.numbers ≡ []) }
     {
@@ -139,8 +138,8 @@ impl<A: Allocator> PrimitiveArray<A> {
 }
 
 impl<A: Allocator + Copy> PrimitiveArray<A> {
-    /// Returns a copy of the column in its form. Its buffers are shared with these where these are shared, and else
-    /// copied. Refused only as `OutOfMemory`.
+    /// Returns a copy of the column in its form. Shares the buffers that are shared, and copies the others. Refused
+    /// only as `OutOfMemory`.
     pub fn try_clone(&self, alloc: A) -> VortexResult<PrimitiveArray<A>>
         ensures only { IsOkUnless result VortexError.OutOfMemory }
         ensures form { IfOk result (λ array. array ≡ self.now) }
@@ -150,8 +149,8 @@ impl<A: Allocator + Copy> PrimitiveArray<A> {
         Ok(PrimitiveArray { values, validity })
     }
 
-    /// Returns a copy of the column in the same form, with buffers that are shared with none: what these are a part of
-    /// may then be freed. Refused only as `OutOfMemory`.
+    /// Returns a copy of the column in its form, with buffers that nothing else shares: a longer buffer that these are
+    /// a part of may then be freed. Refused only as `OutOfMemory`.
     pub fn compact(&self, alloc: A) -> VortexResult<PrimitiveArray<A>>
         ensures only { IsOkUnless result VortexError.OutOfMemory }
         ensures form { IfOk result (λ array. array ≡ self.now) }
@@ -161,10 +160,10 @@ impl<A: Allocator + Copy> PrimitiveArray<A> {
         Ok(PrimitiveArray { values, validity })
     }
 
-    /// Returns the rows from `range.start` to `range.end - 1`, with the numbers as they are stored, shared with these
-    /// where these are shared, and else copied. Refused as `BadRange`, with both bounds and the number of rows, exactly
-    /// where the range begins after its end or ends after the last row, and that before any memory is taken; else only
-    /// as `OutOfMemory`.
+    /// Returns the rows from `range.start` to `range.end - 1`, with the numbers as they are stored. Shares the buffers
+    /// that are shared, and copies the others. Refused as `BadRange`, with both bounds and the number of rows, exactly
+    /// where the range begins after its end or ends after the last row, before any memory is taken; else only as
+    /// `OutOfMemory`.
     pub fn slice(&self, alloc: A, range: Range<usize>) -> VortexResult<PrimitiveArray<A>>
         ensures refused { let count = length (primitive_rows self.now) in
             IsErrOf result (VortexError.BadRange range.start range.end count) ↔ IsBadRange range.start range.end count }
@@ -192,7 +191,7 @@ impl<A: Allocator + Copy> PrimitiveArray<A> {
     }
 }
 
-// The number at `index`, seen as its type is.
+// The number at `index`, as a view of an unsigned or of a signed number.
 fn number_view<A: Allocator>(values: &PrimitiveValues<A>, index: usize) -> ScalarView<'_, A>
     requires { index < length (numbers values.now) }
     ensures row { option_map (λ n. Some (Single (Number n))) (slice_get (numbers values.now) index) ≡

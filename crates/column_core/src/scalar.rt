@@ -14,7 +14,7 @@ use column_base::{DType, NativePType, Nullability, PType, VortexError, VortexRes
 use std::alloc::Allocator;
 use std::marker::Model;
 
-/// A value that is not null, owned. Unsigned types have `Unsigned`, signed ones `Signed`.
+/// Owns a value that is not null. Unsigned types have `Unsigned`, signed ones `Signed`.
 #[derive(Drop)]
 #[derive_where(Debug, PartialEq, Eq)]
 pub enum ScalarValue<A: Allocator> {
@@ -26,7 +26,7 @@ pub enum ScalarValue<A: Allocator> {
     Binary(Vec<u8, A>),
 }
 
-/// A type, and one optional value of it. A scalar of a list type is null.
+/// Holds a type, and one optional value of it. A scalar of a list type is null.
 #[derive(Drop)]
 #[derive_where(Debug)]
 pub struct Scalar<A: Allocator> {
@@ -69,7 +69,7 @@ impl<A: Allocator> ScalarValue<A> {
 
 impl<A: Allocator> Scalar<A> {
     /// Returns the scalar of these parts. Refused as `NullNotAllowed` for null in a type without null, and as
-    /// `TypeMismatch` for a value that is none of the type.
+    /// `TypeMismatch` for a value that is not of the type.
     pub fn try_new(dtype: DType, value: Option<ScalarValue<A>>) -> VortexResult<Self>
         ensures ok { IfOk result (λ scalar. scalar ≡ record { dtype = dtype; value = option_map flat_of value }) }
         ensures accepts { IsOk result ↔ IsScalarOf dtype value }

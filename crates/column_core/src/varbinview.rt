@@ -19,8 +19,8 @@ use std::alloc::Allocator;
 use std::marker::Model;
 use std::ops::Range;
 
-/// The bytes from `start` to `start + size - 1` of the buffer numbered `buffer`. Buffers and bytes
-/// are counted from 0.
+/// Names the bytes from `start` to `start + size - 1` of the buffer numbered `buffer`. Buffers and bytes are counted
+/// from 0.
 #[derive(Clone, Copy, Default, Debug, PartialEq, Eq)]
 pub struct View {
     pub buffer: usize,
@@ -28,15 +28,15 @@ pub struct View {
     pub size: usize,
 }
 
-/// Whether a column has texts, which are UTF-8, or any bytes.
+/// Says whether a column has texts, which are UTF-8, or any bytes.
 #[derive(Clone, Copy, Debug, PartialEq, Eq)]
 pub enum VarBinKind {
     Utf8,
     Binary,
 }
 
-/// Texts or bytes, of which some rows may be null. A row is a view into one of the buffers, which
-/// copies share. Under null a view is stored that no row shows, and that need not be within a buffer.
+/// Holds texts or bytes, and says which rows are null. A row is a view into one of the buffers, which copies share.
+/// Under null a view is stored that no row shows, and that need not be within a buffer.
 #[derive(Drop)]
 pub struct VarBinViewArray<A: Allocator> {
     kind: VarBinKind,
@@ -111,7 +111,7 @@ impl<A: Allocator> VarBinViewArray<A> {
         self.views.len()
     }
 
-    /// Returns whether there are no rows.
+    /// Returns whether the column has no rows.
     pub fn is_empty(&self) -> bool
         ensures { IsTrue result ↔ (self.now.views ≡ []) }
     {
@@ -184,8 +184,8 @@ impl<A: Allocator> VarBinViewArray<A> {
 }
 
 impl<A: Allocator + Copy> VarBinViewArray<A> {
-    /// Returns a copy of the column in its form. Its views and validity are shared with these where these are shared,
-    /// and else copied; the bytes of the buffers are shared. Refused only as `OutOfMemory`.
+    /// Returns a copy of the column in its form. Shares the views and the validity if they are shared, and copies them
+    /// otherwise; shares the bytes of the buffers. Refused only as `OutOfMemory`.
     pub fn try_clone(&self, alloc: A) -> VortexResult<VarBinViewArray<A>>
         ensures only { IsOkUnless result VortexError.OutOfMemory }
         ensures form { IfOk result (λ array. array ≡ self.now) }
@@ -201,8 +201,8 @@ impl<A: Allocator + Copy> VarBinViewArray<A> {
         })
     }
 
-    /// Returns a copy of the column in the same form, with views and validity that are shared with none. All buffers
-    /// are kept, and their bytes shared. Refused only as `OutOfMemory`.
+    /// Returns a copy of the column in its form, with views and a validity that nothing else shares. Keeps all buffers,
+    /// and shares their bytes. Refused only as `OutOfMemory`.
     pub fn compact(&self, alloc: A) -> VortexResult<VarBinViewArray<A>>
         ensures only { IsOkUnless result VortexError.OutOfMemory }
         ensures form { IfOk result (λ array. array ≡ self.now) }
@@ -218,10 +218,10 @@ impl<A: Allocator + Copy> VarBinViewArray<A> {
         })
     }
 
-    /// Returns the rows from `range.start` to `range.end - 1`, with views and validity shared with these where these
-    /// are shared, and else copied; all buffers are kept, and their bytes shared. Refused as `BadRange`, with both
-    /// bounds and the number of rows, exactly where the range begins after its end or ends after the last row, and that
-    /// before any memory is taken; else only as `OutOfMemory`.
+    /// Returns the rows from `range.start` to `range.end - 1`. Shares the views and the validity if they are shared,
+    /// and copies them otherwise; keeps all buffers, and shares their bytes. Refused as `BadRange`, with both bounds
+    /// and the number of rows, exactly where the range begins after its end or ends after the last row, before any
+    /// memory is taken; else only as `OutOfMemory`.
     pub fn slice(&self, alloc: A, range: Range<usize>) -> VortexResult<VarBinViewArray<A>>
         ensures refused { let count = length (varbin_rows self.now) in
             IsErrOf result (VortexError.BadRange range.start range.end count) ↔ IsBadRange range.start range.end count }
@@ -256,7 +256,7 @@ impl<A: Allocator + Copy> VarBinViewArray<A> {
     }
 }
 
-// The first fault of these parts, if they are no column.
+// The first fault of these parts, if they do not make a column.
 fn first_fault<A: Allocator>(
     views: &[View],
     buffers: &[Bytes<A>],

@@ -2,9 +2,9 @@
 use crate::flat::FlatColumn;
 use std::alloc::Allocator;
 
-/// One row of a column: null, or a value. A text, bytes and a list are borrowed from the column;
-/// a list is `size` elements from `start` on. Unsigned types are seen as `Unsigned`, signed ones as
-/// `Signed`.
+/// Shows one row of a column: null, or a value. A text, bytes and a list are borrowed from the
+/// column; a list is `size` elements from `start` on. Unsigned types are seen as `Unsigned`, signed
+/// ones as `Signed`.
 #[derive(Clone, Copy)]
 pub enum ScalarView<'a, A: Allocator> {
     Null,

@@ -113,7 +113,7 @@ length-bit_bytes bits = within_length ((length bits + 7) / 8) bits
 
 -- ---- the loop
 
--- so many bytes are read
+-- the bytes before `index` are read
 pub record Reading (count : ℕ) (bytes : List ℕ) (index : ℕ) (bits : List Bool) : Type 0 where
   pub shows : bits ++ bits_from (count - index * 8) (drop index bytes) ≡ bits_from count bytes
   pub onward : IsPadded (count - index * 8) (drop index bytes) → IsPadded count bytes

@@ -172,7 +172,7 @@ same_bits : (count : ℕ) (words bytes : List ℕ) → length bytes ≡ (count +
 same_bits count words bytes len same =
     bits_of_digits count words (bits_from count bytes) (length-bits_from count bytes len) (λ i h. same i h ∙ from_digit count bytes i len h)
 
--- ---- what stands above the last bit
+-- ---- what is above the last bit
 
 padded_cons : (count byte : ℕ) (bytes : List ℕ) → byte < 2 ^ min 8 count → IsPadded (count - 8) bytes → IsPadded count (byte ∷ bytes)
 unfolding IsPadded
@@ -219,7 +219,7 @@ not_padded count bytes h = record { none = λ bits len e. h (rw (← e, ← len)
 
 -- ---- the reader
 
--- the bytes, and 0 behind them up to the end of a word
+-- the bytes, and 0 after them up to the end of a word
 pub read_bits : (count : ℕ) (words bytes pad : List ℕ) → length bytes ≡ (count + 7) / 8 → IsPadded count bytes → words_bytes words ≡ bytes ++ pad → (bit_bytes (first_bits count words) ≡ bytes) × (length (first_bits count words) ≡ count)
 unfolding byte_digit
 read_bits count words bytes pad len padded all =
@@ -277,7 +277,7 @@ put_done old out new words whole bytes last left bits packs w b l o n =
     let first : take k (words_bytes words) ≡ words_bytes whole ++ take left bytes = ap (take k) all ∙ ap (λ (m : ℕ). take m (words_bytes whole ++ bytes)) count ∙ take-append-add (words_bytes whole) bytes left in
     n ∙ ap (λ (x : List ℕ). x ++ take left bytes) o ∙ append_assoc old (words_bytes whole) (take left bytes) ∙ ap (λ (x : List ℕ). old ++ x) (sym first ∙ word_bits (length bits) words bits packs refl)
 
--- where there are no words there are no bits
+-- without words there are 0 bits
 pub put_none : (old words : List ℕ) (bits : List Bool) → Packs words bits → length words ≡ 0 → old ≡ old ++ bit_bytes bits
 put_none old words bits packs none =
     let empty : bit_bytes bits ≡ [] = nil_from_length (bit_bytes bits) (omega (arith, length-bit_bytes bits, packs.least, none)) in

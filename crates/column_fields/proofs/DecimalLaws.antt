@@ -78,7 +78,7 @@ of_words low high u z first second bytes l h is z-is a b f s =
     let upper : u / 2 ^ 64 ≡ high = omega (arith, is) in
     ap (to_le_bytes w128) back ∙ halves u ∙ ap (λ (n : ℕ). to_le_bytes w64 n ++ to_le_bytes w64 (u / 2 ^ 64)) lower ∙ ap (λ (n : ℕ). to_le_bytes w64 low ++ to_le_bytes w64 n) upper ∙ ap (λ (x : List ℕ). x ++ to_le_bytes w64 high) a ∙ ap (λ (x : List ℕ). first ++ x) b ∙ sym (cut 8 bytes first second f s)
 
--- a number that is told by its bits
+-- a number that is given by its bits
 pub signed_again : (low high u : ℕ) (z : ℤ) → low < 2 ^ 64 → high < 2 ^ 64 → u ≡ high * 2 ^ 64 + low → z ≡ cast_signed w128 u → cast_signed w128 (cast_unsigned w128 z) ≡ cast_signed w128 u
 signed_again low high u z l h is e = ap (λ (x : ℤ). cast_signed w128 (cast_unsigned w128 x)) e ∙ ap (cast_signed w128) (of_z-to_z w128 u (omega (arith, is)))
 

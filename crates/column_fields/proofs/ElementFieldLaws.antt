@@ -81,11 +81,11 @@ numbered_same k m n o lt lt' e =
     let two = after_told m o (numbered_type k n) lt' e k (nullability_number n) first [] lt (told_small n) (numbered_parts k n) (sym (append-nil first)) in
     (one.0, told_same n o two.0)
 
--- precision and scale are no number of a type
+-- precision and scale are not the number of a type
 decimals_apart : (d : DecimalDType) (rest : List ℕ) (k : ℕ) (n : Nullability) → decimal_type d ++ rest ≡ numbered_type k n → ⊥
 decimals_apart d rest k n e = absurd (omega (arith, fields_apart 14 20 d.precision k (number_field 15 (scale_number d.scale) ++ rest) (number_field 21 (nullability_number n)) (omega arith) (omega arith) (sym (type_parts d rest) ∙ e ∙ numbered_parts k n)))
 
--- ---- no type is told
+-- ---- no type is named
 
 no_type_at : (bytes : List ℕ) → BeginsWithNoDecimalType bytes → IsNoNumberedType bytes → (e : ElementDType) → IsElementType e → bytes ≡ element_type e → ⊥
 no_type_at bytes d h (element.Bool n) typed b = h.none 9 n (omega arith) b
@@ -107,7 +107,7 @@ no_plain_at k m lt a b c h (element.Binary n) is = c (numbered_same k 12 m n lt 
 pub no_plain : (k : ℕ) (m : Nullability) → k < 2 ^ 64 → (k ≡ 9 → ⊥) → (k ≡ 11 → ⊥) → (k ≡ 12 → ⊥) → HasNoType k → IsNoElementType (numbered_type k m)
 no_plain k m lt a b c h = record { none = λ e typed is. no_plain_at k m lt a b c h e is }
 
--- behind precision and scale stands the number of decimals
+-- after precision and scale comes the number of decimals
 no_decimals_at : (d : DecimalDType) (rest : List ℕ) → IsDecimalType d → ((n : Nullability) → rest ≡ numbered_type 10 n → ⊥) → (e : ElementDType) → IsElementType e → decimal_type d ++ rest ≡ element_type e → ⊥
 no_decimals_at d rest native h (element.Bool n) typed b = decimals_apart d rest 9 n b
 no_decimals_at d rest native h (element.Primitive t n) typed b = decimals_apart d rest (type_number t) n b

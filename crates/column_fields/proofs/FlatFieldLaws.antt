@@ -9,7 +9,7 @@ use Rattle.column_fields.specs.FlatFields.{flat_fields, AreNoFlatFields}
 use Rattle.column_fields.proofs.FieldLaws.{bytes_field_same}
 use Rattle.column_fields.proofs.ValidityLaws.{validity_same}
 
--- ---- a field with nothing behind it
+-- ---- a field with nothing after it
 
 pub no_last : (field : ℕ) (bytes : List ℕ) → HasNoBytesField field bytes → IsNoBytesField field bytes
 no_last field bytes h = record { none = λ content lt e. h.none content [] lt (e ∙ sym (append-nil (bytes_field field content))) }

@@ -1,4 +1,4 @@
--- What stood in a buffer stays in front of what is written behind it.
+-- What was in a buffer stays in front of what is written after it.
 use Rattle.std.proofs.Common.{◌≡◌, ℕ, List, ◌++◌}
 use Rattle.std.proofs.Transfers.{starts_with_of_eq, starts_with_of_append, starts_with_trans}
 use Rattle.column_fields.specs.Kept.{StaysInFront}

@@ -40,7 +40,7 @@ pub list_fields_long : (elements offsets sizes : List ℕ) → length (list_fiel
 unfolding list_fields
 list_fields_long elements offsets sizes = omega (arith, length-append (bytes_field 17 elements) (bytes_field 18 offsets ++ bytes_field 19 sizes), length-append (bytes_field 18 offsets) (bytes_field 19 sizes))
 
--- so many bytes have the fields, where the messages have so many
+-- how many bytes the fields have, by how many the messages have
 pub list_fields_sum : (elements offsets sizes : List ℕ) (e o s a b c : ℕ) → length elements ≡ e → length offsets ≡ o → length sizes ≡ s → a ≡ length (varint (17 * 8 + 2) ++ varint e) → b ≡ length (varint (18 * 8 + 2) ++ varint o) → c ≡ length (varint (19 * 8 + 2) ++ varint s) → a + b + c + e + o + s ≡ length (list_fields elements offsets sizes)
 list_fields_sum elements offsets sizes e o s a b c l m n p q r =
     let p' : a ≡ length (varint (17 * 8 + 2) ++ varint (length elements)) = p ∙ ap (λ (x : ℕ). length (varint (17 * 8 + 2) ++ varint x)) (sym l) in

@@ -8,7 +8,7 @@ use Rattle.column_fields.specs.Lengths.{lengths_from, lengths_bytes}
 use Rattle.column_fields.proofs.LengthBytes.{varint_one}
 use Rattle.column_fields.proofs.EightLaws.{cut_items, eight_of}
 
--- runs, and those behind them
+-- runs, and those after them
 pub lengths_split : (start : ℕ) (front back : List ℕ) (d : ℕ) → lengths_bytes start (front ++ back) ≡ lengths_bytes start front ++ lengths_bytes (get_or (start ∷ front) (length front) d) back
 unfolding lengths_bytes lengths_from
 lengths_split start [] back d = refl
@@ -51,7 +51,7 @@ small_bytes a b c d e f g h s =
 mapped_last : {X : Type 0} (f : X → ℕ) (d : X) (start k : ℕ) (xs : List X) → length xs ≡ suc k → get_or (start ∷ map f xs) (length (map f xs)) (f d) ≡ f (get_or xs k d)
 mapped_last f d start k xs len = ap (λ (n : ℕ). get_or (start ∷ map f xs) n (f d)) (length-map xs f ∙ len) ∙ get_or-map f xs k d (f d) (omega (arith, len))
 
--- some runs, and those behind them, which begin where the last of these ends
+-- some runs, and those after them, which begin where the last of these ends
 pub runs_ahead : {X : Type 0} (f : X → ℕ) (d : X) (start end k : ℕ) (all front back : List X) → front ≡ take (suc k) all → back ≡ drop (suc k) all → length front ≡ suc k → end ≡ f (get_or front k d)
     → lengths_bytes start (map f all) ≡ lengths_bytes start (map f front) ++ lengths_bytes end (map f back)
 runs_ahead f d start end k all front back p q len is =

@@ -55,7 +55,7 @@ room_for_value number key (suc value) used later capacity old between some e h u
       omega (arith, length-append k.added back, h.fits (k.added ++ back) (k.added, back, subst (λ (x : ℕ). IsShortestVarint k.added x) e k.spelt, hb, refl), ap length k.parts, length-append old k.added);
 }
 
--- behind what is written there is room for what was counted
+-- after what is written there is room for what was counted
 pub room_behind : (number value used count capacity : ℕ) → HasLength (IsWrittenField number) value count → used + count ≤ capacity → FitsBehind (IsWrittenField number) used capacity value
 room_behind number value used count capacity h le = record { fits = λ bytes k. omega (arith, h.long bytes k) }
 

@@ -50,7 +50,7 @@ last_uncounted (Err e) old mid new part size le h = λ _. omega (arith, le, h)
 pub varint_some : (n : ℕ) → n < 2 ^ 64 → 0 < length (varint n)
 varint_some n lt = StandsFor-long (varint n) n (varint_shortest n lt).varint.stands
 
--- one byte, and those of what stands above its seven bits
+-- one byte, and those of what is above its seven bits
 pub varint_more : (n : ℕ) → n < 2 ^ 64 → 128 ≤ n → length (varint n) ≡ 1 + length (varint (n / 128))
 varint_more n lt ge =
     let above : IsCompact (varint (n / 128)) (n / 128) = varint_compact (n / 128) (omega arith) in

@@ -53,7 +53,7 @@ pub run_fields_long : (offset : ℕ) (u : PType) (lengths values : List ℕ) →
 unfolding run_fields
 run_fields_long offset u lengths values = omega (arith, length-append (number_field 8 offset) (number_field 9 (type_number u) ++ (bytes_field 10 lengths ++ bytes_field 11 values)), length-append (number_field 9 (type_number u)) (bytes_field 10 lengths ++ bytes_field 11 values), length-append (bytes_field 10 lengths) (bytes_field 11 values))
 
--- so many bytes have the fields, where lengths and values have so many
+-- how many bytes the fields have, by how many lengths and values have
 pub run_fields_sum : (offset n a b c d : ℕ) (u : PType) (lengths values : List ℕ) (count message : ℕ) → n ≡ type_number u → count ≡ length lengths → length values ≡ message → a ≡ length (number_field 8 offset) → b ≡ length (number_field 9 n) → c ≡ length (varint (10 * 8 + 2) ++ varint count) → d ≡ length (varint (11 * 8 + 2) ++ varint message) → a + b + (c + d) + count + message ≡ length (run_fields offset u lengths values)
 run_fields_sum offset n a b c d u lengths values count message k l m p q r s =
     let b' : b ≡ length (number_field 9 (type_number u)) = q ∙ ap (λ (x : ℕ). length (number_field 9 x)) k in

@@ -167,7 +167,7 @@ shifted start k from (s ∷ ss) e =
     let first : start + s - from ≡ s - k = omega (arith, e) in
     (λ i. first i ∷ shifted start s (start + s) ss refl i)
 
--- ends are the sums behind the start
+-- ends are the sums after the start
 pub ends_behind : (start : ℕ) (front ss es : List ℕ) → EightSums front ss → lengths_from 0 ss ≡ front → es ≡ map (λ (s : ℕ). start + s) (eight ss) → lengths_from start es ≡ front
 ends_behind start front ss es h is e =
     ap (lengths_from start) (e ∙ ap (map (λ (s : ℕ). start + s)) (sym (eight_of 0 ss h.sums-len))) ∙ shifted start 0 start ss (omega arith) ∙ is

@@ -1,4 +1,4 @@
--- Varints of at most two bytes, put one behind another.
+-- Varints of at most two bytes, put one after the other.
 use Rattle.std.proofs.Common.{◌≡◌, ℕ, ◌+◌, ◌/◌, ◌%◌, ◌<◌, ◌≤◌, List, [], ◌∷◌, ◌++◌, length, get_or, set, take, sym, ap, ◌∙◌, arith, append_assoc, append-nil}
 use Rattle.std.specs.List.{flat_map}
 use Rattle.std.proofs.lemmas.List.{length-set, take-set-le, take_more_set}
@@ -26,7 +26,7 @@ put_two bytes count n first room ge lt is =
 one_more : (n : ℕ) (ns before new whole : List ℕ) → new ≡ before ++ varint n → whole ≡ new ++ flat_map varint ns → whole ≡ before ++ flat_map varint (n ∷ ns)
 one_more n ns before new whole put is = is ∙ ap (λ (t : List ℕ). t ++ flat_map varint ns) put ∙ append_assoc before (varint n) (flat_map varint ns)
 
--- eight varints, each put behind those before it
+-- eight varints, each put after those before it
 pub eight_put : (xs t1 t2 t3 t4 t5 t6 t7 whole : List ℕ) → length xs ≡ 8
     → t1 ≡ [] ++ varint (get_or xs 0 0) → t2 ≡ t1 ++ varint (get_or xs 1 0) → t3 ≡ t2 ++ varint (get_or xs 2 0) → t4 ≡ t3 ++ varint (get_or xs 3 0)
     → t5 ≡ t4 ++ varint (get_or xs 4 0) → t6 ≡ t5 ++ varint (get_or xs 5 0) → t7 ≡ t6 ++ varint (get_or xs 6 0) → whole ≡ t7 ++ varint (get_or xs 7 0)

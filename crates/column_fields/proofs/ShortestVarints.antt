@@ -6,7 +6,7 @@ use Rattle.column_fields.specs.Spelling.{Appends, FitsBehind, HasLength}
 use Rattle.column_fields.specs.Varint.{StandsFor, IsShortestVarint}
 use Rattle.column_fields.proofs.Varints.{StandsFor-long}
 
--- as bytes stand for a number, but never with a high part of 0
+-- as bytes mean a number, but never with a high part of 0
 abbrev pub IsCompact : List ℕ → ℕ → Type 0
 IsCompact [] n = ⊥
 IsCompact (byte ∷ bytes) n = ((byte < 128) × (bytes ≡ []) × (n ≡ byte)) ⊎ ((low : ℕ) × (high : ℕ) × (low < 128) × (byte ≡ 128 + low) × (n ≡ low + 128 * high) × (0 < high) × IsCompact bytes high)
@@ -85,7 +85,7 @@ compact_form bytes n h =
     let c = compact_of n h.varint.fits in
     subst (λ (t : List ℕ). IsCompact t n) (shortest_form c.bytes bytes n (shortest c.bytes n h.varint.fits c.compact) h) c.compact
 
--- ---- how many bytes: the loop has counted all but those that stand for the rest
+-- ---- how many bytes: the loop has counted all but those that mean the rest
 
 pub record Counted (n count rest : ℕ) (bytes : List ℕ) : Type 0 where
   pub tail : List ℕ
@@ -120,7 +120,7 @@ count_at_most n count rest fits lt h =
 
 -- ---- the loop that writes
 
--- whatever completes the rest completes the number, behind the old bytes
+-- whatever completes the rest completes the number, after the old bytes
 pub record Completes (old : List ℕ) (n : ℕ) (new : List ℕ) : Type 0 where
   pub bytes : List ℕ
   pub compact : IsCompact bytes n

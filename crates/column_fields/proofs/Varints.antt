@@ -5,7 +5,7 @@ use Rattle.std.proofs.lemmas.List.{append_cancel_left}
 use Rattle.column_fields.specs.Spelling.{Begins}
 use Rattle.column_fields.specs.Varint.{StandsFor, IsVarint}
 
--- behind equal fronts come equal rests
+-- after equal fronts come equal rests
 pub rest_same : (a b x y : List ℕ) → a ≡ b → a ++ x ≡ b ++ y → x ≡ y
 rest_same a b x y e all = append_cancel_left a x y (all ∙ ap (λ (t : List ℕ). t ++ y) (sym e))
 

@@ -72,7 +72,7 @@ after_length len size rest least word bytes (a ∷ b ∷ front) back h is number
 next_length : (len size rest least word : ℕ) (bytes : List ℕ) → BeginsWithLength word len size rest → BeginsWithWord word (2 + least) bytes → AfterLength len size rest least bytes
 next_length len size rest least word bytes h w = after_length len size rest least word bytes w.front w.back h w.is w.number w.small w.many
 
--- ---- four lengths, one behind the other
+-- ---- four lengths, one after the other
 
 pub record FourLengths (start e1 e2 e3 e4 size : ℕ) (bytes : List ℕ) : Type 0 where
   pub found : bytes ≡ lengths_bytes start (e1 ∷ e2 ∷ e3 ∷ e4 ∷ []) ++ drop size bytes

@@ -6,7 +6,7 @@ use Rattle.column_base.specs.ValidityForm.{ValidityForm, HasLength}
 use Rattle.column_fields.specs.Field.{number_field, bytes_field}
 use Rattle.column_fields.specs.Validity.{validity_field}
 
--- 0, -1, 1, -2, 2 .. are told as 0, 1, 2, 3, 4 ..
+-- 0, -1, 1, -2, 2 .. are written as 0, 1, 2, 3, 4 ..
 abbrev pub scale_number : ℤ → ℕ
 scale_number (pos n) = n * 2
 scale_number (negsuc n) = n * 2 + 1
@@ -20,7 +20,7 @@ pub record IsDecimalType (decimal : DecimalDType) : Type 0 where
   pub precision : decimal.precision < 2 ^ 8
   pub scale : FitsSigned w8 decimal.scale
 
--- the fields that tell precision and scale
+-- the fields that say precision and scale
 unfoldable pub decimal_type : DecimalDType → List ℕ
 decimal_type decimal = number_field 14 decimal.precision ++ number_field 15 (scale_number decimal.scale)
 
@@ -39,6 +39,6 @@ pub record AreNoDecimalItems (bytes : List ℕ) : Type 0 where
 unfoldable pub decimal_fields : ValidityForm → DecimalDType → List ℕ → List ℕ
 decimal_fields validity decimal items = validity_field validity ++ decimal_items decimal items
 
--- the bytes are those fields of no validity of so many rows
+-- the bytes are those fields for no validity of `rows` rows
 pub record AreNoDecimalFields (rows : ℕ) (bytes : List ℕ) : Type 0 where
   pub none : (validity : ValidityForm) (decimal : DecimalDType) (items : List ℕ) → HasLength validity rows → IsDecimalType decimal → length items < 2 ^ 64 → bytes ≡ decimal_fields validity decimal items → ⊥

@@ -20,6 +20,6 @@ pub record HasNoConstantField (field n : ℕ) (bytes : List ℕ) : Type 0 where
 pub record HasNoBytesField (field : ℕ) (bytes : List ℕ) : Type 0 where
   pub none : (content rest : List ℕ) → length content < 2 ^ 64 → bytes ≡ bytes_field field content ++ rest → ⊥
 
--- the bytes are no such field
+-- the bytes are not such a field
 pub record IsNoBytesField (field : ℕ) (bytes : List ℕ) : Type 0 where
   pub none : (content : List ℕ) → length content < 2 ^ 64 → bytes ≡ bytes_field field content → ⊥

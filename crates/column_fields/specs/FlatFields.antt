@@ -7,6 +7,6 @@ use Rattle.column_fields.specs.Validity.{validity_field}
 unfoldable pub flat_fields : ValidityForm → List ℕ → List ℕ
 flat_fields validity items = validity_field validity ++ bytes_field 7 items
 
--- the bytes are those fields of no validity of so many rows
+-- the bytes are those fields for no validity of `rows` rows
 pub record AreNoFlatFields (rows : ℕ) (bytes : List ℕ) : Type 0 where
   pub none : (validity : ValidityForm) (items : List ℕ) → HasLength validity rows → length items < 2 ^ 64 → bytes ≡ flat_fields validity items → ⊥

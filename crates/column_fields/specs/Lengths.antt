@@ -24,7 +24,7 @@ unfoldable pub Rises : Bool → ℕ → List ℕ → Type 0
 Rises first start [] = Unit {0}
 Rises first start (end ∷ ends) = (start ≤ end) × (end < 2 ^ 64) × (first ≡ false → start < end) × Rises false end ends
 
--- the lowest byte of a word, or its lowest two, are the length of a run, and what stands above them is left
+-- the lowest byte of a word, or its lowest two, are the length of a run, and what is above them is left
 pub record BeginsWithLength (word length size rest : ℕ) : Type 0 where
   pub some : 0 < length
   pub spelt : ((size ≡ 1) × (length < 128) × (word ≡ rest * 256 + length)) ⊎ ((size ≡ 2) × (128 ≤ length) × (length < 16384) × (word ≡ (rest * 256 + length / 128) * 256 + (length % 128 + 128)))

@@ -30,7 +30,7 @@ SpellsPayload spelling (eight_bytes bytes) = (spelling ≡ bytes) × (length byt
 SpellsPayload spelling (delimited bytes) = (count : List ℕ) × IsVarint count (length bytes) × (spelling ≡ count ++ bytes)
 SpellsPayload spelling (four_bytes bytes) = (spelling ≡ bytes) × (length bytes ≡ 4)
 
--- the number that the key of a field stands for
+-- the number of the key of a field
 abbrev pub key_of : Field → ℕ
 key_of field = field.number * 8 + wire_type field.payload
 
@@ -66,14 +66,14 @@ number_in (four_bytes bytes) = None
 abbrev pub value_of : Field → ℕ
 value_of field = unwrap_or (number_in field.payload) 0
 
--- bytes begin with a field of this number that carries this value, and the rest comes behind it
+-- bytes begin with a field of this number that carries this value, and the rest comes after it
 pub record BeginsWithField (bytes : List ℕ) (number : ℕ) (value : Option ℕ) (rest : List ℕ) : Type 0 where
   pub field : Field
   pub numbered : field.number ≡ number
   pub valued : number_in field.payload ≡ value
   pub begins : Begins SpellsField bytes field rest
 
--- bytes begin with a payload of this wire type that carries this value, and the rest comes behind it
+-- bytes begin with a payload of this wire type that carries this value, and the rest comes after it
 pub record BeginsWithPayload (wire : ℕ) (bytes : List ℕ) (value : Option ℕ) (rest : List ℕ) : Type 0 where
   pub payload : Payload
   pub valued : number_in payload ≡ value

@@ -3,11 +3,11 @@ use Rattle.std.specs.Prelude.{◌≡◌, ℕ, ◌+◌, ◌-◌, ◌^◌, ◌<◌
 use Rattle.column_base.specs.declared.error.VortexError.{VortexError}
 use Rattle.column_base.specs.declared.error.VortexError.TheVariants.{OutOfMemory}
 
--- a write of so many bytes takes at most as many of the room, and is refused only where there is less
+-- a write of a number of bytes takes at most this number of the room, and is refused only where there is less
 abbrev pub UsesRoom : {T E : Type 0} → Result T E → ℕ → ℕ → ℕ → Type 0
 UsesRoom result old new size = MatchResult result (λ _. old ≤ new + size) (λ _. old < size)
 
--- there is less room than so many bytes, or no count of 64 bits says how many these are
+-- there is less room than these bytes need, or their number does not fit 64 bits
 abbrev pub LacksRoom : ℕ → ℕ → Type 0
 LacksRoom room size = min room (2 ^ 64 - 1) < size
 

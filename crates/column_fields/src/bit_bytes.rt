@@ -12,7 +12,7 @@ use bytes::BufMut;
 use column_base::{BitBuffer, BitBufferMut, VortexError, VortexResult};
 use std::alloc::Allocator;
 
-/// Returns as few bytes as can hold so many bits.
+/// Returns the least number of bytes that hold `count` bits.
 pub fn bytes_for(count: usize) -> usize
     ensures { result ≡ (count + 7) / 8 }
 {
@@ -34,7 +34,7 @@ pub fn put_bits<A: Allocator, W: BufMut>(out: &mut W, bits: &BitBuffer<A>) -> Vo
         return Ok(());
     };
     put_words(out, whole)?;
-    // The last word may have bytes above the last bit, which are no part of the message.
+    // The last word may have bytes above the last bit, which do not belong to the message.
     let left = bytes_for(bits.len()) - whole.len() * 8;
     out.put_slice(&last.to_le_bytes()[..left])?;
     Ok(())
@@ -50,7 +50,8 @@ fn put_words<W: BufMut>(out: &mut W, words: &[u64]) -> VortexResult<()>
     put_all(out, words)
 }
 
-/// So many bits, of which these are the bytes. Takes memory for them alone.
+/// Returns the `count` bits that these bytes hold. Takes memory only for them. Refused as
+/// `BadMetadata` where a bit after the last of them is set, else only as `OutOfMemory`.
 pub fn load_bits<A: Allocator + Copy>(
     alloc: A,
     bytes: &[u8],
@@ -82,7 +83,7 @@ pub(crate) fn is_padded(bytes: &[u8], count: usize) -> bool
     u32::from(last) < limit_of(used)
 }
 
-// The first number with more than so many bits.
+// The first number with more than `count` bits.
 #[tactic(auto, using(std::proofs::lemmas::Nat::one_shl))]
 fn limit_of(count: usize) -> u32
     requires { count ≤ 8 }
@@ -91,7 +92,7 @@ fn limit_of(count: usize) -> u32
     1 << count
 }
 
-// The words of which these are the bytes, with 0 above the last byte.
+// The words that these bytes hold, with 0 above the last byte.
 fn load_words<A: Allocator>(alloc: A, bytes: &[u8]) -> VortexResult<Vec<u64, A>>
     ensures shows { IfOk result
         (λ v. words_bytes v.items ≡ bytes.now ++ replicate (length v.items * 8 - length bytes.now) 0) }

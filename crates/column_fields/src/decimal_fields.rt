@@ -43,8 +43,8 @@ pub(crate) fn read_decimal_type(bytes: &[u8]) -> Option<(DecimalDType, &[u8])>
     Some((DecimalDType { precision, scale }, rest))
 }
 
-/// Returns the validity of so many rows, the precision and the scale, and the bytes of the items, which the bytes are.
-/// Refused as `BadMetadata` exactly where they are none, else only as `OutOfMemory`.
+/// Returns the validity of `rows` rows, the precision and the scale, and the bytes of the items, which the bytes
+/// consist of. Refused as `BadMetadata` exactly where they consist of anything else, else only as `OutOfMemory`.
 pub fn read_decimal_fields<A: Allocator + Copy>(
     alloc: A,
     bytes: &[u8],
@@ -82,7 +82,7 @@ pub(crate) fn read_decimal_items(bytes: &[u8]) -> Option<(DecimalDType, &[u8])>
     Some((decimal, items))
 }
 
-// The number that tells a scale: those from 0 on are even, those below 0 odd.
+// The number of a scale: even for scales from 0 on, odd for those below 0.
 pub(crate) fn number_of_scale(scale: i8) -> u64
     ensures number { result ≡ scale_number scale }
     ensures fits { FitsSigned w8 scale }
@@ -91,7 +91,7 @@ pub(crate) fn number_of_scale(scale: i8) -> u64
     if scale < 0 { size - 1 } else { size }
 }
 
-// The scale that a number tells.
+// The scale that a number means.
 fn scale_of_number(number: u64) -> Option<i8>
     ensures found { IfSome result (λ scale. scale_number scale ≡ number) }
     ensures fits { IfSome result (λ scale. FitsSigned w8 scale) }

@@ -9,7 +9,7 @@ use bytes::BufMut;
 use column_base::{VortexError, VortexResult};
 use std::alloc::Allocator;
 
-/// How many bytes a decimal has.
+/// Counts the bytes of a decimal.
 pub const DECIMAL_SIZE: usize = 16;
 
 // What the upper half of a decimal counts by.
@@ -96,7 +96,7 @@ fn words_of(number: i128) -> (u64, u64)
     ((unsigned % WORD) as u64, (unsigned / WORD) as u64)
 }
 
-/// Returns the integers of so many decimals, of which these are the bytes. Takes memory for them, and for no more.
+/// Returns the integers of the `count` decimals that these bytes hold. Takes memory only for them.
 pub fn load_decimals<A: Allocator>(
     alloc: A,
     bytes: &[u8],
@@ -119,7 +119,7 @@ pub fn load_decimals<A: Allocator>(
     Ok(numbers)
 }
 
-/// Returns the integer of the decimal of which these are the bytes.
+/// Returns the integer of the decimal that these bytes hold.
 pub fn load_decimal(bytes: &[u8]) -> i128
     requires { length bytes.now ≡ 16 }
     ensures shows { decimal_bytes result ≡ bytes.now }
@@ -130,7 +130,7 @@ pub fn load_decimal(bytes: &[u8]) -> i128
     (u128::from(high) * WORD + u128::from(low)).cast_signed()
 }
 
-// The number of which these are the bytes, the lowest first.
+// The number that these bytes hold, the lowest first.
 pub(crate) fn load_word(bytes: &[u8]) -> u64
     requires { length bytes.now ≡ 8 }
     ensures { to_le_bytes w64 result ≡ bytes.now }

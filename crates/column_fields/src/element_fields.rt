@@ -1,4 +1,4 @@
-//! The fields that tell of which type the elements of lists are.
+//! The fields that name the type of the elements of lists.
 ghost use Rattle.std.specs.Prelude.{◌≡◌, ◌++◌, length, IfSome, IfNone, OnOk, IsOkUnless};
 ghost use Rattle.column_fields.specs.ElementFields.{element_type, numbered_type, nullability_number, IsElementType, IsNoElementType, IsNoNumberedType, HasNoNullability};
 ghost use Rattle.column_fields.specs.Kept.{StaysInFront};

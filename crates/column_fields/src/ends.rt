@@ -17,8 +17,8 @@ const HIGH_BITS: u64 = 0x8080_8080_8080_8080;
 
 const LOW_BITS: u64 = !HIGH_BITS;
 
-/// Returns the ends of that type of the runs of which these are the lengths: each run but the first has a row. Refused
-/// as `BadMetadata` exactly where no ends of the type have these lengths, as none of a signed type have, else only as
+/// Returns the ends, of that type, of runs with these lengths: each run but the first has a row. Refused as
+/// `BadMetadata` exactly where no ends of the type have these lengths, as for every signed type, else only as
 /// `OutOfMemory`. Takes memory for as many ends as there are bytes.
 pub fn load_ends<A: Allocator + Copy>(
     alloc: A,
@@ -58,8 +58,8 @@ fn load_as<E: StoredEnd, A: Allocator + Copy>(
     }
 }
 
-// The ends of the runs of which these are the lengths: eight in one step where each of these has one byte, four where
-// each has one or two.
+// The ends of runs with these lengths: eight in one step where each length has one byte, four where each has one or
+// two.
 fn load_all<E: StoredEnd, A: Allocator>(alloc: A, bytes: &[u8]) -> VortexResult<Vec<E, A>>
     ensures found { IfOk result (λ v. bytes.now ≡ lengths_bytes 0 (map E.natural v.items)) }
     ensures rises { IfOk result (λ v. Rises true 0 (map E.natural v.items)) }
@@ -191,8 +191,8 @@ fn four_ends<E: StoredEnd>(start: u64, bytes: &[u8]) -> Option<([u64; 4], &[u8])
     Some(([first.end, second.end, third.end, fourth.end], after))
 }
 
-// The end of a run that begins there, where the word begins with its length, which is one byte or two and not 0. Which
-// of them is told without a branch: where lengths of both are mixed, a processor would guess wrongly.
+// The end of a run that begins there, where the word begins with its length, which is one byte or two and not 0. No
+// branch decides which: where lengths of both are mixed, a processor would predict it wrongly.
 #[inline(always)]
 fn word_end(start: u64, word: u64) -> Option<WordEnd>
     ensures { IfSome result (λ r. BeginsWithLength word (r.end - start) r.size r.rest) }
@@ -211,7 +211,7 @@ fn word_end(start: u64, word: u64) -> Option<WordEnd>
     })
 }
 
-// Puts the ends behind others, where there is room for them.
+// Appends the ends, for which there has to be room.
 #[inline(always)]
 fn push_all<E: StoredEnd, A: Allocator>(ends: &mut Vec<E, A>, numbers: &[u64])
     requires fit { All (λ end. HasNumber E.PTYPE (pos end)) numbers.now }

@@ -10,8 +10,8 @@ use crate::fields::read_last_bytes;
 use crate::validity_views::{ValidityView, view_validity};
 use column_base::DecimalDType;
 
-/// Returns the validity of that number of rows and the bytes of the items, which the bytes are, or `None` exactly where
-/// they are none. Takes no memory.
+/// Returns the validity of that number of rows and the bytes of the items, which the bytes consist of, or `None`
+/// exactly where they consist of anything else. Takes no memory.
 pub fn view_flat_fields(bytes: &[u8], rows: usize) -> Option<(ValidityView<'_>, &[u8])>
     ensures found { IfSome result (λ r. bytes.now ≡ flat_fields (form_in rows r.0) r.1.now) }
     ensures counted { IfSome result (λ r. HasLength (form_in rows r.0) rows) }
@@ -24,7 +24,7 @@ pub fn view_flat_fields(bytes: &[u8], rows: usize) -> Option<(ValidityView<'_>, 
 }
 
 /// Returns the validity of that number of rows, the precision and the scale, and the bytes of the items, which the
-/// bytes are, or `None` exactly where they are none. Takes no memory.
+/// bytes consist of, or `None` exactly where they consist of anything else. Takes no memory.
 pub fn view_decimal_fields(
     bytes: &[u8],
     rows: usize,

@@ -39,8 +39,7 @@ pub fn put_number<W: BufMut>(out: &mut W, field: u64, number: u64) -> VortexResu
     Ok(())
 }
 
-/// Writes the key and the length of a field of so many bytes, which the caller puts behind them. Refused only as
-/// `OutOfMemory`.
+/// Writes the key and the length of a field of `count` bytes, which the caller appends. Refused only as `OutOfMemory`.
 pub fn put_bytes_key<W: BufMut>(out: &mut W, field: u64, count: usize) -> VortexResult<()>
     requires { field < 32 }
     ensures ok { OnOk result (W.written out.new ≡ W.written out.old ++ (varint (field * 8 + 2) ++ varint count)) }
@@ -114,7 +113,7 @@ pub fn read_bytes(bytes: &[u8], field: u64) -> Option<(&[u8], &[u8])>
     Some((content, rest))
 }
 
-/// Returns the bytes in the field that the bytes are, if it has that field number and nothing comes behind it.
+/// Returns the bytes in the field that the bytes are, if it has that field number and nothing comes after it.
 pub fn read_last_bytes(bytes: &[u8], field: u64) -> Option<&[u8]>
     requires { field < 32 }
     ensures found { IfSome result (λ content. bytes.now ≡ bytes_field field content.now) }

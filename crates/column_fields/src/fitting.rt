@@ -8,7 +8,7 @@ ghost use Rattle.column_base.specs.Types.{HasNumber};
 use column_base::{NativePType, PrimitiveValues, match_each_native};
 use std::alloc::Allocator;
 
-/// Each number of a buffer is one of its type.
+/// Proves that each number of a buffer is a number of its type.
 #[tactic(auto, using(crate::proofs::SizeLaws::same_numbers))]
 pub fn values_fit<A: Allocator>(values: &PrimitiveValues<A>)
     ensures { All (λ n. HasNumber (ptype_of values.now) n) (numbers values.now) }
@@ -24,7 +24,7 @@ fn all_fit<T: Fitting>(items: &[T])
     }
 }
 
-/// Each integer of decimals is one of 128 bits.
+/// Proves that each of these integers fits 128 bits.
 pub fn decimals_fit(numbers: &[i128])
     ensures { All (λ n. FitsSigned w128 n) numbers.now }
 {
@@ -37,9 +37,9 @@ fn decimal_fits(number: i128)
     ensures { FitsSigned w128 number }
 {}
 
-/// A native number, which is one of its type.
+/// Says that a native number is a number of its type.
 trait Fitting: NativePType {
-    /// Does nothing: its clause is what is known.
+    /// Proves that this number fits its type, and does nothing.
     fn fits(self)
         ensures { HasNumber Self.PTYPE (Self.number self) };
 }

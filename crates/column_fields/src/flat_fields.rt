@@ -10,8 +10,8 @@ use crate::validity::read_validity;
 use column_base::{Validity, VortexError, VortexResult};
 use std::alloc::Allocator;
 
-/// Returns the validity of so many rows and the bytes of the items, which the bytes are. Refused as `BadMetadata`
-/// exactly where they are none, else only as `OutOfMemory`.
+/// Returns the validity of `rows` rows and the bytes of the items, which the bytes consist of. Refused as `BadMetadata`
+/// exactly where they consist of anything else, else only as `OutOfMemory`.
 pub fn read_flat_fields<A: Allocator + Copy>(
     alloc: A,
     bytes: &[u8],

@@ -8,7 +8,7 @@ use crate::fields::{put_number, read_constant, read_number};
 use bytes::BufMut;
 use column_base::{VortexError, VortexResult};
 
-/// The number of the type of the rows, the number of the form, and how many rows.
+/// Holds the number of the type of the rows, the number of the form, and how many rows there are.
 #[derive(Clone, Copy)]
 pub struct Header {
     pub kind: u64,

@@ -38,7 +38,8 @@ pub fn holds_decimals(bytes: &[u8], count: usize) -> bool
     true
 }
 
-/// Returns whether these are the bytes of that number of bits: as few as can hold them, and no bit above them is set.
+/// Returns whether these are the bytes of that number of bits: the least number of bytes that hold them, with no bit
+/// above them set.
 pub fn holds_bits(bytes: &[u8], count: usize) -> bool
     ensures yes { OnTrue result (AreHeldBits count bytes.now) }
     ensures no { OnFalse result (HasNoBits count bytes.now) }

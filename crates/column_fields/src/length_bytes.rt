@@ -5,7 +5,7 @@ ghost use Rattle.column_fields.specs.Lengths.{lengths_from};
 use crate::stored::StoredEnd;
 use std::simd::prelude::*;
 
-/// Returns a byte for each of 64 runs that begin there: how many rows it has, or 255 where these are more.
+/// Returns a byte for each of 64 runs that begin there: how many rows the run has, or 255 where it has more.
 #[inline(always)]
 pub(crate) fn length_bytes<E: StoredEnd>(start: E, ends: &[E]) -> [u8; 64]
     requires { length ends.now ≡ 64 }

@@ -1,4 +1,4 @@
-//! How many bytes run lengths have, told from the ends without writing them.
+//! How many bytes run lengths have, counted from the ends without writing them.
 ghost use Rattle.std.specs.Prelude.{◌≡◌, ◌+◌, ◌*◌, ◌≤◌, All, length, map, nat_le, pos, unsigned_abs, IfOk, IfErr};
 ghost use Rattle.std.specs.List.{count_by};
 ghost use Rattle.column_base.specs.Numbers.{numbers, ptype_of};
@@ -15,7 +15,7 @@ use std::alloc::Allocator;
 const BLOCK: usize = 64;
 
 /// Returns how many bytes the lengths of the runs with these ends have, in one pass over the ends. Refused as
-/// `OutOfMemory` exactly where no count tells them.
+/// `OutOfMemory` exactly where their number does not fit `usize`.
 #[tactic(auto, using(crate::proofs::LengthLaws::ends_stored))]
 pub fn lengths_size<A: Allocator>(ends: &PrimitiveValues<A>) -> VortexResult<usize>
     requires { IsUnsigned (ptype_of ends.now) }

@@ -7,7 +7,7 @@ use crate::fields::{read_bytes, read_last_bytes};
 use crate::sizes::{bytes_key_size, size_of_total};
 use column_base::VortexResult;
 
-/// The messages of the elements of all lists, of the offsets, and of the sizes.
+/// Holds the messages of the elements of all lists, of the offsets, and of the sizes.
 #[derive(Clone, Copy)]
 pub struct ListFields<'a> {
     pub elements: &'a [u8],
@@ -15,8 +15,8 @@ pub struct ListFields<'a> {
     pub sizes: &'a [u8],
 }
 
-/// Returns how many bytes the fields have where the messages have so many. Refused as `OutOfMemory` exactly where no
-/// count tells them.
+/// Returns how many bytes the fields have, given the numbers of bytes of the messages. Refused as `OutOfMemory` exactly
+/// where the answer does not fit `usize`.
 pub fn list_fields_size(elements: usize, offsets: usize, sizes: usize) -> VortexResult<usize>
     ensures size { IfOk result (λ size. (e o s : List ℕ) → length e ≡ elements → length o ≡ offsets →
         length s ≡ sizes → size ≡ length (list_fields e o s)) }

@@ -11,14 +11,14 @@ use crate::varint::{push_varint, varint_len};
 use column_base::{PType, VortexError, VortexResult};
 use std::alloc::Allocator;
 
-/// What a run column states beside its ends and values.
+/// Holds what a record says of a run column apart from its ends and values.
 #[derive(Clone, Copy, Debug, Default, PartialEq, Eq)]
 pub struct RunEndMetadata {
-    /// The type of the ends: 0 u8, 1 u16, 2 u32, 3 u64.
+    /// Names the type of the ends: 0 u8, 1 u16, 2 u32, 3 u64.
     pub ends_ptype: i32,
-    /// The number of runs.
+    /// Counts the runs.
     pub num_runs: u64,
-    /// The row at which the column begins, where the first run begins at row 0.
+    /// Counts the rows from the start of the first run to the first row of the column.
     pub offset: u64,
 }
 
@@ -42,7 +42,7 @@ impl RunEndMetadata {
         }
     }
 
-    /// Makes an unsigned type the type of the ends; runs and offset stay.
+    /// Sets the type of the ends to an unsigned type; runs and offset stay.
     pub fn set_ends_ptype(&mut self, ptype: PType)
         requires { IsUnsigned ptype }
         ensures number { ends_type_number ptype ≡ Some self.new.ends_ptype }
@@ -58,8 +58,8 @@ impl RunEndMetadata {
         };
     }
 
-    /// Returns the record that the bytes spell: of the fields 1, 2 and 3 the last one counts, one that is absent is 0,
-    /// and other fields are skipped. Refused as `BadMetadata` where the bytes spell no fields, and else as
+    /// Returns the record that the bytes spell: the last field of each number 1, 2 and 3 counts, an absent one is 0,
+    /// and other fields are skipped. Refused as `BadMetadata` where the bytes do not spell fields, and else as
     /// `EndsTypeNumber` where the last number for the type of the ends is above 3. Takes no memory.
     pub fn decode(bytes: &[u8]) -> VortexResult<RunEndMetadata>
         ensures ok { (m : RunEndMetadata) → (result ≡ Ok m) ↔ Means bytes.now m }
@@ -83,8 +83,8 @@ impl RunEndMetadata {
         })
     }
 
-    /// Returns the written form: the fields that are not 0, in order, each number in as few bytes as there can be.
-    /// Refused only for memory.
+    /// Returns the written form: the fields that are not 0, in order, each number in the least number of bytes. Refused
+    /// only for memory.
     pub fn encode_to_vec<A: Allocator>(&self, alloc: A) -> VortexResult<Vec<u8, A>>
         requires { IsEndsTypeNumber self.now.ends_ptype }
         ensures written { IfOk result (λ bytes. IsWritten bytes.items self.now) }
@@ -103,7 +103,7 @@ impl RunEndMetadata {
     }
 }
 
-/// The last values of the fields so far.
+/// Holds the last value of each field so far.
 #[derive(Clone, Copy)]
 struct Numbers {
     ends_type: u64,

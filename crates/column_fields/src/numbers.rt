@@ -58,7 +58,7 @@ fn put_one<T: StoredNumber, W: BufMut>(out: &mut W, number: i128) -> VortexResul
     Ok(())
 }
 
-/// Returns the number of a type of which these are the bytes.
+/// Returns the number of a type that these bytes hold.
 pub fn load_value(ptype: PType, bytes: &[u8]) -> i128
     requires { length bytes.now ≡ size_of ptype }
     ensures shows { number_bytes ptype result ≡ bytes.now }
@@ -158,7 +158,7 @@ pub fn put_values<A: Allocator, W: BufMut>(
     }
 }
 
-/// So many numbers, of which these are the bytes. Takes memory for them, and for no more.
+/// Returns the `count` numbers that these bytes hold. Takes memory only for them.
 fn load_all<T: StoredNumber, A: Allocator>(
     alloc: A,
     bytes: &[u8],
@@ -196,7 +196,7 @@ fn load_as<T: StoredNumber, A: Allocator + Copy>(
     Ok(T::wrap(load_all::<T, A>(alloc, bytes, count)?))
 }
 
-/// Returns a buffer of so many numbers of a type, of which these are the bytes. Takes memory for them, and for no more.
+/// Returns a buffer of the `count` numbers of a type that these bytes hold. Takes memory only for them.
 pub fn load_values<A: Allocator + Copy>(
     alloc: A,
     ptype: PType,

@@ -5,7 +5,7 @@ ghost use Rattle.column_fields.specs.RecordFields.{SpellsField, IsPayload, Begin
 
 use crate::varint::read_varint;
 
-/// The number of a field, and the value that it carries, if it is no bytes.
+/// Holds the number of a field, and the value that it carries, unless it carries bytes.
 #[derive(Clone, Copy)]
 pub(crate) struct FieldValue {
     pub(crate) number: u64,

@@ -7,8 +7,8 @@ use crate::metadata::RunEndMetadata;
 use column_base::{VortexError, VortexResult};
 use std::alloc::Allocator;
 
-/// Bytes spell at most one list of fields, and so mean at most one record; the written form of a record
-/// means that record, and is the only one.
+/// Proves that bytes spell at most one list of fields, and so mean at most one record, and that the written form of a
+/// record means that record, and is the only one.
 /// For readers and writers of files: two readers that keep to the encoding find the same record.
 pub fn spelling_is_unique()
     ensures fields { SpellingIsUnique }

@@ -17,7 +17,7 @@ use bytes::BufMut;
 use column_base::{PType, PrimitiveValues, VortexError, VortexResult};
 use std::alloc::Allocator;
 
-/// The row at which the column begins, the type of the ends, the run lengths, and the message of the values.
+/// Holds the row at which the column begins, the type of the ends, the run lengths, and the message of the values.
 #[derive(Clone, Copy)]
 pub struct RunFields<'a> {
     pub offset: u64,
@@ -26,8 +26,8 @@ pub struct RunFields<'a> {
     pub values: &'a [u8],
 }
 
-/// Writes the fields at the end, but for the message of the values, which is to stand behind them and has so many
-/// bytes. Refused only as `OutOfMemory`.
+/// Appends the fields, except for the message of the values, which has `values` bytes and has to come next. Refused
+/// only as `OutOfMemory`.
 pub fn put_run_fields<A: Allocator, W: BufMut>(
     out: &mut W,
     offset: u64,
@@ -53,8 +53,8 @@ pub fn put_run_fields<A: Allocator, W: BufMut>(
     Ok(())
 }
 
-/// Returns how many bytes the fields have where the message of the values has so many. Refused as `OutOfMemory` exactly
-/// where no count tells them.
+/// Returns how many bytes the fields have, given the number of bytes of the message of the values. Refused as
+/// `OutOfMemory` exactly where the answer does not fit `usize`.
 pub fn run_fields_size<A: Allocator>(
     offset: u64,
     ends_type: PType,

@@ -26,7 +26,7 @@ pub fn one_byte_each(numbers: &[u64; 8]) -> Option<[u8; 8]>
 }
 
 /// Returns the varints of eight numbers at the front of 16 bytes, and how many bytes they have, where none has more
-/// than two. No branch tells which has one.
+/// than two. No branch decides which of them have one.
 #[inline(always)]
 pub fn two_bytes_at_most(numbers: &[u64; 8]) -> Option<([u8; 16], usize)>
     ensures bytes { IfSome result (λ r. take r.1 r.0 ≡ flat_map varint numbers.now) }
@@ -49,7 +49,7 @@ pub fn two_bytes_at_most(numbers: &[u64; 8]) -> Option<([u8; 16], usize)>
     Some((bytes, count))
 }
 
-// Puts the varint of a number, of at most two bytes, behind the first ones, and says how many these are then. Where it
+// Puts the varint of a number, of at most two bytes, after the first `count` bytes, and returns the new count. If it
 // has one byte, the next varint is written over the second.
 #[inline(always)]
 fn put_short(bytes: &mut [u8; 16], count: usize, number: u64) -> usize

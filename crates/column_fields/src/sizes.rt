@@ -1,4 +1,4 @@
-//! How many bytes the fields of a message have, told without writing them.
+//! How many bytes the fields of a message have, counted without writing them.
 ghost use Rattle.std.specs.Prelude.{◌≡◌, ◌+◌, ◌*◌, ◌^◌, ◌<◌, ◌≤◌, ◌++◌, length, IfOk, IfErr};
 ghost use Rattle.column_base.specs.Validity.{form_of};
 ghost use Rattle.column_base.specs.ValidityForm.{ByBits};
@@ -15,7 +15,8 @@ use crate::header::Header;
 use column_base::{BitBuffer, DecimalDType, Validity, VortexError, VortexResult};
 use std::alloc::Allocator;
 
-/// So many bytes as a count. Refused as `OutOfMemory` exactly where no count tells them, and so no memory has them.
+/// Returns a number of bytes as a `usize`. Refused as `OutOfMemory` exactly where it does not fit, since no memory has
+/// as many bytes.
 pub fn size_of_total(total: u128) -> VortexResult<usize>
     ensures size { IfOk result (λ size. size ≡ total) }
     ensures past { IfErr result (λ error. IsPast total error) }
@@ -46,7 +47,7 @@ pub fn number_size(field: u64, number: u64) -> usize
     varint_size(field * 8) + varint_size(number)
 }
 
-/// Returns how many bytes the key and the length of a field of so many bytes have.
+/// Returns how many bytes the key and the length of a field of `count` bytes have.
 pub fn bytes_key_size(field: u64, count: usize) -> usize
     requires { field < 32 }
     ensures size { result ≡ length (varint (field * 8 + 2) ++ varint count) }
@@ -66,7 +67,7 @@ pub fn header_size(stated: Header) -> usize
         + number_size(4, stated.rows)
 }
 
-/// Returns how many bytes the fields have that tell which rows are null.
+/// Returns how many bytes the fields have that say which rows are null.
 #[tactic(auto, unfolding(crate::specs::Validity::validity_field))]
 pub fn validity_size<A: Allocator>(validity: &Validity<A>) -> usize
     ensures size { result ≡ length (validity_field (form_of validity.now)) }
@@ -80,7 +81,7 @@ pub fn validity_size<A: Allocator>(validity: &Validity<A>) -> usize
     }
 }
 
-/// Returns how many bytes these fields have where bits tell it.
+/// Returns how many bytes these fields have for a validity in bits.
 pub fn bit_validity_size<A: Allocator>(bits: &BitBuffer<A>) -> usize
     ensures size { result ≡ length (validity_field (ByBits bits.now)) }
     ensures most { result ≤ 2 ^ 62 }

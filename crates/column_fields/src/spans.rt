@@ -7,7 +7,7 @@ use crate::ends::{end_behind, read_length};
 use crate::stored::StoredEnd;
 use column_base::PType;
 
-/// How many runs there are, and the first and the last of their ends, which are 0 where there is no run.
+/// Holds the number of runs, and the first and the last of their ends, which are 0 without runs.
 #[derive(Clone, Copy)]
 pub struct EndsSpan {
     pub count: usize,
@@ -15,8 +15,8 @@ pub struct EndsSpan {
     pub last: u64,
 }
 
-/// Returns the span of the ends of that type of the runs of which these are the lengths, or `None` exactly where no
-/// ends of the type have these lengths, as none of a signed type have. Takes no memory.
+/// Returns the span of the ends, of that type, of runs with these lengths, or `None` exactly where no ends of the type
+/// have these lengths, as for every signed type. Takes no memory.
 pub fn span_of_lengths(ptype: PType, bytes: &[u8]) -> Option<EndsSpan>
     ensures found { IfSome result (λ s. AreSpanned ptype bytes.now s.count s.first s.last) }
     ensures none { IfNone result (HasNoEndsOf ptype bytes.now) }

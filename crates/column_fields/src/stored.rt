@@ -10,7 +10,7 @@ ghost use Rattle.column_fields.specs.Varint.{varint};
 use bytes::BufMut;
 use column_base::{NativePType, UnsignedPType, VortexError, VortexResult};
 
-/// A native number that is stored as bytes.
+/// Says how a native number is stored as bytes.
 pub(crate) trait StoredNumber: NativePType {
     /// Returns how many bytes it has.
     fn size() -> usize
@@ -60,7 +60,7 @@ macro_rules! bytes_of_eight {
     };
 }
 
-/// The end of a run, as its type stores it.
+/// Says how the end of a run is stored, by its type.
 pub(crate) trait StoredEnd: UnsignedPType {
     /// Returns the end as a `u64`. It is a number of its own type too.
     fn end(self) -> u64
@@ -76,8 +76,8 @@ pub(crate) trait StoredEnd: UnsignedPType {
     fn greater(self, other: Self) -> Self
         ensures { Self.natural result ≡ max (Self.natural self) (Self.natural other) };
 
-    /// Returns how many bytes behind its first the varint of the length of a run has that begins and ends there, one
-    /// for each power of 128 that the length reaches. The end is a number of its own type too.
+    /// Returns how many bytes after its first the varint has of the length of a run from `start` to `end`: one for each
+    /// power of 128 that the length reaches. The end is a number of its own type too.
     fn longer(start: Self, end: Self) -> u32
         ensures size { 1 + result ≡ length (varint (Self.natural end - Self.natural start)) }
         ensures most { result ≤ 9 }
@@ -186,7 +186,7 @@ impl StoredEnd for u64 {
     #[inline(always)]
     fn longer(start: u64, end: u64) -> u32 {
         let bits = 64 - end.saturating_sub(start).leading_zeros();
-        // One for each seven bits behind the first seven: up to 64 bits that is this, which divides by nothing.
+        // One for each seven bits after the first seven: up to 64 bits that is this, which divides by nothing.
         bits * 9 / 64
     }
 

@@ -1,4 +1,4 @@
-//! The fields that tell which rows are null.
+//! The fields that say which rows are null.
 ghost use Rattle.std.specs.Prelude.{◌≡◌, ◌++◌, length, OnOk, IfOk, IfErr, IsErrOf, IsOkUnless};
 ghost use Rattle.column_base.specs.Validity.{form_of};
 ghost use Rattle.column_base.specs.ValidityForm.{HasLength, ByBits};
@@ -13,7 +13,7 @@ use bytes::BufMut;
 use column_base::{BitBuffer, Validity, VortexError, VortexResult};
 use std::alloc::Allocator;
 
-/// Writes how validity is told. Refused only as `OutOfMemory`.
+/// Writes a validity. Refused only as `OutOfMemory`.
 #[tactic(auto, unfolding(crate::specs::Validity::validity_field))]
 pub fn put_validity<A: Allocator, W: BufMut>(
     out: &mut W,
@@ -33,7 +33,7 @@ pub fn put_validity<A: Allocator, W: BufMut>(
     }
 }
 
-/// Writes that validity is told by bits, and the bits. Refused only as `OutOfMemory`.
+/// Writes that a validity is in bits, and the bits. Refused only as `OutOfMemory`.
 pub fn put_bit_validity<A: Allocator, W: BufMut>(
     out: &mut W,
     bits: &BitBuffer<A>,
@@ -50,7 +50,8 @@ pub fn put_bit_validity<A: Allocator, W: BufMut>(
     Ok(())
 }
 
-/// Returns the validity of so many rows at the front, and the bytes after it.
+/// Returns the validity of `rows` rows at the front, and the bytes after it. Refused as
+/// `BadMetadata` exactly where there is none, else only as `OutOfMemory`.
 pub fn read_validity<A: Allocator + Copy>(
     alloc: A,
     bytes: &[u8],

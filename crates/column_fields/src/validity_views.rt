@@ -8,7 +8,7 @@ ghost use Rattle.column_fields.specs.ValidityViews.{form_in, HoldsRows};
 use crate::fields::{read_bytes, read_number};
 use crate::held::holds_bits;
 
-/// Which rows are null, as a message says it. Bits are its bytes, of which no bit above those of the rows is set.
+/// Says which rows are null, as a message has it. Bits are its bytes, in which no bit after those of the rows is set.
 #[derive(Clone, Copy)]
 pub enum ValidityView<'a> {
     NonNullable,

@@ -5,7 +5,7 @@ ghost use Rattle.column_fields.specs.Varint.{IsVarint, IsShortestVarint, varint,
 
 use std::alloc::Allocator;
 
-/// Where the bits of a tenth byte begin, of which 64 bits hold one.
+/// Gives the place of the only bit of a tenth byte that fits 64 bits.
 const LAST_SHIFT: u32 = 63;
 
 /// Returns the varint at the front, and the bytes after it.

@@ -11,7 +11,7 @@ pub record IsCounted (Counts : ℕ → Type 0) (f : FloatFormat) (keys : List (O
   pub row : Contains keys (Some (total_key f bits))
   pub counts : Counts bits
 
--- of the floats that count, the first and the last in the total order
+-- the first and the last, in the total order, of the floats that count
 pub record AreExtremes (Counts : ℕ → Type 0) (f : FloatFormat) (keys : List (Option ℤ)) (least greatest : ℕ) : Type 0 where
   pub least_is : IsCounted Counts f keys least
   pub greatest_is : IsCounted Counts f keys greatest

@@ -82,7 +82,7 @@ bits_fault t = if is_bits t then None else Some TypeMismatch
 abbrev pub pattern_fault : FloatFormat → ℕ → Option VortexError
 pattern_fault f b = if nat_lt b (2 * sign_bit f) then None else Some CastOutOfRange
 
--- of a column that is compared with the float with these bits
+-- the fault of a column that is compared with the float with these bits
 abbrev pub constant_fault : DType → ℕ → Option VortexError
 constant_fault t b = option_or (floats_fault t) (pattern_fault (format_of t) b)
 

@@ -15,8 +15,8 @@ use column_core::{
 };
 use std::alloc::Allocator;
 
-/// Returns what each number becomes, null for null. Refused as `CastOutOfRange` where one becomes no number of the
-/// type, and else only as `OutOfMemory`.
+/// Returns what each number becomes, null for null. Refused as `CastOutOfRange` where a number does not become one of
+/// the type, and else only as `OutOfMemory`.
 pub fn cast_numbers<C: NumberCast, A: Allocator + Copy>(
     alloc: A,
     array: &PrimitiveArray<A>,

@@ -25,14 +25,14 @@ pub trait NumberCast {
     fn ptype(&self) -> PType
         ensures { result ≡ target self.now };
 
-    /// Returns what a number becomes, or `None` where it becomes no number of the type.
+    /// Returns what a number becomes, or `None` where it does not become one of the type.
     fn cast(&self, number: i128) -> Option<i128>
         requires { HasNumber (source self.now) number }
         ensures { MatchOption result (BecomesNone (Becomes (target self.now) (casts self.now)) number)
             (Becomes (target self.now) (casts self.now) number) };
 }
 
-/// Makes keys of floats those of the same floats in another format.
+/// Casts keys of floats to the keys of the same floats in another format.
 #[derive(Drop)]
 pub struct SameFloats {
     pub from: FloatFormat,
@@ -59,7 +59,7 @@ impl NumberCast for SameFloats {
     }
 }
 
-/// Makes keys of floats those of the nearest floats in another format.
+/// Casts keys of floats to the keys of the nearest floats in another format.
 #[derive(Drop)]
 pub struct RoundedFloats {
     pub from: FloatFormat,
@@ -84,7 +84,7 @@ impl NumberCast for RoundedFloats {
     }
 }
 
-/// Makes integers keys of the floats that they are.
+/// Casts integers to the keys of the same floats.
 #[derive(Drop)]
 pub struct FloatsOfIntegers {
     pub from: PType,
@@ -110,7 +110,7 @@ impl NumberCast for FloatsOfIntegers {
     }
 }
 
-/// Makes integers keys of the floats that are nearest to them.
+/// Casts integers to the keys of the nearest floats.
 #[derive(Drop)]
 pub struct RoundedIntegers {
     pub from: PType,
@@ -134,7 +134,7 @@ impl NumberCast for RoundedIntegers {
     }
 }
 
-/// Makes keys of floats the integers that these are.
+/// Casts keys of floats to the same integers.
 #[derive(Drop)]
 pub struct IntegersOfFloats {
     pub from: FloatFormat,

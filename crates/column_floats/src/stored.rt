@@ -12,7 +12,7 @@ use crate::widths::FloatBits;
 use column_core::{NativePType, PrimitiveArray, PrimitiveValues, VortexError, VortexResult};
 use std::alloc::Allocator;
 
-/// Returns the keys of the floats with these bits, null where the bits are. Refused as `OutOfMemory` only.
+/// Returns the keys of the floats with these bits, null where the bits are. Refused only as `OutOfMemory`.
 pub fn keys_of<A: Allocator + Copy>(
     alloc: A,
     bits: &PrimitiveArray<A>,
@@ -29,7 +29,7 @@ pub fn keys_of<A: Allocator + Copy>(
     Ok(PrimitiveArray::new_unchecked(keys, validity))
 }
 
-/// Returns the bits of the floats with these keys, null where the keys are. Refused as `OutOfMemory` only.
+/// Returns the bits of the floats with these keys, null where the keys are. Refused only as `OutOfMemory`.
 pub fn bits_of<A: Allocator + Copy>(
     alloc: A,
     keys: &PrimitiveArray<A>,
@@ -45,7 +45,7 @@ pub fn bits_of<A: Allocator + Copy>(
     Ok(PrimitiveArray::new_unchecked(bits, validity))
 }
 
-// Returns the keys of the floats with these bits. Refused as `OutOfMemory` only.
+// Returns the keys of the floats with these bits. Refused only as `OutOfMemory`.
 fn key_values<A: Allocator + Copy>(
     alloc: A,
     bits: &PrimitiveValues<A>,
@@ -65,7 +65,7 @@ fn key_values<A: Allocator + Copy>(
     }
 }
 
-// Returns the same of bits in one type. Refused as `OutOfMemory` only.
+// Returns the same of bits in one type. Refused only as `OutOfMemory`.
 fn keys_from<B: FloatBits<K>, K: NativePType, A: Allocator + Copy>(
     alloc: A,
     bits: &[B],
@@ -83,7 +83,7 @@ fn keys_from<B: FloatBits<K>, K: NativePType, A: Allocator + Copy>(
     Ok(K::wrap(keys))
 }
 
-// Returns the bits of the floats with these keys. Refused as `OutOfMemory` only.
+// Returns the bits of the floats with these keys. Refused only as `OutOfMemory`.
 fn bit_values<A: Allocator + Copy>(
     alloc: A,
     keys: &PrimitiveValues<A>,
@@ -102,7 +102,7 @@ fn bit_values<A: Allocator + Copy>(
     }
 }
 
-// Returns the same of keys in one type. Refused as `OutOfMemory` only.
+// Returns the same of keys in one type. Refused only as `OutOfMemory`.
 fn bits_from<B: FloatBits<K>, K: NativePType, A: Allocator + Copy>(
     alloc: A,
     keys: &[K],

@@ -14,7 +14,7 @@ use crate::keys::key_at;
 use column_core::{BitBuffer, BitBufferMut, BoolArray, PrimitiveArray, VortexError, VortexResult};
 use std::alloc::Allocator;
 
-/// Returns whether each key passes the test, null for null. Refused as `OutOfMemory` only.
+/// Returns for each key whether it passes the test, null for null. Refused only as `OutOfMemory`.
 pub fn tested_keys<T: KeyTest, A: Allocator + Copy>(
     alloc: A,
     keys: &PrimitiveArray<A>,
@@ -31,7 +31,7 @@ pub fn tested_keys<T: KeyTest, A: Allocator + Copy>(
     Ok(BoolArray::new_unchecked(bits, validity))
 }
 
-// Returns a bit for each key: whether it passes the test, and false for null. Refused as `OutOfMemory` only.
+// Returns a bit for each key: whether it passes the test, and false for null. Refused only as `OutOfMemory`.
 fn tested_bits<T: KeyTest, A: Allocator + Copy>(
     alloc: A,
     keys: &PrimitiveArray<A>,

@@ -89,7 +89,7 @@ length-optionals [] flags same = refl
 length-optionals (x ∷ items) [] same = cc
 length-optionals (x ∷ items) (b ∷ flags) same = ap suc (length-optionals items flags (omega (arith, same)))
 
--- the first n words are those of before without the bits that the others don't have, and all behind them stay
+-- the first n words are those of before without the bits that the others don't have, and all after them stay
 pub record AreKept (old others now : List ℕ) (n : ℕ) : Type 0 where
   pub before : (k : ℕ) → k < n → get_or now k 0 ≡ bit_and (get_or old k 0) (get_or others k 0)
   pub after : (k : ℕ) → n ≤ k → get_or now k 0 ≡ get_or old k 0
@@ -110,7 +110,7 @@ AreKept-next old others now n within kept =
       after = λ k h. get_or-set_other now n k word 0 (λ here. absurd (omega arith)) ∙ kept.after k (omega arith);
     }
 
--- the bits of words of which those alone are left that stand for items that are no nulls
+-- the bits of words of which only those are left whose items are not null
 pub held_bits : {X : Type 0} (test : X → Bool) (items : List X) (flags : List Bool) (n : ℕ) (words own others both : List ℕ) → length flags ≡ length items → n ≡ length items
     → length words ≡ (length items + 63) / 64 → first_bits (length items) words ≡ map test items → own ≡ words → Packs others flags
     → ((k : ℕ) → k < length own → get_or both k 0 ≡ bit_and (get_or own k 0) (get_or others k 0)) → first_bits n both ≡ map (is_held test) (optionals items flags)

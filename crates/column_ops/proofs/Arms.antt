@@ -38,17 +38,17 @@ pub IfOk-same : {T E : Type 0} (result : Result T E) (wanted : T) (P : T → Typ
 IfOk-same (Ok made) wanted P same holds = subst P (sym same) holds
 IfOk-same (Err error) wanted P same holds = tt
 
--- a mask of as many rows is no fault
+-- a mask of as many rows has no fault
 pub same_count : (mask rows : ℕ) → mask ≡ rows → filter_fault mask rows ≡ None
 same_count mask rows same = ap (λ equal. cond equal None (Some (MaskLength mask rows))) (eq-eqb mask rows same)
 
--- a mask of another number of rows is told with both numbers
+-- a mask of another number of rows is refused with both numbers
 pub other_count : (mask rows m n : ℕ) → m ≡ mask → n ≡ rows → ¬ (m ≡ n) → filter_fault mask rows ≡ Some (MaskLength m n)
 other_count mask rows m n m_is n_is other =
     ap (λ equal. cond equal None (Some (MaskLength mask rows))) (ne_eqb mask rows (λ same. other (m_is ∙ same ∙ sym n_is)))
     ∙ ap (λ (k : ℕ). Some (MaskLength k rows)) (sym m_is) ∙ ap (λ (k : ℕ). Some (MaskLength m k)) (sym n_is)
 
--- what can be refused only for memory, where there is no fault
+-- what can be refused only for memory, without a fault
 pub no_fault : {T : Type 0} (fault : Option VortexError) (result : Result T VortexError) → fault ≡ None → IsOkUnless result OutOfMemory → IsRefusedBy fault result
 no_fault fault (Ok value) none only = none
 no_fault fault (Err error) none only = inl only

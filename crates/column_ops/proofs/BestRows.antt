@@ -43,7 +43,7 @@ some_among : (rows : List (Option Value)) (row : Option Value) → IsSome row �
 some_among rows None some all has = false≢true some
 some_among rows (Some value) some all has = none_among rows value all has
 
--- before the first row there is no best one
+-- before the first row none is the best one
 pub IsBest-none : (side : Ordering) (xs : List (Option Value)) (start : ℕ) → IsBest side (slice_range xs start start) None
 IsBest-none side xs start = let none : start - start ≡ 0 = omega arith in rw none (All-nil (λ (row : Option Value). row ≡ None))
 
@@ -91,7 +91,7 @@ IsBest-stays side rows (Some value) (Some best) past furthest = record {
   ];
 }
 
--- two rows that stand to one another as neither of them may be past the other are tied
+-- two rows are tied where neither of them may be past the other
 tied : (side o : Ordering) → side ≢ Equal → o ≢ side → ordering_reverse o ≢ side → o ≡ Equal
 tied Less Less sided first second = absurd (first refl)
 tied Less Equal sided first second = refl
@@ -101,7 +101,7 @@ tied Greater Less sided first second = absurd (second refl)
 tied Greater Equal sided first second = refl
 tied Greater Greater sided first second = absurd (first refl)
 
--- two rows that are furthest to one side are not told apart by the order
+-- two rows that are furthest to one side are equal in the order
 pub IsFurthest-tied : (side : Ordering) (rows : List (Option Value)) (a b : Option Value) → side ≢ Equal → IsFurthest side rows a → IsFurthest side rows b → row_cmp a b ≡ Equal
 IsFurthest-tied side rows a b sided first second =
     tied side (row_cmp a b) sided (second.none_past a first.among first.value)

@@ -1,4 +1,4 @@
--- Items with another one in place of each null, told by index.
+-- Items with another one in place of each null, by index.
 use Rattle.std.proofs.Common.{◌≡◌, ◌∙◌, ◌<◌, ℕ, zero, suc, List, [], ◌∷◌, Bool, true, false, length, get_or, cond, refl, sym, ap, arith}
 use Rattle.column_ops.proofs.Blanked.{items_or, length-items_or}
 use Rattle.column_base.specs.Words.{digit_at, one_if, Packs}

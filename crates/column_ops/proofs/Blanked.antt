@@ -20,7 +20,7 @@ pub items_or-valid : {B : Type 0} (items : List B) (instead : B) → items_or it
 items_or-valid [] instead = refl
 items_or-valid (x ∷ items) instead = ap (λ xs. x ∷ xs) (items_or-valid items instead)
 
--- where none is true there is that one alone
+-- where none is true there is only that one
 pub items_or-null : {B : Type 0} (items : List B) (instead : B) → items_or items (replicate (length items) false) instead ≡ replicate (length items) instead
 items_or-null [] instead = refl
 items_or-null (x ∷ items) instead = ap (λ xs. instead ∷ xs) (items_or-null items instead)

@@ -44,7 +44,7 @@ IsMade-cast_numbers ptype rows wanted numbers form written = record {
   computed = written.computed;
 }
 
--- of rows whose values the type has, null alone is a fault
+-- of rows whose values the type has, only null is a fault
 pub first_fault-kept : {B : Type 0} (value : B → FlatValue) (dtype : DType) (rows : List (Option B)) → ((x : B) → cast_row_fault dtype (Some (Single (value x))) ≡ None)
     → first_fault (cast_row_fault dtype) (map (option_map (λ (v : FlatValue). Single v)) (map (option_map value) rows)) ≡ first_fault (null_row_fault (nullability_of dtype)) rows
 first_fault-kept value dtype [] none = refl
@@ -53,7 +53,7 @@ first_fault-kept value dtype (Some x ∷ rows) none =
     ap (λ f. option_or f (first_fault (cast_row_fault dtype) (map (option_map (λ (v : FlatValue). Single v)) (map (option_map value) rows)))) (none x)
     ∙ first_fault-kept value dtype rows none
 
--- which rows are null is told by mapped rows too
+-- mapped rows say too which rows are null
 pub first_fault-mapped : {B C : Type 0} (f : B → C) (nullability : Nullability) (rows : List (Option B))
     → first_fault (null_row_fault nullability) (map (option_map f) rows) ≡ first_fault (null_row_fault nullability) rows
 first_fault-mapped f nullability [] = refl
@@ -78,7 +78,7 @@ last_nullability (column.Utf8 k) n m = refl
 last_nullability (column.Binary k) n m = refl
 last_nullability (column.List e k) n m = refl
 
--- types of one kind differ in nullability alone
+-- types of one kind differ only in nullability
 dtype-of_kind : (from to : DType) → same_kind from to ≡ true → to ≡ with_nullability from (nullability_of to)
 dtype-of_kind from to same =
     let m = nullability_of to in
@@ -91,6 +91,6 @@ second-of_tests true b c d off holds = cc
 second-of_tests false b true d off holds = refl
 second-of_tests false b false d off holds = holds
 
--- rows that are no numbers are cast to a type that differs in nullability alone
+-- rows that are not numbers are cast to a type that differs only in nullability
 pub dtype-of_cast : (from to : DType) → is_numbers from ≡ false → can_cast from to ≡ true → to ≡ with_nullability from (nullability_of to)
 dtype-of_cast from to other can = dtype-of_kind from to (second-of_tests (is_numbers from) (is_numbers to) (same_kind from to) (not (is_list to)) other can)

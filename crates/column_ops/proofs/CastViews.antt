@@ -23,7 +23,7 @@ no_fault : (kind : VarBinKind) (dtype : DType) (bytes : List ℕ) → cast_row_f
 no_fault Utf8 dtype bytes = refl
 no_fault Binary dtype bytes = refl
 
--- of texts and bytes null alone is a fault
+-- of texts and bytes only null is a fault
 pub first_fault-views : (own : VarBinForm) (dtype : DType)
     → first_fault (cast_row_fault dtype) (single_rows (OfVarBins own)) ≡ first_fault (null_row_fault (nullability_of dtype)) (optional_views own)
 first_fault-views own dtype =
@@ -38,7 +38,7 @@ pub kept_views_sound : (own : VarBinForm) (wanted : Nullability) (items : List V
 kept_views_sound own wanted items form are written =
     AreVarBins-sound own.kind own.buffers items form written.fits (rw (written.shown) (sound_views own.kind own.buffers own.views own.validity are))
 
--- texts and bytes are no numbers
+-- texts and bytes are not numbers
 pub no_numbers : (kind : VarBinKind) (n : Nullability) → is_numbers (kind_dtype kind n) ≡ false
 no_numbers Utf8 n = refl
 no_numbers Binary n = refl

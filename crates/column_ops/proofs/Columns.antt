@@ -85,7 +85,7 @@ EachValid-filter P (b ∷ mask) [] each = All-nil (λ r. IfSome r P)
 EachValid-filter P (true ∷ mask) (row ∷ rows) each = All-cons (λ r. IfSome r P) row (filter_rows mask rows) (All-head (λ r. IfSome r P) row rows each) (EachValid-filter P mask rows (All-tail (λ r. IfSome r P) row rows each))
 EachValid-filter P (false ∷ mask) (row ∷ rows) each = EachValid-filter P mask rows (All-tail (λ r. IfSome r P) row rows each)
 
--- a property of valid items, told by index
+-- a property of valid items, by index
 pub EachValid-from : {B : Type 0} (P : B → Type 0) (blank : B) (items : List B) (bits : List Bool) → ((k : ℕ) → k < length items → get_or bits k false ≡ true → P (get_or items k blank)) → EachValid P (optionals items bits)
 EachValid-from P blank [] bits each = All-nil (λ r. IfSome r P)
 EachValid-from P blank (x ∷ items) [] each = All-nil (λ r. IfSome r P)
@@ -175,7 +175,7 @@ EachValid-then P Q (None ∷ rows) step each = All-cons (λ r. IfSome r Q) None 
 EachValid-then P Q (Some x ∷ rows) step each =
     All-cons (λ r. IfSome r Q) (Some x) rows (step x (All-head (λ r. IfSome r P) (Some x) rows each)) (EachValid-then P Q rows step (All-tail (λ r. IfSome r P) (Some x) rows each))
 
--- a view within its buffer cuts the same bytes where a buffer more stands behind
+-- a view within its buffer cuts the same bytes where one more buffer follows
 view_bytes-more : (buffers : List (List ℕ)) (bytes : List ℕ) (view : View) → IsWithinBuffer buffers view → view_bytes (buffers ++ bytes ∷ []) view ≡ view_bytes buffers view
 view_bytes-more buffers bytes view within = ap (λ buffer. slice_range buffer view.start (view.start + view.size)) (get_or_append_left buffers (bytes ∷ []) [] view.buffer within.buffer)
 

@@ -44,7 +44,7 @@ pub is_held-none : {B : Type 0} (test : B → Bool) (xs : List B) → map (is_he
 is_held-none test [] = refl
 is_held-none test (x ∷ xs) = ap (λ (bits : List Bool). false ∷ bits) (is_held-none test xs)
 
--- a test of items is one of what they stand for
+-- a test of items is one of their values
 pub is_held-map : {B C : Type 0} (test : B → Bool) (other : C → Bool) (value : B → C) → ((x : B) → test x ≡ other (value x)) → (xs : List B) (bs : List Bool)
     → map (is_held test) (optionals xs bs) ≡ map (is_held other) (optionals (map value xs) bs)
 is_held-map test other value same [] bs = refl
@@ -73,7 +73,7 @@ flags_of-rows value (x ∷ xs) [] h = cc
 flags_of-rows value (x ∷ xs) (true ∷ bs) h = ap (λ (flags : List Bool). true ∷ flags) (flags_of-rows value xs bs (omega arith))
 flags_of-rows value (x ∷ xs) (false ∷ bs) h = ap (λ (flags : List Bool). false ∷ flags) (flags_of-rows value xs bs (omega arith))
 
--- the rows of a column that are no nulls are those that its validity says to be there
+-- the rows of a column that are not null are those that its validity says to be there
 pub flags_of-leaf : (leaf : Leaf) → HasLength (leaf_validity leaf) (leaf_count leaf) → map is_some (single_rows leaf) ≡ flags (leaf_validity leaf) (leaf_count leaf)
 flags_of-leaf (OfNumbers form) fits = flags_of-rows (λ (n : ℤ). Number n) form.numbers (flags form.validity (length form.numbers)) (length-flags form.validity (length form.numbers) fits)
 flags_of-leaf (OfTruths form) fits = flags_of-rows (λ (b : Bool). Truth b) form.bits (flags form.validity (length form.bits)) (length-flags form.validity (length form.bits) fits)

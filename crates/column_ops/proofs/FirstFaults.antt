@@ -6,10 +6,10 @@ use Rattle.column_base.specs.declared.error.VortexError.{VortexError}
 same_error : (own error : VortexError) → ◌≡◌ {A = Option VortexError} (Some own) (Some error) → own ≡ error
 same_error own error same = cc
 
--- where there is no fault, none is told
+-- without a fault, none is returned
 pub first-none : {T : Type 0} (fault : Option VortexError) (result : Result T VortexError) → fault ≡ None → (error : VortexError) → fault ≡ Some error → IsErrOf result error
 first-none fault result none error is = let never : ◌≡◌ {A = Option VortexError} None (Some error) = sym none ∙ is in absurd (cc)
 
--- what is told is the fault
+-- what is returned is the fault
 pub first-told : {T : Type 0} (fault : Option VortexError) (own : VortexError) (result : Result T VortexError) → fault ≡ Some own → result ≡ Err own → (error : VortexError) → fault ≡ Some error → IsErrOf result error
 first-told fault own result told is error has = is ∙ ap Err (same_error own error (sym told ∙ has))

@@ -55,7 +55,7 @@ pub first_fault-next : {B : Type 0} (fault : B → Option VortexError) (xs : Lis
     → first_fault fault (take (k + 1) xs) ≡ None
 first_fault-next fault xs k x sound here none = rw add-one (ap (first_fault fault) (take_next xs k x here) ∙ first_fault-more fault (take k xs) x sound none)
 
--- the number in a row of items that stand for numbers
+-- the number in a row of items that represent numbers
 pub number-of_row : {S : Type 0} (ptype : PType) (number : S → ℤ) (items : List S) (form : ValidityForm) (row : ℕ) (shown : Option S)
     → slice_get (optionals items (flags form (length items))) row ≡ Some shown → slice_get (optional_numbers (primitive_with ptype (map number items) form)) row ≡ Some (option_map number shown)
 number-of_row ptype number items form row shown here =

@@ -38,13 +38,13 @@ pub IsConstant-nulls : (rows : List (Option Value)) → All (λ row. row ≡ Non
 IsConstant-nulls rows nulls a b left right =
     All-contains (λ (row : Option Value). row ≡ None) rows a nulls left ∙ sym (All-contains (λ (row : Option Value). row ≡ None) rows b nulls right)
 
--- items that the order does not tell apart have one row
+-- items that are equal in the order have one row
 row-equal : {S : Type 0} (value : S → FlatValue) (a b : S) (o : Ordering) → o ≡ flat_cmp (value a) (value b) → is_eq o ≡ true → item_row value a ≡ item_row value b
 row-equal value a b Less e h = cc
 row-equal value a b Equal e h = ap (item_row (λ (v : FlatValue). v)) (flat_equal (value a) (value b) (sym e))
 row-equal value a b Greater e h = cc
 
--- items of one row are not told apart
+-- items of one row are equal in the order
 equal-row : {S : Type 0} (value : S → FlatValue) (cmp : S → S → Ordering) → ((a b : S) → cmp a b ≡ flat_cmp (value a) (value b)) → (a b : S)
     → item_row value a ≡ item_row value b → is_eq (cmp a b) ≡ true
 equal-row value cmp ordered a b same =
@@ -52,7 +52,7 @@ equal-row value cmp ordered a b same =
     let tied : flat_cmp (value a) (value b) ≡ Equal = rw one (tied_itself flat_total (value b)) in
     ap is_eq (ordered a b ∙ tied)
 
--- one more row is this one exactly where its item is not told apart from it
+-- one more row is this one exactly where its item is equal to it in the order
 pub AreAll-next : {S : Type 0} (value : S → FlatValue) (cmp : S → S → Ordering) → ((a b : S) → cmp a b ≡ flat_cmp (value a) (value b))
     → (rows : List (Option Value)) (start stop : ℕ) (item given : S) (same equal : Bool) → start ≤ stop → slice_get rows stop ≡ Some (item_row value item)
     → equal ≡ is_eq (cmp item given) → IsTrue same ↔ AreAll rows start stop (item_row value given)
@@ -109,13 +109,13 @@ mixed-not_constant rows start stop j k seen inside low_j high_j low_k high_k val
     let same : Some seen ≡ None = constant (Some seen) None (Contains-range rows start stop j (Some seen) inside low_j high_j valid) (Contains-range rows start stop k None inside low_k high_k null) in
     cc
 
--- two nulls in a row are no strict step
+-- two nulls in a row are not a strict step
 pub two-nulls : (strict : Bool) (rows : List (Option Value)) (start last : ℕ) → strict ≡ true → start < last → slice_get rows start ≡ Some None
     → slice_get rows (start + 1) ≡ Some None → ¬ AreSteps strict rows start last
 two-nulls true rows start last asked some first second steps = false≢true (steps start (omega arith) some None None first second)
 two-nulls false rows start last asked some first second steps = cc
 
--- behind a row that is not null only such a row may stand
+-- after a row that is not null only such a row may come
 step-some : (strict : Bool) (left : Value) (right : Option Value) → is_step_of strict (row_cmp (Some left) right) ≡ true → (seen : Value) × (right ≡ Some seen)
 step-some true left None h = absurd (false≢true h)
 step-some false left None h = absurd (false≢true h)
@@ -132,7 +132,7 @@ some-after strict rows from last seen inside steps here (suc n) within =
     let place : from + suc n ≡ from + n + 1 = omega arith in
     (one.0, ap (slice_get rows) place ∙ next ∙ ap (λ (r : Option Value). Some r) one.1)
 
--- a null behind a row that is none is out of order
+-- a null after a row that is not null is out of order
 pub null-behind : (strict : Bool) (rows : List (Option Value)) (start from k stop : ℕ) (seen : Value) → start ≤ from → from ≤ k → k < stop → stop ≤ length rows
     → slice_get rows from ≡ Some (Some seen) → slice_get rows k ≡ Some None → ¬ IsSorted strict (slice_range rows start stop)
 null-behind strict rows start from k stop seen ordered low high inside valid null sorted =
@@ -142,13 +142,13 @@ null-behind strict rows start from k stop seen ordered low high inside valid nul
     let same : Some (Some after.0) ≡ Some None = sym after.1 ∙ ap (slice_get rows) place ∙ null in
     cc
 
--- a null is a step below a row that is none, and below a null where that is no strict one
+-- a null is a step below a row that is not null, and below a null unless steps are strict
 step-null : (strict : Bool) (right : Option Value) → (strict ≡ true → (seen : Value) × (right ≡ Some seen)) → is_step_of strict (row_cmp None right) ≡ true
 step-null true right some = let seen = some refl in rw seen.1 refl
 step-null false None some = refl
 step-null false (Some seen) some = refl
 
--- rows that begin with nulls are sorted where those behind them are, and where strict order is asked there is one null
+-- rows that begin with nulls are sorted where those after them are, and where strict order is asked there is one null
 -- at most
 pub sorted-behind : (strict : Bool) (rows : List (Option Value)) (start from stop : ℕ) → start ≤ from → from ≤ stop → stop ≤ length rows
     → ((k : ℕ) → start ≤ k → k < from → slice_get rows k ≡ Some None) → (strict ≡ true → from ≤ start + 1)

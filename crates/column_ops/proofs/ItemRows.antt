@@ -1,4 +1,4 @@
--- Rows of items that are stored one by one: where each stands, and the flags that make some of them null.
+-- Rows of items that are stored one by one: the place of each, and the flags that make some of them null.
 use Rattle.std.proofs.Common.{◌≡◌, ◌∙◌, ◌+◌, ◌-◌, ◌<◌, ◌≤◌, ℕ, zero, suc, List, [], ◌∷◌, Bool, true, false, Option, Some, None, length, map, replicate, get_or, refl, sym, ap, subst, arith, inl, inr}
 use Rattle.std.specs.Prelude.{slice_get, slice_range, option_map, All, count_by}
 use Rattle.std.proofs.lemmas.Bool.{cases_lt}
@@ -30,7 +30,7 @@ from-join P start middle stop left right k low high =
       | inr from ↦ right k from high
     ]
 
--- the row of an item stands at its place
+-- the row of an item is at its place
 pub item-here : {S : Type 0} (value : S → FlatValue) (items : List S) (k : ℕ) (item : S) → k < length items → item ≡ get_or items k item
     → slice_get (item_rows value items) k ≡ Some (item_row value item)
 item-here value items k item within is =
@@ -137,7 +137,7 @@ some-null flags start stop ordered within few =
     let long = length-slice_range flags start stop ordered within in
     Contains-from_range flags start stop false ordered within (Contains-false (slice_range flags start stop) (omega arith))
 
--- an item stands at each place
+-- each place has an item
 some-item : {S : Type 0} (items : List S) (k : ℕ) → k < length items → (item : S) × (slice_get items k ≡ Some item)
 some-item [] k within = absurd (omega arith)
 some-item (x ∷ items) zero within = (x, refl)

@@ -41,7 +41,7 @@ without_lowest-none w t i one none h =
     bit_at_cat_high (q * 2 + 0) t 0 i (pow_pos t) p ∙ rw lowest_place (bit_at_lowest (q * 2 + 0) ∙ omega arith))
     (cases_lt i t))
 
--- and behind it those of the word
+-- and after it those of the word
 pub without_lowest-same : (w t i : ℕ) → bit_at w t ≡ 1 → ((j : ℕ) → j < t → bit_at w j ≡ 0) → t < i → bit_at w i ≡ bit_at (bit_and w (w - 1)) i
 without_lowest-same w t i one none h =
     let q = w / 2 ^ t / 2 in
@@ -52,7 +52,7 @@ without_lowest-same w t i one none h =
     ∙ bit_at_cat_high (q * 2 + 0) t 0 i (pow_pos t) (omega arith)
     ∙ bit_at_cat_high q 1 0 (i - t) (omega arith) (omega arith))
 
--- what is left has no bit that was not there, and what went is the lowest 1 alone
+-- what is left has no bit that was not there, and only the lowest 1 went
 pub without_lowest-sub : (w j : ℕ) → 0 < w → w < 2 ^ 64 → bit_at (bit_and w (w - 1)) j ≡ 1 → bit_at w j ≡ 1
 without_lowest-sub w j some small h =
     let t = trailing_zeros w64 w in

@@ -63,7 +63,7 @@ filter_rows-map f (b ∷ mask) [] = refl
 filter_rows-map f (true ∷ mask) (x ∷ xs) = ap (λ ys. f x ∷ ys) (filter_rows-map f mask xs)
 filter_rows-map f (false ∷ mask) (x ∷ xs) = filter_rows-map f mask xs
 
--- the rows of items that stand for numbers
+-- the rows of items that represent numbers
 pub number_rows-stored : {S : Type 0} (ptype : PType) (number : S → ℤ) (items : List S) (form : ValidityForm)
     → primitive_rows (primitive_with ptype (map number items) form) ≡ map (option_map Number) (map (option_map number) (optionals items (flags form (length items))))
 number_rows-stored ptype number items form = rw (length-map items number) (ap (map (option_map (λ (n : ℤ). Number n))) (optionals-map number items (flags form (length items))))

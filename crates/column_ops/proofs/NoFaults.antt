@@ -1,4 +1,4 @@
--- Where none of all items has a fault, what stands under null too, the rows have none.
+-- Where none of all items has a fault, those under null included, the rows have none.
 use Rattle.std.proofs.Common.{◌≡◌, ℕ, ℤ, pos, List, [], ◌∷◌, Bool, true, false, Option, Some, None, refl}
 use Rattle.std.specs.Option.{option_or}
 use Rattle.column_base.specs.declared.dtype.PType.{PType}

@@ -16,7 +16,7 @@ use Rattle.column_ops.specs.Cast.{cast_row_fault, null_row_fault, number_fault}
 use Rattle.column_ops.specs.Fault.{first_fault}
 use Rattle.column_ops.proofs.IndexPositions.{neither}
 
--- null is no fault where rows may be null
+-- null is not a fault where rows may be null
 pub no_nulls-nullable : {B : Type 0} (rows : List (Option B)) → first_fault (null_row_fault Nullable) rows ≡ None
 no_nulls-nullable [] = refl
 no_nulls-nullable (None ∷ rows) = no_nulls-nullable rows
@@ -91,7 +91,7 @@ first_fault-push : {B : Type 0} (fault : B → Option VortexError) (xs : List B)
 first_fault-push fault [] x = or-none (fault x)
 first_fault-push fault (y ∷ xs) x = ap (option_or (fault y)) (first_fault-push fault xs x) ∙ or-or (fault y) (first_fault fault xs) (fault x)
 
--- what of items and of one more is told by a test
+-- what a test says of items and of one more
 pub first_fault-tested : {B : Type 0} (fault : B → Option VortexError) (xs : List B) (x : B) (error : VortexError) (before here : Bool)
     → first_fault fault xs ≡ cond before None (Some error) → fault x ≡ cond here None (Some error) → first_fault fault (xs ++ x ∷ []) ≡ cond (before && here) None (Some error)
 first_fault-tested fault xs x error true here sound told = first_fault-push fault xs x ∙ ap (λ f. option_or f (fault x)) sound ∙ told

@@ -1,4 +1,4 @@
--- The order of values is a total order, and flat values that it does not tell apart are one.
+-- The order of values is a total order, and flat values that are equal in it are one.
 use Rattle.std.proofs.Common.{◌≡◌, ◌∙◌, ℕ, ℤ, pos, List, [], true, false, cond, Option, Some, None, refl, sym, ap}
 use Rattle.std.specs.Cmp.{IsTotalOrder}
 use Rattle.std.specs.Cmp.Lexicographic.{slice_cmp, options_total}
@@ -94,7 +94,7 @@ value_total = record { antisymm = value_back; trans = value_chain; congr = value
 pub row_total : IsTotalOrder row_cmp
 row_total = options_total value_total
 
--- integers that the order does not tell apart are one
+-- integers that are equal in the order are one
 int_equal : (a b : ℤ) → int_cmp a b ≡ Equal → a ≡ b
 int_equal a b h = (Decides-int_eq a b).0 (ap is_eq h)
 
@@ -102,7 +102,7 @@ int_equal a b h = (Decides-int_eq a b).0 (ap is_eq h)
 bytes_equal : (a b : List ℕ) → slice_cmp nat_cmp a b ≡ Equal → a ≡ b
 bytes_equal a b h = (bytes_eq-Decides a b).0 (sym (is_eq-slice_cmp a b) ∙ ap is_eq h)
 
--- flat values that the order does not tell apart are one
+-- flat values that are equal in the order are one
 pub flat_equal : (a b : FlatValue) → flat_cmp a b ≡ Equal → a ≡ b
 flat_equal (Truth false) (Truth false) h = refl
 flat_equal (Truth false) (Truth true) h = cc
@@ -121,7 +121,8 @@ row_equal None (Some b) h = cc
 row_equal (Some a) None h = cc
 row_equal (Some a) (Some b) h = ap Some (flat_equal a b h)
 
--- in any total order, what stands on one side of a row that stands there of another does so too
+-- in any total order, what is on one side of a row which is on that side of another is on that side
+-- of the other too
 pub side_chain : {X : Type 0} {R : X → X → Ordering} → IsTotalOrder R → (side : Ordering) (a b c : X) → R a b ≡ side → R b c ≡ side → R a c ≡ side
 side_chain total Less a b c h g = total.trans a b c h g
 side_chain total Equal a b c h g = total.congr a b c h ∙ g

@@ -18,7 +18,7 @@ take_next (y ∷ xs) (suc k) x here = ap (λ ys. y ∷ ys) (take_next xs k x her
 pub take_more : {B : Type 0} (xs : List B) (k : ℕ) (x : B) → slice_get xs k ≡ Some x → take (k + 1) xs ≡ take k xs ++ x ∷ []
 take_more xs k x here = rw add-one (take_next xs k x here)
 
--- items that stand for the first ones of a list, and one more
+-- items that represent the first ones of a list, and one more
 pub mapped-push : {B C : Type 0} (f : B → C) (rows : List (Option B)) (xs : List (Option C)) (k : ℕ) (row : Option B) (x : Option C) → map (option_map f) rows ≡ take k xs → slice_get xs k ≡ Some x
     → option_map f row ≡ x → map (option_map f) (rows ++ row ∷ []) ≡ take (k + 1) xs
 mapped-push f rows xs k row x old here same =
@@ -48,7 +48,7 @@ filter_next (false ∷ mask) (y ∷ xs) zero false x flag here = refl
 filter_next (true ∷ mask) (y ∷ xs) (suc k) b x flag here = ap (λ ys. y ∷ ys) (filter_next mask xs k b x flag here)
 filter_next (false ∷ mask) (y ∷ xs) (suc k) b x flag here = filter_next mask xs k b x flag here
 
--- a row that is selected comes behind those before it
+-- a row that is selected comes after those before it
 pub filter_rows-selected : {B : Type 0} (mask : List Bool) (xs : List B) (k : ℕ) (b : Bool) (x : B) → slice_get mask k ≡ Some b → b ≡ true → slice_get xs k ≡ Some x
     → filter_rows (take (k + 1) mask) (take (k + 1) xs) ≡ filter_rows (take k mask) (take k xs) ++ x ∷ []
 filter_rows-selected mask xs k b x flag set here = rw add-one (filter_next mask xs k true x (flag ∙ ap Some set) here)

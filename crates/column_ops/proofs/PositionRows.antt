@@ -43,7 +43,7 @@ ArePositionsFor-kept indices wanted count items form sound written =
       nullability = written.nullability;
     }
 
--- of indices that are all valid, the first that is no position is the fault
+-- of indices that are all valid, the first that is not a position is the fault
 pub faults-valid : (count : ℕ) (numbers : List ℤ) → take_fault (optionals numbers (replicate (length numbers) true)) count ≡ first_fault (λ index. index_fault count (Some index)) numbers
 faults-valid count [] = refl
 faults-valid count (n ∷ numbers) = ap (option_or (index_fault count (Some n))) (faults-valid count numbers)
@@ -64,7 +64,7 @@ positions-more positions rows k position row old here same =
     map_push pos positions position ∙ ap (λ (xs : List ℤ). xs ++ pos position ∷ []) old ∙ ap (λ (n : ℤ). map (λ row. unwrap_or row (pos 0)) (take k rows) ++ n ∷ []) same
     ∙ sym (ap (map (λ row. unwrap_or row (pos 0))) (take_more rows k row here) ∙ map_push (λ row. unwrap_or row (pos 0)) (take k rows) row)
 
--- so many zeros
+-- zeros as numbers
 pub map-zeros : (n : ℕ) → map pos (replicate n 0) ≡ replicate n (pos 0)
 map-zeros zero = refl
 map-zeros (suc n) = ap (λ (xs : List ℤ). pos 0 ∷ xs) (map-zeros n)

@@ -58,7 +58,7 @@ flat_row : (o : Option (Option FlatValue)) (a : Option Value) → option_map (op
 flat_row None a h = cc
 flat_row (Some v) a h = (v, cc)
 
--- rows of a flat column that the order does not tell apart are one
+-- rows of a flat column that are equal in the order are one
 pub rows_equal : (leaf : Leaf) (j k : ℕ) (a b : Option Value) → slice_get (single_rows leaf) j ≡ Some a → slice_get (single_rows leaf) k ≡ Some b
     → row_cmp a b ≡ Equal → a ≡ b
 rows_equal leaf j k a b left right same =
@@ -68,7 +68,7 @@ rows_equal leaf j k a b left right same =
     let told : row_cmp (f v.0) (f w.0) ≡ Equal = rw (v.1, w.1) same in
     sym v.1 ∙ ap f (row_equal v.0 w.0 told) ∙ w.1
 
--- an ordering that is no other is equality
+-- an ordering that is neither of the others is equality
 is_ne-Equal : (o : Ordering) → is_ne o ≡ false → o ≡ Equal
 is_ne-Equal Less h = cc
 is_ne-Equal Equal h = refl
@@ -78,7 +78,7 @@ is_ne-Equal Greater h = cc
 abbrev pub AreSame : List (Option Value) → ℕ → ℕ → Type 0
 AreSame rows start stop = (k : ℕ) → start ≤ k → k < stop → slice_get rows k ≡ slice_get rows start
 
--- the next row is the same where it stands so to the first
+-- the next row is the same where it compares so with the first
 pub AreSame-next : (leaf : Leaf) (start stop : ℕ) (o : Ordering) → HasOrderAt (single_rows leaf) start stop o → is_ne o ≡ false
     → AreSame (single_rows leaf) start stop → AreSame (single_rows leaf) start (stop + 1)
 AreSame-next leaf start stop o at told same k low high =
@@ -145,7 +145,7 @@ IsSorted-steps strict rows start stop last ordered inside past steps = sorted_by
     (steps (start + k) (omega arith) (omega arith) (get_or rows (start + k) d) (get_or rows (start + k + 1) d)
     (slice_get-get_or rows (start + k) d (omega arith)) (slice_get-get_or rows (start + k + 1) d (omega arith))))
 
--- a row that may not stand so to the next is in the way
+-- a row that may not compare so with the next is in the way
 pub IsSorted-not : (strict : Bool) (rows : List (Option Value)) (start stop k : ℕ) (o : Ordering) → stop ≤ length rows → start ≤ k → k + 1 < stop
     → HasOrderAt rows k (k + 1) o → is_step_of strict o ≡ false → ¬ IsSorted strict (slice_range rows start stop)
 IsSorted-not strict rows start stop k o inside low high at told sorted =

@@ -73,7 +73,7 @@ pub neither_nullable : (a b : Nullability) → either_nullable a b ≡ NonNullab
 neither_nullable NonNullable b none = (refl, none)
 neither_nullable Nullable b none = cc
 
--- whether each row of items is valid is told by their flags
+-- their flags say whether each row of items is valid
 pub flags-of_rows : {B : Type 0} (items : List B) (bits : List Bool) → length bits ≡ length items → map is_some (optionals items bits) ≡ bits
 flags-of_rows [] [] long = refl
 flags-of_rows [] (b ∷ bits) long = cc
@@ -139,7 +139,7 @@ valid-at (x ∷ items) (true ∷ bits) zero long = refl
 valid-at (x ∷ items) (false ∷ bits) zero long = refl
 valid-at (x ∷ items) (b ∷ bits) (suc k) long = valid-at items bits k (omega arith)
 
--- whether each taken row is valid is told by the bits at the positions
+-- the bits at the positions say whether each taken row is valid
 pub flags-taken : {B : Type 0} (items : List B) (bits : List Bool) (positions : List (Option ℕ)) → length bits ≡ length items
     → map is_some (take_rows (optionals items bits) (position_numbers positions)) ≡ map (taken_bit bits) positions
 flags-taken items bits [] long = refl

@@ -5,7 +5,7 @@ use Rattle.std.proofs.lemmas.Option.{slice_get-get_or}
 use Rattle.column_base.specs.Words.{Packs}
 use Rattle.column_base.proofs.WordDigits.{value_of}
 
--- what stands where there is something does not depend on what would stand where there is nothing
+-- what is read at a place that is there does not depend on what would be read elsewhere
 read_same : (words : List ℕ) (k : ℕ) → k < length words → get_or words k 0 ≡ get_or words k (get_or words k 0)
 read_same words k within =
     let both : Some (get_or words k 0) ≡ Some (get_or words k (get_or words k 0)) = sym (slice_get-get_or words k 0 within) ∙ slice_get-get_or words k (get_or words k 0) within in cc

@@ -1,4 +1,4 @@
--- Bits that are written one behind the other.
+-- Bits that are written one after the other.
 use Rattle.std.proofs.Common.{◌≡◌, ◌∙◌, ◌+◌, ◌*◌, ◌%◌, ◌^◌, ◌<◌, ◌≤◌, ◌∷◌, ◌++◌, [], ℕ, List, Bool, length, refl, sym, ap, subst, arith, bit_or, length-append}
 use Rattle.std.proofs.lemmas.List.{append_assoc, append-nil}
 use mir.Val.{bool_byte}

@@ -100,7 +100,7 @@ some_view (column.Binary n) view.Null h e = absurd (subst MayBeNull e h)
 some_view (column.List i n) view.Null h e = absurd (subst MayBeNull e h)
 some_view t v h e = refl
 
--- the comparison of two rows that are no nulls is none
+-- the comparison of two rows that are not null is not null
 compared-some : (operator : CompareOperator) (left right : Option Value) → IsSome left → IsSome right → IsSome (compared operator left right)
 compared-some operator None right l r = absurd (false≢true l)
 compared-some operator (Some a) None l r = absurd (false≢true r)
@@ -128,7 +128,7 @@ compare_with-at operator rows right k left here =
 pub length-compare_with : (operator : CompareOperator) (rows : List (Option Value)) (right : Option Value) → length (compare_with operator rows right) ≡ length rows
 length-compare_with operator rows right = length-map rows (λ (row : Option Value). compared operator row right)
 
--- the answer at a row, of the row beside it
+-- the answer at a row, from the two rows there
 pub compare_rows-at : (operator : CompareOperator) (lefts rights : List (Option Value)) (k : ℕ) (left right : Option Value) → slice_get lefts k ≡ Some left
     → slice_get rights k ≡ Some right → slice_get (compare_rows operator lefts rights) k ≡ Some (compared operator left right)
 compare_rows-at operator [] rights k left right h g = cc

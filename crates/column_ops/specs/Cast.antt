@@ -13,11 +13,11 @@ use Rattle.column_core.specs.Value.{Number, PlainColumn, Single, Value}
 use Rattle.column_ops.specs.Fault.{first_fault}
 pub use Rattle.column_core.specs.Kinds.{is_list, is_numbers, same_kind}
 
--- whether so many bits without a sign hold the number
+-- whether this number of bits without a sign hold the number
 abbrev pub fits_unsigned : ℕ → ℤ → Bool
 fits_unsigned bits n = int_le (pos 0) n && int_lt n (pos (2 ^ bits))
 
--- whether a sign and so many bits hold the number
+-- whether a sign and this number of bits hold the number
 abbrev pub fits_signed : ℕ → ℤ → Bool
 fits_signed bits n = int_le (neg_ℤ (pos (2 ^ bits))) n && int_lt n (pos (2 ^ bits))
 

@@ -19,7 +19,6 @@ code_numbers codes = map code_number codes
 abbrev pub code_rows : {B : Type 0} → List (Option B) → List (Option Value) → List (Option B)
 code_rows dictionary codes = take_rows dictionary (code_numbers codes)
 
--- codes that are no integers; then the first code that is negative or not below the number of the dictionary's
--- rows
+-- codes that are not integers; then the first code that is negative or not below the number of the dictionary's rows
 abbrev pub code_fault : PlainColumn → ℕ → Option VortexError
 code_fault codes count = cond (is_numbers codes.dtype) (take_fault (code_numbers codes.rows) count) (Some TypeMismatch)

@@ -29,7 +29,7 @@ compared operator None right = None
 compared operator (Some left) None = None
 compared operator (Some left) (Some right) = Some (Single (Truth (holds_of operator (value_cmp left right))))
 
--- the rows of two columns compared, each with the one beside it
+-- the rows of two columns compared, each with the one at the same place
 abbrev pub compare_rows : CompareOperator → List (Option Value) → List (Option Value) → List (Option Value)
 compare_rows operator [] rights = []
 compare_rows operator (left ∷ lefts) [] = []

@@ -7,7 +7,7 @@ use Rattle.column_core.specs.Value.{FlatValue, Value, Single}
 abbrev pub item_row : {S : Type 0} → (S → FlatValue) → S → Option Value
 item_row value item = Some (Single (value item))
 
--- the rows of items of which none is null
+-- the rows of items none of which is null
 abbrev pub item_rows : {S : Type 0} → (S → FlatValue) → List S → List (Option Value)
 item_rows value items = map (item_row value) items
 

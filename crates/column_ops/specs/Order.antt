@@ -7,7 +7,7 @@ use Rattle.std.specs.declared.cmp.Ordering.{Ordering}
 use Rattle.std.specs.declared.cmp.Ordering.TheVariants.{Less, Equal, Greater}
 use Rattle.column_core.specs.Value.{FlatValue, Truth, Number, DecimalNumber, Text, Bytes, Value, Single, Items}
 
--- where the kind of a flat value stands among the kinds
+-- the place of the kind of a flat value among the kinds
 abbrev pub kind_index : FlatValue → ℕ
 kind_index (Truth b) = 0
 kind_index (Number z) = 1

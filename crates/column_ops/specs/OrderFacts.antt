@@ -27,7 +27,7 @@ abbrev pub IsSorted : Bool → List (Option Value) → Type 0
 IsSorted true rows = IsInStrictOrder rows
 IsSorted false rows = IsInOrder rows
 
--- a row that is not null, and no other such row stands on that side of it
+-- a row that is not null, and no other such row is on that side of it
 pub record IsFurthest (side : Ordering) (rows : List (Option Value)) (row : Option Value) : Type 0 where
   pub value : IsSome row
   pub among : Contains rows row

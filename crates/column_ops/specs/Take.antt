@@ -7,13 +7,13 @@ use Rattle.column_base.specs.ValidityForm.{ValidityForm, HasLength, flags, nulla
 use Rattle.column_core.specs.Optionals.{optionals}
 use Rattle.column_ops.specs.Fault.{first_fault}
 
--- the row of an optional number: null for null, and where there is no such row
+-- the row of an optional number: null for null, and for a number past the rows
 abbrev pub taken_row : {B : Type 0} → List (Option B) → Option ℤ → Option B
 taken_row rows None = None
 taken_row rows (Some (pos k)) = slice_index_or rows k None
 taken_row rows (Some (negsuc k)) = None
 
--- the bit at an optional position: false for null, and where there is no such bit
+-- the bit at an optional position: false for null, and for a position past the bits
 abbrev pub taken_bit : List Bool → Option ℕ → Bool
 taken_bit bits None = false
 taken_bit bits (Some k) = slice_index_or bits k false
@@ -28,7 +28,7 @@ index_fault count None = None
 index_fault count (Some (pos k)) = cond (nat_lt k count) None (Some (OutOfBounds (pos k) count))
 index_fault count (Some (negsuc k)) = Some (OutOfBounds (negsuc k) count)
 
--- the first valid index that is negative or not below the number of rows, told with that number
+-- the first valid index that is negative or not below the number of rows, with that number
 abbrev pub take_fault : List (Option ℤ) → ℕ → Option VortexError
 take_fault indices count = first_fault (index_fault count) indices
 

@@ -12,7 +12,7 @@ pub record AreStoredAs {T : Type 0} (blank : T) (rows : List (Option T)) (wanted
   pub computed : AreComputed blank items validity
   pub nullability : nullability_in validity ≡ wanted
 
--- a validity of these flags of so many rows, in the form that a call computes
+-- a validity with these flags, in the form that a call computes
 pub record IsValidityOf (wanted_flags : List Bool) (wanted : Nullability) (count : ℕ) (validity : ValidityForm) : Type 0 where
   pub shown : flags validity count ≡ wanted_flags
   pub fits : HasLength validity count

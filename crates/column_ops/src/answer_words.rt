@@ -61,7 +61,7 @@ fn words_by<T: Copy + Ord + Drop, A: Allocator + Copy>(
     Ok(words)
 }
 
-// The bits of up to 64 items as a word, which has 0 behind them.
+// The bits of up to 64 items as a word, with 0 after them.
 #[inline(always)]
 fn word_by<T: Copy + Ord + Drop>(items: &[T], operator: CompareOperator, right: T) -> u64
     requires { length items.now ≤ 64 }

@@ -1,4 +1,4 @@
-//! Bits that are written one behind the other, 64 to a word. The word that is not full yet stands in a register, so
+//! Bits that are written one after the other, 64 to a word. The word that is not full yet is kept in a register, so
 //! that no bit waits for memory.
 ghost use Rattle.std.specs.Prelude.{◌≡◌, ◌∷◌, ◌++◌, [], length, IfOk, IsOkUnless, OnErr, OnOk};
 
@@ -6,7 +6,7 @@ use column_core::{BitBufferMut, VortexError, VortexResult};
 use std::alloc::Allocator;
 use std::marker::Model;
 
-/// Bits that are being written.
+/// Holds bits that are being written.
 #[derive(Drop)]
 pub struct BitWriter<A: Allocator> {
     words: Vec<u64, A>,
@@ -39,7 +39,7 @@ impl<A: Allocator + Copy> BitWriter<A> {
         })
     }
 
-    /// Puts `bit` behind the last bit. Refused only for memory, where the bits stay as they were.
+    /// Appends `bit`. Refused only for memory, and then the bits stay as they were.
     #[inline(always)]
     pub fn append(&mut self, bit: bool) -> VortexResult<()>
         ensures ok { OnOk result (self.new ≡ self.old ++ bit ∷ []) }

@@ -10,8 +10,8 @@ ghost use Rattle.column_ops.specs.Take.{taken_bit};
 use column_core::{BitBuffer, BitBufferMut, Validity, VortexError, VortexResult};
 use std::alloc::Allocator;
 
-/// Returns the bits at these positions: false where the position is null, and where there is no such bit. What stands
-/// under null may be any number. Refused only as `OutOfMemory`.
+/// Returns the bits at these positions: false where the position is null or has no bit. Any number may be stored under
+/// null. Refused only as `OutOfMemory`.
 pub(crate) fn bits_at<A: Allocator + Copy>(
     alloc: A,
     bits: &BitBuffer<A>,
@@ -65,7 +65,7 @@ fn word_at(words: &[u64], positions: &[u64]) -> u64
     word
 }
 
-// The bit at a position, and 0 behind the last word.
+// The bit at a position, and 0 after the last word.
 #[inline(always)]
 fn bit_or_zero(words: &[u64], position: u64) -> u64
     ensures { result ≡ digit_at words.now position }
@@ -73,7 +73,7 @@ fn bit_or_zero(words: &[u64], position: u64) -> u64
     (word_or_zero(words, position / 64) >> (position % 64)) & 1
 }
 
-// The word at an index, and 0 behind the last.
+// The word at an index, and 0 after the last.
 #[inline(always)]
 fn word_or_zero(words: &[u64], index: u64) -> u64
     ensures { result ≡ slice_index words.now index }

@@ -2,7 +2,7 @@
 ghost use Rattle.std.specs.Prelude.{◌≡◌, ◌≢◌, ℕ, ◌+◌, ◌*◌, ◌/◌, ◌%◌, ◌≤◌, ◌<◌, length, slice_index, slice_index_or};
 ghost use Rattle.std.specs.Int.{bit_at};
 
-/// The item at each place whose bit is 0. A word of ones costs one comparison, since nulls are few.
+/// Writes the item at each place whose bit is 0. A word of ones costs one comparison, since nulls are few.
 #[inline(always)]
 pub(crate) fn put_at_zeros<T: Copy + Drop>(items: &mut [T], words: &[u64], item: T)
     requires { length items.old ≤ length words.now * 64 }
@@ -35,7 +35,7 @@ fn put_at_ones<T: Copy + Drop>(items: &mut [T], start: usize, ones: u64, item: T
     }
 }
 
-// The item `lane` places behind `start`, where there is such a place: the last word has bits behind the last item.
+// The item `lane` places after `start`, where there is one: the last word has bits after the last item.
 #[inline(always)]
 fn put_within<T: Copy + Drop>(items: &mut [T], start: usize, lane: usize, item: T)
     requires { start ≤ length items.old }

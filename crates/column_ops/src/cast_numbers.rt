@@ -134,7 +134,7 @@ fn cast_all<S: NativePType, T: NativePType, A: Allocator + Copy>(
     }
 }
 
-// Numbers of which none is null, in the type `T`. All are converted, so that no branch is taken for any of them.
+// Numbers, none of which is null, in the type `T`. All are converted, so that no branch is taken for any of them.
 fn cast_valid<S: NativePType, T: NativePType, A: Allocator>(
     alloc: A,
     items: &[S],
@@ -158,8 +158,8 @@ fn cast_valid<S: NativePType, T: NativePType, A: Allocator>(
     }
 }
 
-// The numbers in the type `T` where null may stay, with 0 in place of it. What stands under null is cast too, and 0 is
-// put there then. Only where a number does not fit, the rows are looked at one by one: it may be one under null.
+// The numbers in the type `T` where null may stay, with 0 in place of it. What is stored under null is cast too, and 0
+// is put there then. Only if a number does not fit, the rows are looked at one by one: it may be under null.
 fn cast_nullable<S: NativePType, T: NativePType, A: Allocator + Copy>(
     alloc: A,
     items: &[S],

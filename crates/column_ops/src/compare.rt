@@ -23,7 +23,7 @@ use column_core::{
 };
 use std::alloc::Allocator;
 
-/// Returns whether the operator holds of each row and the scalar. Null where the row or the scalar is null. The answer
+/// Returns whether the operator holds of each row and the scalar, null where the row or the scalar is null. The answer
 /// has null where either type has, and false is stored under null. Refused as `TypeMismatch` exactly where the two
 /// types differ in more than nullability, else only as `OutOfMemory`.
 pub fn compare_scalar<A: Allocator + Copy>(
@@ -51,10 +51,10 @@ pub fn compare_scalar<A: Allocator + Copy>(
     }
 }
 
-/// Returns whether the operator holds of each row and the row beside it. Null where either row is null. The answer has
-/// null where either type has, and false is stored under null. Refused, in this order, as `TypeMismatch` where the two
-/// types differ in more than nullability, and as `ColumnLength`, with the number of rows of the column and of the right
-/// one, where these differ; else only as `OutOfMemory`.
+/// Returns whether the operator holds of each row and the row of the other column at the same place, null where either
+/// row is null. The answer has null where either type has, and false is stored under null. Refused, in this order, as
+/// `TypeMismatch` where the two types differ in more than nullability, and as `ColumnLength`, with the number of rows
+/// of the column and of the right one, where these differ; else only as `OutOfMemory`.
 pub fn compare_column<A: Allocator + Copy>(
     alloc: A,
     column: FlatView<'_, A>,
@@ -140,7 +140,7 @@ fn compare_to_value<A: Allocator + Copy>(
     Ok(BoolArray::new_unchecked(bits.freeze(), validity))
 }
 
-// The rows of two columns compared, each with the one beside it.
+// The rows of two columns compared, each with the one at the same place.
 fn compare_beside<A: Allocator + Copy>(
     alloc: A,
     column: FlatView<'_, A>,

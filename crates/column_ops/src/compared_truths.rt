@@ -17,7 +17,7 @@ use column_core::{
 };
 use std::alloc::Allocator;
 
-/// Returns whether the operator holds of the two rows. `None` where one is null.
+/// Returns whether the operator holds of the two rows, and `None` where one is null.
 pub(crate) fn truth_of<A: Allocator>(
     operator: CompareOperator,
     left: &ScalarView<'_, A>,
@@ -69,8 +69,8 @@ pub(crate) fn column_of_truths<A: Allocator + Copy>(
     }
 }
 
-/// Returns which answers are valid where the rows are so, which are compared with a value of a type of that
-/// nullability. Refused only as `OutOfMemory`.
+/// Returns which answers are valid, given which rows are valid, for rows that are compared with a value of a type of
+/// that nullability. Refused only as `OutOfMemory`.
 pub(crate) fn validity_of_answers<A: Allocator + Copy>(
     alloc: A,
     rows: &Validity<A>,

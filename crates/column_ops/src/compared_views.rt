@@ -10,9 +10,9 @@ use column_core::ScalarView;
 use std::alloc::Allocator;
 use std::cmp::Ordering;
 
-/// Returns how the left row stands to the right one: null is equal to null and below all else, numbers are ordered by
-/// value, false is below true, and texts and bytes are ordered by their bytes. Of rows of two kinds, the first in the
-/// order of `ScalarView` is below. Lists have no order, and any two of them count as equal.
+/// Returns how the left row compares with the right one: null is equal to null and below all else, numbers are ordered
+/// by value, false is below true, and texts and bytes are ordered by their bytes. Among rows of two kinds, the first in
+/// the order of `ScalarView` is below. Lists have no order, and any two of them count as equal.
 pub fn compare_views<A: Allocator>(left: &ScalarView<'_, A>, right: &ScalarView<'_, A>) -> Ordering
     ensures { result ≡ row_cmp (sees left.now) (sees right.now) }
 {
@@ -33,7 +33,7 @@ pub fn compare_views<A: Allocator>(left: &ScalarView<'_, A>, right: &ScalarView<
     }
 }
 
-// Where a view stands among the kinds, null first.
+// The place of a view among the kinds, null first.
 fn kind_of<A: Allocator>(view: &ScalarView<'_, A>) -> u8
     ensures { result ≡ row_index (sees view.now) }
 {

@@ -12,7 +12,7 @@ ghost use Rattle.column_ops.specs.Written.{IsValidityOf};
 use column_core::{Nullability, Validity, VortexError, VortexResult};
 use std::alloc::Allocator;
 
-/// Returns whether no row is null by the form alone. Bits are not read.
+/// Returns whether the form says that no row is null. Bits are not read.
 pub(crate) fn is_all_valid<A: Allocator>(validity: &Validity<A>) -> bool
     ensures valid { (count : ℕ) → result ≡ true → validity_flags validity.now count ≡ replicate count true }
     ensures nullable { result ≡ false → nullability_in (form_of validity.now) ≡ Nullable }
@@ -25,7 +25,7 @@ pub(crate) fn is_all_valid<A: Allocator>(validity: &Validity<A>) -> bool
     }
 }
 
-/// Refused as `NullNotAllowed` where a row is null and rows may not be. Takes no memory.
+/// Refuses nulls as `NullNotAllowed` where the type has no null. Takes no memory.
 pub(crate) fn check_nulls<T: Copy + Drop, A: Allocator>(
     items: &[T],
     validity: &Validity<A>,
@@ -49,7 +49,7 @@ pub(crate) fn check_nulls<T: Copy + Drop, A: Allocator>(
     }
 }
 
-// Is one of so many rows null?
+// Is one of `count` rows null?
 fn has_null<A: Allocator>(validity: &Validity<A>, count: usize) -> bool
     requires { HasLength (form_of validity.now) count }
     ensures null { result ≡ true → count_by (λ valid. valid) (validity_flags validity.now count) < count }
@@ -63,7 +63,7 @@ fn has_null<A: Allocator>(validity: &Validity<A>, count: usize) -> bool
     }
 }
 
-/// Returns the validity of so many rows in a type of that nullability, in the form that a call computes. Refused only
+/// Returns the validity of `count` rows in a type of that nullability, in the form that a call computes. Refused only
 /// as `OutOfMemory`.
 pub(crate) fn computed_validity<A: Allocator + Copy>(
     alloc: A,
@@ -83,7 +83,7 @@ pub(crate) fn computed_validity<A: Allocator + Copy>(
     }
 }
 
-// The validity of so many rows in a type with null.
+// The validity of `count` rows in a type with null.
 fn nullable_validity<A: Allocator + Copy>(
     alloc: A,
     validity: &Validity<A>,

@@ -51,7 +51,7 @@ pub(crate) fn bits_of_answers<A: Allocator + Copy>(
     }
 }
 
-// Of each row, seen one by one.
+// A bit for each row, which is looked at by itself.
 fn bits_of_rows<A: Allocator + Copy>(
     alloc: A,
     column: FlatView<'_, A>,
@@ -71,7 +71,7 @@ fn bits_of_rows<A: Allocator + Copy>(
     Ok(bits)
 }
 
-// Of each number and one that the type has.
+// A bit for each number compared with one that the type has.
 fn bits_of_numbers<A: Allocator + Copy>(
     alloc: A,
     values: &PrimitiveValues<A>,
@@ -88,7 +88,7 @@ fn bits_of_numbers<A: Allocator + Copy>(
     match_each_native!(values, items => bits_of_native(alloc, items.as_slice(), validity, operator, right))
 }
 
-// Of each item of one native type and a number that the type has.
+// A bit for each item of one native type compared with a number that the type has.
 fn bits_of_native<T: NativePType, A: Allocator + Copy>(
     alloc: A,
     items: &[T],
@@ -108,7 +108,7 @@ fn bits_of_native<T: NativePType, A: Allocator + Copy>(
     bits_of_items(alloc, items, validity, operator, right)
 }
 
-// Of each item, false where it is null.
+// A bit for each item, false where it is null.
 fn bits_of_items<T: Copy + Ord + Drop, A: Allocator + Copy>(
     alloc: A,
     items: &[T],
@@ -129,7 +129,7 @@ fn bits_of_items<T: Copy + Ord + Drop, A: Allocator + Copy>(
     }
 }
 
-// Of items none of which is null.
+// A bit for each item, where none is null.
 fn bits_of_all<T: Copy + Ord + Drop, A: Allocator + Copy>(
     alloc: A,
     items: &[T],
@@ -143,7 +143,7 @@ fn bits_of_all<T: Copy + Ord + Drop, A: Allocator + Copy>(
     Ok(BitBufferMut::from_words(words, items.len()))
 }
 
-// Of items that are null where their bit is false.
+// A bit for each item, false where its bit of validity is.
 fn bits_of_valid<T: Copy + Ord + Drop, A: Allocator + Copy>(
     alloc: A,
     items: &[T],

@@ -17,7 +17,7 @@ use std::alloc::Allocator;
 use std::cmp::Ordering;
 use std::ops::Range;
 
-/// Returns the least and the greatest of the rows from `range.start` to `range.end - 1` that are no nulls, borrowed, or
+/// Returns the least and the greatest of the rows from `range.start` to `range.end - 1` that are not null, borrowed, or
 /// `None` where all of them are null. Takes no memory.
 pub fn min_max<'a, A: Allocator + Copy>(
     column: FlatView<'a, A>,
@@ -39,7 +39,7 @@ pub fn min_max<'a, A: Allocator + Copy>(
 
 /// Returns a row from `range.start` to `range.end - 1` that is not null and furthest to that side, borrowed: the least
 /// where the side is `Less`, and the greatest where it is `Greater`. `None` where all of them are null. Takes no
-/// memory, and compares for that side only.
+/// memory, and compares only for that side.
 pub fn extreme<'a, A: Allocator + Copy>(
     column: FlatView<'a, A>,
     range: Range<usize>,

@@ -4,7 +4,7 @@ ghost use Rattle.column_ops.specs.CompareFault.{compare_column_fault, compare_sc
 
 use column_core::{DType, VortexError, is_list_type, is_same_kind};
 
-/// Why rows of the left type are not compared with values of the right one: `Unsupported` for lists, then
+/// Returns why rows of the left type are not compared with values of the right one: `Unsupported` for lists, then
 /// `TypeMismatch` where the types differ in more than nullability.
 pub fn kind_fault(left: DType, right: DType) -> Option<VortexError>
     ensures { result ≡ compare_scalar_fault left right }
@@ -19,8 +19,8 @@ pub fn kind_fault(left: DType, right: DType) -> Option<VortexError>
     }
 }
 
-/// Why two columns of these types and numbers of rows are not compared: as with a scalar, then
-/// `ColumnLength` where the numbers of rows differ.
+/// Returns why two columns of these types and numbers of rows are not compared: as with a scalar, then `ColumnLength`
+/// where the numbers of rows differ.
 pub fn column_fault(
     left: DType,
     right: DType,

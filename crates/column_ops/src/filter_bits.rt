@@ -108,7 +108,7 @@ fn filter_by<A: Allocator + Copy>(
     }
 }
 
-// The same of booleans that are null where their mark is false.
+// The same for booleans that are null where their mark is false.
 fn filter_marked<A: Allocator + Copy>(
     alloc: A,
     bits: &BitBuffer<A>,

@@ -135,7 +135,7 @@ fn selected_items<T: Copy + Drop, A: Allocator + Copy>(
     Ok(kept)
 }
 
-// The items at which the bits are true, of rows of which some may be null, with the blank item in place of null.
+// The items at which the bits are true, for rows some of which may be null, with the blank item in place of null.
 fn selected_rows<T: Copy + Drop, A: Allocator + Copy>(
     alloc: A,
     items: &[T],

@@ -16,13 +16,13 @@ use column_core::{BoolArray, FlatColumn, Scalar, ScalarView, VortexResult};
 use std::alloc::Allocator;
 use std::ops::Range;
 
-/// What rests on the order of values, for columns whose rows are stored one by one. Ranges are of rows,
-/// counted from 0.
+/// Has the operations that rest on the order of values, for columns whose rows are stored one by one. Ranges are of
+/// rows, counted from 0.
 pub trait FlatOrder<A: Allocator + Copy> {
     // The form of a column.
     ghost form: { Self → Leaf };
 
-    /// Returns whether the operator holds of each row and the scalar. Null where the row or the scalar is null. The
+    /// Returns whether the operator holds of each row and the scalar, null where the row or the scalar is null. The
     /// answer has null where either type has, and false is stored under null. Refused as `TypeMismatch` exactly where
     /// the two types differ in more than nullability, else only as `OutOfMemory`.
     fn compare_scalar(
@@ -38,10 +38,10 @@ pub trait FlatOrder<A: Allocator + Copy> {
             compare_dtype (leaf_dtype (form self.now)) right.now.dtype) }
         ensures stored { IfOk result IsStoredComparison };
 
-    /// Returns whether the operator holds of each row and the row beside it. Null where either row is null. The answer
-    /// has null where either type has, and false is stored under null. Refused, in this order, as `TypeMismatch` where
-    /// the two types differ in more than nullability, and as `ColumnLength`, with the number of rows of this column and
-    /// of the right one, where these differ; else only as `OutOfMemory`.
+    /// Returns whether the operator holds of each row and the row of the other column at the same place, null where
+    /// either row is null. The answer has null where either type has, and false is stored under null. Refused, in this
+    /// order, as `TypeMismatch` where the two types differ in more than nullability, and as `ColumnLength`, with the
+    /// number of rows of this column and of the right one, where these differ; else only as `OutOfMemory`.
     fn compare_column(
         &self,
         alloc: A,
@@ -57,7 +57,7 @@ pub trait FlatOrder<A: Allocator + Copy> {
             compare_dtype (leaf_dtype (form self.now)) (leaf_dtype (leaf_of right.now))) }
         ensures stored { IfOk result IsStoredComparison };
 
-    /// Returns the least and the greatest of the rows from `range.start` to `range.end - 1` that are no nulls,
+    /// Returns the least and the greatest of the rows from `range.start` to `range.end - 1` that are not null,
     /// borrowed, or `None` where all of them are null. Takes no memory.
     fn min_max(&self, range: Range<usize>) -> Option<(ScalarView<'_, A>, ScalarView<'_, A>)>
         requires ordered { range.start ≤ range.end }
@@ -71,15 +71,15 @@ pub trait FlatOrder<A: Allocator + Copy> {
         ensures least_of_type { IfSome result (λ ends. IsViewOf (leaf_dtype (form self.now)) ends.0) }
         ensures greatest_of_type { IfSome result (λ ends. IsViewOf (leaf_dtype (form self.now)) ends.1) };
 
-    /// Returns whether any two of the rows from `range.start` to `range.end - 1` are equal, null equal to null. No rows
-    /// are constant. Takes no memory.
+    /// Returns whether all rows from `range.start` to `range.end - 1` are equal, null being equal to null; for no rows
+    /// the answer is true. Takes no memory.
     fn is_constant(&self, range: Range<usize>) -> bool
         requires ordered { range.start ≤ range.end }
         requires in_bounds { range.end ≤ length (leaf_rows (form self.now)) }
         ensures { IsTrue result ↔ IsConstant (slice_range (single_rows (form self.now)) range.start range.end) };
 
-    /// Returns whether no row from `range.start` to `range.end - 1` is above the next, or, where `strict` is asked, is
-    /// each below the next. No rows are sorted. Takes no memory.
+    /// Returns whether no row from `range.start` to `range.end - 1` is above the next, or, for `strict`, whether each
+    /// is below the next; for no rows the answer is true. Takes no memory.
     fn is_sorted(&self, range: Range<usize>, strict: bool) -> bool
         requires ordered { range.start ≤ range.end }
         requires in_bounds { range.end ≤ length (leaf_rows (form self.now)) }

@@ -6,7 +6,8 @@ ghost use Rattle.column_core.specs.ScalarView.{sees, IsViewOf};
 use column_core::{BoolArray, ScalarView, VarBinViewArray};
 use std::alloc::Allocator;
 
-/// A flat column of one kind. What goes over its rows is compiled for that kind alone.
+/// Reads the rows of a flat column of one kind. Loops over them are compiled for each kind by
+/// itself.
 pub(crate) trait FlatRows<A: Allocator> {
     // The form of the column.
     ghost leaf: { Self → Leaf };

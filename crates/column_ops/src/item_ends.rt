@@ -16,7 +16,7 @@ use std::cmp::Ordering;
 use std::hint::select_unpredictable;
 use std::ops::Range;
 
-/// Returns the least and the greatest of the items from `range.start` to `range.end - 1` that are no nulls, as rows, or
+/// Returns the least and the greatest of the items from `range.start` to `range.end - 1` that are not null, as rows, or
 /// `None` where all of them are null. Takes no memory.
 pub(crate) fn min_max_of<'a, T: FlatItem, A: Allocator>(
     items: &[T],
@@ -66,7 +66,7 @@ pub(crate) fn end_of<'a, T: FlatItem, A: Allocator>(
     }
 }
 
-// The least and the greatest of the items from `start` to `stop - 1` that are no nulls. Inlined with its loops, so that
+// The least and the greatest of the items from `start` to `stop - 1` that are not null. Inlined with its loops, so that
 // a caller who takes one end compares for that end only.
 #[inline(always)]
 fn item_ends<T: FlatItem, A: Allocator>(
@@ -94,7 +94,7 @@ fn item_ends<T: FlatItem, A: Allocator>(
     }
 }
 
-// The least and the greatest of items of which none is null. They are in two parts, and an item of each is looked at at
+// The least and the greatest of items none of which is null. They are in two parts, and an item of each is looked at at
 // once: the lesser of the two is compared with the least, and the greater with the greatest. The middle one of an odd
 // number of items is in both parts.
 #[inline(always)]
@@ -179,7 +179,7 @@ fn word_end(row: usize, stop: usize) -> usize
     row + (64 - row % 64).min(stop - row)
 }
 
-// The least and the greatest of the items before some rows and of those rows, whose flags stand in one word.
+// The least and the greatest of the items before some rows and of those rows, whose flags are in one word.
 #[inline(always)]
 fn ends_in_word<T: FlatItem, A: Allocator>(
     items: &[T],
@@ -206,7 +206,7 @@ fn ends_in_word<T: FlatItem, A: Allocator>(
     }
 }
 
-// The same of the 64 rows from `from` on, in two parts as in `ends_of_valid`. A byte for each flag says which are
+// The same for the 64 rows from `from` on, in two parts as in `ends_of_valid`. A byte for each flag says which are
 // nulls, so no row waits for a flag, and as many rows are compared at once as a vector has. Each item is read whatever
 // its flag is: LLVM makes no vector of a loop in which a flag decides what is read.
 #[inline(always)]
@@ -250,7 +250,7 @@ fn bytes_of_bits(word: u64) -> [u8; 64]
     bytes
 }
 
-// The same of eight bits, from bit `eight` * 8 on.
+// The same for eight bits, from bit `eight` * 8 on.
 #[inline(always)]
 fn put_eight(bytes: &mut [u8; 64], word: u64, eight: usize)
     requires { eight < 8 }
@@ -263,8 +263,8 @@ fn put_eight(bytes: &mut [u8; 64], word: u64, eight: usize)
     }
 }
 
-// The same of fewer rows than a word has flags, or of such that begin within a word. In the place of a null the first
-// item that is none is looked at once more, so that each row takes the same steps.
+// The same for fewer rows than a word has flags, or for rows that begin within a word. In the place of a null the first
+// item that is not null is looked at once more, so that each row takes the same steps.
 #[inline(always)]
 fn ends_in_part<T: FlatItem, A: Allocator>(
     items: &[T],

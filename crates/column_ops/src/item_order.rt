@@ -12,12 +12,11 @@ use column_core::{BitBuffer, Validity};
 use std::alloc::Allocator;
 use std::ops::Range;
 
-// How many rows are looked at before a loop may stop. Within so many it has no exit, so that several
-// rows are compared at once.
+// How many rows are looked at before a loop may stop. Within this number of rows it has no exit, so that several rows
+// are compared at once.
 const BLOCK: usize = 256;
 
-/// Returns whether any two of the rows from `range.start` to `range.end - 1` are equal, null equal to null. Takes no
-/// memory.
+/// Returns whether all rows from `range.start` to `range.end - 1` are equal, null being equal to null. Takes no memory.
 pub(crate) fn is_constant_of<T: FlatItem, A: Allocator>(
     items: &[T],
     validity: &Validity<A>,
@@ -93,8 +92,8 @@ fn is_constant_flagged<T: FlatItem, A: Allocator>(
     is_constant_valid(items, start, stop)
 }
 
-/// Returns whether no row from `range.start` to `range.end - 1` is above the next, or is each below the next where
-/// `strict` is asked. Null is below all else. Takes no memory.
+/// Returns whether no row from `range.start` to `range.end - 1` is above the next, or, for `strict`, whether each is
+/// below the next. Null is below all else. Takes no memory.
 pub(crate) fn is_sorted_of<T: FlatItem, A: Allocator>(
     items: &[T],
     validity: &Validity<A>,
@@ -133,15 +132,15 @@ fn is_sorted_valid<T: FlatItem>(items: &[T], start: usize, stop: usize, strict: 
     true
 }
 
-// May a right item stand behind a left one?
+// May a right item come after a left one?
 fn is_step_up<T: FlatItem>(left: T, right: T, strict: bool) -> bool
     ensures { result ≡ is_step_of strict (T.cmp left right) }
 {
     if strict { left < right } else { left <= right }
 }
 
-// May the item behind each of those from `start` to `stop - 1` stand there? One loop for either order, so
-// that neither asks in each row which one it is.
+// May the item after each of those from `start` to `stop - 1` come there? There is one loop for either order, so that
+// neither asks in each row which one it is.
 fn are_steps<T: FlatItem>(items: &[T], start: usize, stop: usize, strict: bool) -> bool
     requires ordered { start ≤ stop }
     requires in_bounds { stop < length items.now }
@@ -154,7 +153,7 @@ fn are_steps<T: FlatItem>(items: &[T], start: usize, stop: usize, strict: bool) 
     }
 }
 
-// Is each item from `start` to `stop - 1` below the one behind it?
+// Is each item from `start` to `stop - 1` below the next one?
 fn are_strict_steps<T: FlatItem>(items: &[T], start: usize, stop: usize) -> bool
     requires ordered { start ≤ stop }
     requires in_bounds { stop < length items.now }
@@ -167,7 +166,7 @@ fn are_strict_steps<T: FlatItem>(items: &[T], start: usize, stop: usize) -> bool
     in_order
 }
 
-// Is no item from `start` to `stop - 1` above the one behind it?
+// Is no item from `start` to `stop - 1` above the next one?
 fn are_level_steps<T: FlatItem>(items: &[T], start: usize, stop: usize) -> bool
     requires ordered { start ≤ stop }
     requires in_bounds { stop < length items.now }

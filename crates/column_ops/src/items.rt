@@ -14,9 +14,9 @@ ghost use Rattle.column_ops.specs.Order.{flat_cmp};
 use column_core::ScalarView;
 use std::alloc::Allocator;
 
-/// An item that stands for a flat value, and is ordered as that value is.
+/// Represents a flat value by an item that is ordered as the value is.
 pub(crate) trait FlatItem: Copy + Ord + Drop {
-    // The value that an item stands for.
+    // The value of an item.
     ghost value: { Self → FlatValue };
 
     // The type of a column of such items; only decimals have a precision and a scale.

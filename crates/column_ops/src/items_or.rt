@@ -28,7 +28,7 @@ pub(crate) fn items_or<T: Copy + Drop, A: Allocator + Copy>(
     }
 }
 
-/// So many copies of the item. Refused only as `OutOfMemory`.
+/// Returns `count` copies of the item. Refused only as `OutOfMemory`.
 pub(crate) fn filled_vec<T: Copy + Drop, A: Allocator>(
     alloc: A,
     item: T,

@@ -14,8 +14,8 @@ use crate::items_or::items_or;
 use column_core::{Nullability, Validity, VortexError, VortexResult};
 use std::alloc::Allocator;
 
-/// Null, as a row of a type with this nullability. Refused as `NullNotAllowed` where rows may not be
-/// null. Takes no memory.
+/// Returns null, as a row of a type with this nullability. Refused as `NullNotAllowed` where rows may not be null.
+/// Takes no memory.
 pub(crate) fn null_row<T: Drop>(nullability: Nullability) -> VortexResult<Option<T>>
     ensures refused { IsRefusedBy (null_fault nullability) result }
     ensures no_memory { result ≢ Err VortexError.OutOfMemory }

@@ -4,8 +4,8 @@ ghost use Rattle.column_ops.specs.Cast.{can_cast};
 
 use column_core::{DType, is_list_type, is_number_type, is_same_kind};
 
-/// Can rows of the first type be cast to the second? Where both are of integers, or both of one
-/// kind other than lists.
+/// Returns whether rows of the first type can be cast to the second: both are of integers, or both
+/// of one kind other than lists.
 pub(crate) fn is_castable(from: DType, to: DType) -> bool
     ensures { result ≡ can_cast from to }
 {

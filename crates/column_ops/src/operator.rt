@@ -3,7 +3,7 @@ ghost use Rattle.std.specs.Prelude.{◌≡◌};
 
 use std::cmp::Ordering;
 
-/// How the two sides of a comparison are to stand.
+/// Says how the left side of a comparison has to relate to the right one.
 #[derive(Debug, Clone, Copy, PartialEq, Eq)]
 pub enum CompareOperator {
     Eq,
@@ -17,7 +17,7 @@ pub enum CompareOperator {
 impl CompareOperator {
     ghost use Rattle.column_ops.specs.Comparing.{holds_of};
 
-    /// Returns whether the operator holds of a left and a right value that are so ordered.
+    /// Returns whether the operator holds of a left and a right value in this order.
     #[inline]
     pub fn holds(self, ordering: Ordering) -> bool
         ensures { result ≡ holds_of self ordering }

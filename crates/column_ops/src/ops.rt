@@ -29,8 +29,8 @@ use column_core::{
 };
 use std::alloc::Allocator;
 
-/// Operations on the rows of a flat column. Each answers a column of its own: 0, false or the view of
-/// nothing is stored under null, and a validity has bits only where there are rows of both kinds.
+/// Has the operations on the rows of a flat column. Each returns a column of its own: 0, false or the view of nothing
+/// is stored under null, and a validity has bits only where some rows are null and others are not.
 pub trait ColumnOps<A: Allocator + Copy>: Sized {
     // The column's form.
     ghost leaf: { Self → Leaf };
@@ -91,7 +91,7 @@ pub trait ColumnOps<A: Allocator + Copy>: Sized {
     }
 
     /// Returns the rows at which the mask is true, in order. Refused as `MaskLength`, with the mask's length and the
-    /// number of rows, where they differ, and that before any memory is taken; else only as `OutOfMemory`.
+    /// number of rows, where they differ, before any memory is taken; else only as `OutOfMemory`.
     fn filter(&self, alloc: A, mask: &Mask<A>) -> VortexResult<Self>
         ensures refused { IsRefusedBy (filter_fault (length (mask_bits mask.now)) (length (leaf_rows (leaf self.now))))
             result }

@@ -91,7 +91,7 @@ fn position_items<T: NativePType, A: Allocator + Copy>(
     }
 }
 
-// The positions of indices of which none is null.
+// The positions of indices none of which is null.
 fn valid_positions<T: NativePType, A: Allocator>(
     alloc: A,
     indices: &[T],
@@ -114,8 +114,8 @@ fn valid_positions<T: NativePType, A: Allocator>(
     Ok(positions)
 }
 
-// The positions, with 0 for null, of indices that are null where their mark is false. What stands under null is tested
-// too, and 0 is put there then. Only where one is outside, the marks are looked at one by one: it may be null.
+// The positions, with 0 for null, of indices that are null where their mark is false. What is stored under null is
+// tested too, and 0 is put there then. Only if an index is outside, the marks are looked at one by one: it may be null.
 fn marked_positions<T: NativePType, A: Allocator + Copy>(
     alloc: A,
     indices: &[T],

@@ -14,8 +14,8 @@ use std::alloc::Allocator;
 use std::cmp::Ordering;
 use std::ops::Range;
 
-/// Returns whether any two of the rows from `range.start` to `range.end - 1` are equal, null equal to null. No rows are
-/// constant. Takes no memory.
+/// Returns whether all rows from `range.start` to `range.end - 1` are equal, null being equal to null; for no rows the
+/// answer is true. Takes no memory.
 pub fn is_constant<A: Allocator + Copy>(column: FlatView<'_, A>, range: Range<usize>) -> bool
     requires ordered { range.start ≤ range.end }
     requires in_bounds { range.end ≤ length (leaf_rows (leaf_in column)) }
@@ -53,7 +53,7 @@ fn are_constant_rows<R: FlatRows<A>, A: Allocator + Copy>(column: &R, range: Ran
     true
 }
 
-// How one row stands to another one.
+// How one row compares with another one.
 fn order_at<R: FlatRows<A>, A: Allocator + Copy>(column: &R, left: usize, right: usize) -> Ordering
     requires left { left < length (leaf_rows (R.leaf column.now)) }
     requires right { right < length (leaf_rows (R.leaf column.now)) }
@@ -62,8 +62,8 @@ fn order_at<R: FlatRows<A>, A: Allocator + Copy>(column: &R, left: usize, right:
     compare_views(&column.row(left), &column.row(right))
 }
 
-/// Returns whether no row from `range.start` to `range.end - 1` is above the next, or is each below the next where
-/// `strict` is asked. No rows are sorted. Takes no memory.
+/// Returns whether no row from `range.start` to `range.end - 1` is above the next, or, for `strict`, whether each is
+/// below the next; for no rows the answer is true. Takes no memory.
 pub fn is_sorted<A: Allocator + Copy>(
     column: FlatView<'_, A>,
     range: Range<usize>,
@@ -113,7 +113,7 @@ fn are_sorted_rows<R: FlatRows<A>, A: Allocator + Copy>(
     true
 }
 
-// May a row that stands so to the next one be there?
+// May a row come before the next one, with which it compares so?
 fn is_step(ordering: Ordering, strict: bool) -> bool
     ensures { result ≡ is_step_of strict ordering }
 {

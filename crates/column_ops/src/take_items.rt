@@ -13,8 +13,8 @@ use crate::items_or::{filled_vec, with_item_at_nulls};
 use column_core::{BitBuffer, BitBufferMut, Nullability, Validity, VortexError, VortexResult};
 use std::alloc::Allocator;
 
-/// Returns the rows at these positions, null for null, with the blank item stored under null. Refused as `OutOfMemory`
-/// alone.
+/// Returns the rows at these positions, null for null, with the blank item stored under null. Refused only as
+/// `OutOfMemory`.
 pub(crate) fn take_items<T: Copy + Drop, A: Allocator + Copy>(
     alloc: A,
     items: &[T],
@@ -116,7 +116,7 @@ fn taken_items<T: Copy + Drop, A: Allocator + Copy>(
     shown_items(alloc, items, blank, positions, rows)
 }
 
-// The items at positions of which none is null.
+// The items at positions none of which is null.
 fn items_at<T: Copy + Drop, A: Allocator>(
     alloc: A,
     items: &[T],
@@ -135,7 +135,7 @@ fn items_at<T: Copy + Drop, A: Allocator>(
 }
 
 // The item at the position of each valid row, and the blank one elsewhere: all items are taken in one loop, and null is
-// blanked then. What stands under null may be no position.
+// blanked then. What is stored under null need not be a position.
 fn shown_items<T: Copy + Drop, A: Allocator + Copy>(
     alloc: A,
     items: &[T],

@@ -104,7 +104,7 @@ short_bounds (negsuc m) count f =
     let h : suc m * count ≤ 2 ^ 31 * count = mul-le-mul_right count k in
     rw (negsuc-*ℤ-pos m count) (omega (arith, ints), omega (arith, ints))
 
--- so many rows fit where there is room for them, and what is left is room for the rest
+-- `count` rows fit where there is room for them, and what is left is room for the rest
 pub room-rows : (sum : ℤ) (room count : ℕ) → HasRoom sum room → count ≤ room → count < 2 ^ 32
 room-rows sum room count r h = let low = r.down in let high = r.up in omega (arith, ints)
 

@@ -19,7 +19,7 @@ pub record StaysWithin (range : SumRange) (size : ℕ) (value : ℤ) (rows : ℕ
   pub down : least range ≤ℤ (value -ℤ pos (lowest range size * rows))
   pub up : (value +ℤ pos ((size + 1) * rows)) ≤ℤ greatest range
 
--- of the places from `from` to `to` - 1, each that has a number has one of the size
+-- each place from `from` to `to` - 1 that has a number has one of the size
 abbrev pub AreSized : SumRange → ℕ → (ℕ → Option (Option ℤ)) → ℕ → ℕ → Type 0
 AreSized range size at from to = (k : ℕ) (n : ℤ) → from ≤ k → k < to → at k ≡ Some (Some n) → IsSized range size n
 

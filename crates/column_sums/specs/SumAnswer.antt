@@ -1,4 +1,4 @@
--- What a sum answers of a column.
+-- What a sum answers for a column.
 use Rattle.std.specs.Prelude.{◌≡◌, ℤ, map, option_map, unsigned_abs, Option, Some, None, List}
 use Rattle.column_base.specs.declared.dtype.DType.{DType}
 use Rattle.column_base.specs.declared.dtype.DType.TheVariants as column
@@ -16,7 +16,7 @@ abbrev pub value_in : SumRange → ℤ → SumValue
 value_in SignedRange n = Signed n
 value_in UnsignedRange n = Unsigned (unsigned_abs n)
 
--- the answer of these rows: their sum, or null, and whether no row is valid
+-- the answer for these rows: their sum, or null, and whether no row is valid
 abbrev pub answer_of : SumRange → List (Option ℤ) → SumAnswer
 answer_of range rows = record { sum = option_map (value_in range) (sum_of_rows range rows); is_empty = are_null rows }
 

@@ -1,4 +1,4 @@
--- A loop that sums runs, and where it stands.
+-- A loop that sums runs, and how far it is.
 use Rattle.std.specs.Prelude.{◌≡◌, ℕ, ℤ, Bool, true, false, drop, ◌&&◌, Option, None, List, ◌++◌, option_map, slice_get}
 use Rattle.column_sums.specs.SumRange.{SumRange, is_within}
 use Rattle.column_sums.specs.RowSum.{sum_from, sum_of_rows, are_null}

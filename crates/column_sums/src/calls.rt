@@ -1,5 +1,5 @@
-//! A list of the runs that a sum was given, and how often anything was added to it, which contracts alone see. They
-//! take no bytes, and their functions do nothing when the program runs.
+//! A list of the runs that a sum was given, and how often anything was added to it, which only contracts see. They take
+//! no bytes, and their functions do nothing when the program runs.
 //!
 //! Their makers are proved by hand, as only such a proof can say what they are. So this module has nothing else: list
 //! and number begin empty and at 0, and grow by one at a time, but cannot be copied or set.
@@ -8,7 +8,8 @@ ghost use Rattle.std.specs.Borrow.{ftrue};
 
 use std::marker::Model;
 
-/// The runs that a sum was given, in order, each value with its number of rows; and how often anything was added to it.
+/// Lists the runs that a sum was given, in order, each value with its number of rows, and counts how often anything was
+/// added to it.
 #[derive(Drop)]
 pub(crate) struct Calls {
     pub(crate) ghost runs: { List (ℤ × ℕ) },
@@ -31,7 +32,7 @@ impl Calls {
         Calls {}
     }
 
-    /// Returns the list with one run more, of a signed value.
+    /// Returns the list with one more run, of a signed value.
     #[inline]
     pub(crate) fn and_signed(&self, _value: &i64, _len: &usize) -> Calls
         ensures { result ≡ record {
@@ -42,7 +43,7 @@ impl Calls {
         Calls {}
     }
 
-    /// Returns the list with one run more, of an unsigned value.
+    /// Returns the list with one more run, of an unsigned value.
     #[inline]
     pub(crate) fn and_unsigned(&self, _value: &u64, _len: &usize) -> Calls
         ensures { result ≡ record {
@@ -53,7 +54,7 @@ impl Calls {
         Calls {}
     }
 
-    /// Returns the list after one addition more.
+    /// Returns the list after one more addition.
     #[inline]
     pub(crate) fn and_addition(&self) -> Calls
         ensures { result ≡ record { runs = self.now.runs; additions = self.now.additions + 1 } }

@@ -18,7 +18,7 @@ use column_core::{FlatView, PrimitiveArray, VortexError, VortexResult};
 use std::alloc::Allocator;
 
 /// Returns the sum of the rows of a flat column of integers, added one at a time. Refused as `Unsupported` exactly for
-/// columns of other types. It takes no memory.
+/// columns of other types. Takes no memory.
 pub fn sum_view<A: Allocator>(column: FlatView<'_, A>) -> VortexResult<SumAnswer>
     ensures refused { IsRefusedBy (sum_fault (leaf_dtype (leaf_in column.entry))) result }
     ensures no_memory { result ≢ Err VortexError.OutOfMemory }

@@ -6,7 +6,7 @@ ghost use Rattle.column_base.specs.Words.{digit_at, one_if};
 use column_core::BitBuffer;
 use std::alloc::Allocator;
 
-/// Whether each of some items is valid.
+/// Says of each item whether it is valid.
 pub trait ItemFlags {
     // A flag for each item.
     ghost flags: { Self → List Bool };
@@ -22,7 +22,7 @@ pub trait ItemFlags {
         ensures { (k : ℕ) → k < 8 → bit_at result k ≡ one_if (slice_index_or (flags self.now) (index + k) false) };
 }
 
-/// So many items, each of them valid.
+/// Counts items that are all valid.
 #[derive(Drop)]
 pub struct AllValid {
     pub count: usize,
@@ -42,7 +42,7 @@ impl ItemFlags for AllValid {
     }
 }
 
-/// So many items, each of them null.
+/// Counts items that are all null.
 #[derive(Drop)]
 pub struct AllNull {
     pub count: usize,
@@ -62,7 +62,7 @@ impl ItemFlags for AllNull {
     }
 }
 
-/// Items of which a bit each says whether it is valid.
+/// Has a bit for each item, which says whether it is valid.
 #[derive(Drop)]
 pub struct ByBits<'a, A: Allocator> {
     pub bits: &'a BitBuffer<A>,
@@ -86,7 +86,7 @@ impl<'a, A: Allocator> ItemFlags for ByBits<'a, A> {
     }
 }
 
-// Eight bits from `index` on, in the lowest eight of the result: of one word, or of two.
+// Eight bits from `index` on, in the lowest eight of the result. They come from one word, or from two.
 #[inline(always)]
 fn eight_bits(words: &[u64], index: usize) -> u64
     requires { (index + 7) / 64 < length words.now }

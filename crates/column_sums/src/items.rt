@@ -8,7 +8,7 @@ use crate::item_flags::ItemFlags;
 use crate::summed_in::SummedIn;
 use column_core::NativePType;
 
-/// Numbers of which some may be null, read by index.
+/// Reads numbers by index, some of which may be null.
 pub trait Numbers<V: NativePType> {
     // The numbers, in order.
     ghost numbers: { Self → List (Option ℤ) };
@@ -50,7 +50,7 @@ pub trait Numbers<V: NativePType> {
     }
 }
 
-/// Items, and their flags. Where a flag is false, the item is stored and not shown.
+/// Lends items, and their flags. Where a flag is false, the item is stored and not shown.
 #[derive(Drop)]
 pub struct Items<'a, T: NativePType, F: ItemFlags> {
     pub items: &'a [T],

@@ -14,14 +14,14 @@ use column_core::NativePType;
 // The size that numbers of 31 bits and a sign have at most.
 const SHORT_SIZE: u64 = (1 << 31) - 1;
 
-/// Runs before `end` are added; `is_empty` says whether none of them was valid.
+/// Says that the runs before `end` are added, and whether none of them was valid.
 #[derive(Drop)]
 pub(crate) struct Part {
     pub(crate) end: usize,
     pub(crate) is_empty: bool,
 }
 
-/// Adds as many of these runs as can be added untested, from the first on: all but up to seven, or none. Neither the
+/// Adds those of these runs that can be added untested, from the first on: all but up to seven, or none. Neither the
 /// first nor the last run of all is among them.
 #[inline(always)]
 pub(crate) fn add_known_runs<V: NativePType, S: RunSum<V>, R: Runs<V>>(
@@ -52,7 +52,7 @@ pub(crate) fn add_known_runs<V: NativePType, S: RunSum<V>, R: Runs<V>>(
     }
 }
 
-// A size that no value of the runs exceeds, where so many rows of such values as all runs have leave the sum in the
+// A size that no value of the runs exceeds, if the rows of all runs, with values of this size, leave the sum in the
 // range.
 #[inline(always)]
 fn size_in_reach<V: NativePType, S: RunSum<V>, R: Runs<V>>(
@@ -117,7 +117,7 @@ fn add_eights<const SHORT: bool, V: NativePType, S: RunSum<V>, R: Runs<V>>(
     }
 }
 
-// Eight runs, of which flags say which are not null. What they come to is worked out in lanes of its own, and added at
+// Adds eight runs; flags say which of them are not null. Their sum is worked out in lanes of its own, and added at
 // once, where one of them is valid. Returns whether all runs so far are null.
 #[inline(always)]
 fn add_eight<const SHORT: bool, V: NativePType, S: RunSum<V>, R: Runs<V>>(

@@ -8,12 +8,12 @@ ghost use Rattle.column_sums.specs.SumState.{IsAddable, SumState, lanes_with, wi
 use crate::answer::SumValue;
 use column_core::NativePType;
 
-/// A sum of numbers of type `V`, in the range of that type, which is given runs one at a time.
+/// Adds numbers of type `V`, in the range of that type, one run at a time.
 pub trait RunSum<V: NativePType>: Drop {
     // What contracts see of it.
     ghost state: { Self → SumState };
 
-    /// Makes the sum of nothing, which is 0.
+    /// Returns the sum of no runs, which is 0.
     fn empty() -> Self
         ensures { state result ≡ record { value = pos 0; calls = []; additions = 0 } };
 
@@ -32,8 +32,8 @@ pub trait RunSum<V: NativePType>: Drop {
         ensures calls { (state self.new).calls ≡ (state self.old).calls ++ (V.number value, len) ∷ [] }
         ensures additions { (state self.new).additions ≡ (state self.old).additions + 1 };
 
-    /// Returns what lanes come to with one run more, whose value and result are known to be in the range, and nothing
-    /// more for a null run: without a test, and without a branch. `is_short` says that the value has 32 bits.
+    /// Returns the lanes after one more run, whose value and result are known to be in the range, and unchanged after a
+    /// null run; without a test, and without a branch. `is_short` says that the value has 32 bits.
     fn lane_added(lanes: V, value: Option<V>, len: usize, is_short: bool) -> V
         requires few { len < 2 ^ 31 }
         requires short { is_short ≡ true →
@@ -41,16 +41,16 @@ pub trait RunSum<V: NativePType>: Drop {
         requires addable { IsAddable (sum_range V.PTYPE) (V.number lanes) (option_map V.number value) len }
         ensures { V.number result ≡ lanes_with (V.number lanes) (option_map V.number value) len };
 
-    /// Lists a run that lanes add, and no null run. Nothing is added to the sum yet.
+    /// Lists a run that lanes add, unless it is null. Adds nothing to the sum yet.
     fn list(&mut self, value: Option<V>, len: usize)
         ensures { state self.new ≡ with_listed (state self.old) (option_map V.number value) len };
 
-    /// Adds what lanes come to, which is known to leave the sum in the range, by one addition.
+    /// Adds the sum of the lanes, which is known to leave the sum in the range, by one addition.
     fn add_lanes(&mut self, lanes: V)
         requires { is_within (sum_range V.PTYPE) ((state self.old).value +ℤ V.number lanes) ≡ true }
         ensures { state self.new ≡ with_lanes (state self.old) (V.number lanes) };
 
-    /// Do this many rows of any numbers of this size leave the sum in the range, and are they fewer than 2^31?
+    /// Returns whether this many rows of any numbers of this size leave the sum in the range, and are fewer than 2^31.
     fn stays_within(&self, size: u64, rows: u32) -> bool
         ensures few { result ≡ true → rows < 2 ^ 31 }
         ensures stays { result ≡ true → StaysWithin (sum_range V.PTYPE) size (state self.now).value rows };

@@ -16,7 +16,7 @@ use std::mem;
 // How many runs are looked at together, to find what the greatest of them can add.
 const BLOCK: usize = 256;
 
-/// Runs of numbers, each of them shown by some row.
+/// Gives runs of numbers, each of which some row shows.
 pub trait Runs<V: NativePType> {
     // Each run's value, or null, and how many rows show it.
     ghost runs: { Self → List (Option ℤ × ℕ) };
@@ -90,8 +90,8 @@ pub trait Runs<V: NativePType> {
 }
 
 /// Returns the sum of the rows of the runs, by adding each run that is not null, up to and with the first that leaves
-/// the range. Nothing else is added, nor more often than there are such runs. Where there is a sum, it is that of the
-/// accumulator.
+/// the range. It adds nothing else, and at most as often as there are such runs. Where there is a sum, the accumulator
+/// has it too.
 #[inline]
 pub fn sum_in_runs<V: NativePType, S: RunSum<V>, R: Runs<V>>(runs: &R, sum: &mut S) -> SumAnswer
     requires { (S.state sum.old).value ≡ pos 0 }
@@ -154,7 +154,7 @@ fn add_parts<V: NativePType, S: RunSum<V>, R: Runs<V>>(runs: &R, sum: &mut S) ->
     add_between::<false, V, S, R>(runs, last, count, sum, inner_empty)
 }
 
-// The runs from one to before another, of which neither is the first nor the last of all, block by block.
+// The runs from one to before another, block by block. The first and the last of all runs are not among them.
 #[inline(always)]
 fn add_inner<V: NativePType, S: RunSum<V>, R: Runs<V>>(
     runs: &R,

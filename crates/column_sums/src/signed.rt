@@ -14,10 +14,10 @@ use std::marker::Model;
 // No value of 32 bits is further from 0.
 const FURTHEST: usize = 1 << 31;
 
-/// A sum in the range of `i64`, which is given runs one at a time.
+/// Adds numbers in the range of `i64`, one run at a time.
 ///
 /// A contract sees a record: `value`, the sum so far; `calls`, the runs that it was given, each value with its number
-/// of rows; and `additions`, how often anything was added to it. List and number take no bytes and no time.
+/// of rows; and `additions`, how often anything was added to it. The list and the number take no bytes and no time.
 #[derive(Drop)]
 pub struct SignedSum {
     value: i64,
@@ -38,7 +38,7 @@ impl Model for SignedSum {
 }
 
 impl SignedSum {
-    /// Returns the sum of nothing, which is 0.
+    /// Returns the sum of no runs, which is 0.
     pub fn new() -> SignedSum
         ensures { result ≡ record { value = pos 0; calls = []; additions = 0 } }
     {
@@ -184,7 +184,7 @@ fn has_32_bits(value: i64) -> bool
     i32::try_from(value).is_ok()
 }
 
-// The sum and `len` times a value of 32 bits, where there is room for so many rows.
+// The sum and `len` times a value of 32 bits, where there is room for `len` rows.
 #[inline(always)]
 fn short_sum(sum: i64, room: usize, value: i64, len: usize) -> i64
     requires short { FitsSigned w32 value }
@@ -197,7 +197,7 @@ fn short_sum(sum: i64, room: usize, value: i64, len: usize) -> i64
     sum + value * len as i64
 }
 
-// How many rows of values of 32 bits leave a sum in the range. None are said behind a value that has more bits, since
+// How many rows of values of 32 bits leave a sum in the range. The answer is 0 after a value that has more bits, since
 // such values most often come together.
 #[inline(always)]
 fn room_for(value: i64, sum: i64) -> usize
@@ -215,7 +215,7 @@ fn room_for(value: i64, sum: i64) -> usize
 }
 
 // The sum and `len` times the value, where that is in the range, by 128 bits: a product may leave 64 bits where the sum
-// is in the range. A call, since the loop around it is a third slower where it stands inside.
+// is in the range. A call, since the loop around it is a third slower if this is inlined.
 #[inline(never)]
 fn wide_sum(sum: i64, value: i64, len: usize) -> Option<i64>
     ensures { MatchOption result (is_within SignedRange (sum +ℤ value *ℤ pos len) ≡ false) (λ wide. wide ≡

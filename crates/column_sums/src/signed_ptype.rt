@@ -3,7 +3,7 @@ ghost use Rattle.std.specs.Prelude.{◌≡◌};
 
 use column_core::NativePType;
 
-/// One of the four signed types.
+/// Says that a type is one of the four signed ones.
 pub trait SignedPType: NativePType {
     /// Returns the value as an `i64`, which has the numbers of all four types.
     fn to_i64(self) -> i64

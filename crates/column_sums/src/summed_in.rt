@@ -8,7 +8,7 @@ use column_core::NativePType;
 // The size that numbers of 31 bits and a sign have at most.
 const SHORT_SIZE: u64 = (1 << 31) - 1;
 
-/// A type whose numbers are summed in the type `V`: signed ones in `i64`, unsigned ones in `u64`.
+/// Says that numbers of a type are summed in the type `V`: signed ones in `i64`, unsigned ones in `u64`.
 pub trait SummedIn<V: NativePType>: NativePType {
     /// Returns the number in the type of its sums.
     fn to_summed(self) -> V

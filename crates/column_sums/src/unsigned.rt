@@ -9,10 +9,10 @@ use crate::calls::Calls;
 use crate::run_sum::{RunSum, reach_of};
 use std::marker::Model;
 
-/// A sum in the range of `u64`, which is given runs one at a time.
+/// Adds numbers in the range of `u64`, one run at a time.
 ///
 /// A contract sees a record: `value`, the sum so far; `calls`, the runs that it was given, each value with its number
-/// of rows; and `additions`, how often anything was added to it. List and number take no bytes and no time.
+/// of rows; and `additions`, how often anything was added to it. The list and the number take no bytes and no time.
 #[derive(Drop)]
 pub struct UnsignedSum {
     value: u64,
@@ -29,7 +29,7 @@ impl Model for UnsignedSum {
 }
 
 impl UnsignedSum {
-    /// Returns the sum of nothing, which is 0.
+    /// Returns the sum of no runs, which is 0.
     pub fn new() -> UnsignedSum
         ensures { result ≡ record { value = pos 0; calls = []; additions = 0 } }
     {

@@ -7,7 +7,7 @@ use refusing::{Calls, are_answered_in_turn};
 use std::alloc::Allocator;
 use std::test::Fail;
 
-// A false bit and 69 true ones, of which six are cleared and the last three cut off.
+// A false bit and 69 true ones; six of these are cleared and the last three cut off.
 fn sixty_seven_bits<A: Allocator + Copy>(alloc: A) -> VortexResult<BitBuffer<A>>
     ensures { IfOk result (λ bits. length bits ≡ 67) }
 {

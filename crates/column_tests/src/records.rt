@@ -14,7 +14,7 @@ fn are_bytes<A: Allocator>(written: VortexResult<Vec<u8, A>>, bytes: &[u8]) -> V
     Ok(are_due)
 }
 
-// A record that says nothing has no bytes, and one that says an offset alone has no other field. One of three runs from
+// A record that says nothing has no bytes, and one that says only an offset has no other field. One of three runs from
 // row 1 on, with ends of type u32, is read again.
 struct Records {}
 

@@ -9,7 +9,7 @@ fn is_given<A: Allocator + Copy>(alloc: A) -> bool {
     block.is_ok()
 }
 
-// Are three requests given so, and are so many counted as refused?
+// Are three requests given as is due, and is this number of them counted as refused?
 fn are_given(heap: &Refusing<Global>, due: [bool; 3], refused: u64) -> bool {
     is_given(heap) == due[0]
         && is_given(heap) == due[1]
@@ -18,7 +18,7 @@ fn are_given(heap: &Refusing<Global>, due: [bool; 3], refused: u64) -> bool {
         && heap.refused() == refused
 }
 
-// Is it refused from each request on, and the second alone?
+// Is it refused from each request on, and at only the second one?
 fn is_refused_so(alloc: Global) -> bool {
     are_given(&Refusing::from(alloc, 1), [false, false, false], 3)
         && are_given(&Refusing::from(alloc, 2), [true, false, false], 2)

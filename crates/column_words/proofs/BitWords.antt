@@ -15,6 +15,6 @@ digits_pass [] = refl
 digits_pass (true ∷ bits) = digits_pass bits
 digits_pass (false ∷ bits) = digits_pass bits
 
--- a word that bits spell has digits of bits alone
+-- a word that bits spell has only digits of bits
 pub digits_of_bits : (bits : List Bool) (word : List ℕ) → bit_word bits ≡ word → IsBitWord word
 digits_of_bits bits word spelled = subst IsBitWord spelled (AllPass-from_list_all is_bit_digit (bit_word bits) (digits_pass bits))

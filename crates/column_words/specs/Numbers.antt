@@ -10,7 +10,7 @@ without_minus word = drop (if starts_with_minus word then 1 else 0) word
 abbrev pub IsWholeNumber : List ℕ → Type 0
 IsWholeNumber word = IsNumeral 10 (without_minus word)
 
--- the number of the digits alone
+-- the number of the digits, without a sign
 abbrev pub magnitude : List ℕ → ℕ
 magnitude word = digits_value 10 (without_minus word)
 

@@ -16,7 +16,7 @@ ptype_name I16 = codes "i16"
 ptype_name I32 = codes "i32"
 ptype_name I64 = codes "i64"
 
--- a name, with a question mark behind it where rows may be null
+-- a name, followed by a question mark where rows may be null
 abbrev pub marked : List ℕ → Nullability → List ℕ
 marked name NonNullable = name
 marked name Nullable = name ++ codes "?"

@@ -10,7 +10,7 @@ use column_base::{VortexError, VortexResult};
 use hex::FromHex;
 use std::alloc::{AllocError, Allocator};
 
-/// Returns the bytes that the words stand for, or `None` where a word stands for none. Refused only as `OutOfMemory`.
+/// Returns the bytes that the words mean, or `None` where a word does not mean a byte. Refused only as `OutOfMemory`.
 pub fn parse_bytes<'a, I: Iterator<Item = &'a str> + Drop, A: Allocator + Copy>(
     alloc: A,
     words: I,
@@ -44,8 +44,8 @@ fn decode_byte(word: &str) -> Option<[u8; 1]>
     <[u8; 1] as FromHex>::from_hex(word).ok()
 }
 
-/// Puts the bytes right after the text, each as two upper case hexadecimal digits after a space. Where memory is
-/// refused, the text stays as it was.
+/// Appends the bytes to the text, each as two upper case hexadecimal digits after a space. Where memory is refused, the
+/// text stays as it was.
 pub fn push_bytes<A: Allocator + Copy>(text: &mut String<A>, bytes: &[u8]) -> Result<(), AllocError>
     ensures written { OnOk result (string_bytes text.new ≡
         string_bytes text.old ++ behind_spaces (byte_words bytes.now)) }
@@ -67,8 +67,8 @@ fn words_of_bytes<A: Allocator + Copy>(alloc: A, bytes: &[u8]) -> Result<String<
     Ok(words)
 }
 
-/// Puts two upper case hexadecimal digits of the byte right after the text. Where memory is refused, the text stays as
-/// it was.
+/// Appends two upper case hexadecimal digits of the byte to the text. Where memory is refused, the text stays as it
+/// was.
 pub fn push_byte<A: Allocator + Copy>(text: &mut String<A>, byte: u8) -> Result<(), AllocError>
     ensures written { OnOk result (string_bytes text.new ≡ string_bytes text.old ++ encode_upper (byte ∷ [])) }
     ensures kept { OnErr result (string_bytes text.new ≡ string_bytes text.old) }

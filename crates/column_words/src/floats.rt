@@ -125,9 +125,9 @@ fn nearest_double(text: &str) -> Option<u64>
     Some(f64_to_bits_with_nan(number))
 }
 
-/// Puts the word of the float with these bits right after the text: of a NaN its bits, of any other float `inf`, `-inf`
-/// or a decimal that reads back as the same float, which is the shortest one in all that was tried. For 16 bits that is
-/// the word of the same float of 32 bits. Where memory is refused, the text stays as it was.
+/// Appends the word of the float with these bits to the text: the bits of a NaN; `inf`, `-inf` or, for any other float,
+/// a decimal that reads back as the same float, which was the shortest one in all that was tried. A float of 16 bits
+/// has the word of the same float of 32 bits. Where memory is refused, the text stays as it was.
 pub fn push_float<A: Allocator + Copy>(
     text: &mut String<A>,
     format: FloatFormat,

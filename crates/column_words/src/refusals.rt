@@ -6,8 +6,8 @@ ghost use Rattle.column_words.specs.Refusals.{behind_spaces, field_words, refusa
 use column_base::VortexError;
 use std::alloc::{AllocError, Allocator};
 
-/// Puts `refused`, the error's number and its fields in order right after the text, separated by spaces. Where memory
-/// is refused, the text stays as it was.
+/// Appends `refused`, the error's number and its fields in order to the text, separated by spaces. Where memory is
+/// refused, the text stays as it was.
 pub fn push_refusal_words<A: Allocator + Copy>(
     text: &mut String<A>,
     error: VortexError,
@@ -29,7 +29,7 @@ fn refusal_words<A: Allocator + Copy>(alloc: A, error: VortexError) -> Result<St
     Ok(words)
 }
 
-// The fields of the error in order, each as a word behind a space.
+// The fields of the error in order, each as a word after a space.
 fn push_fields<A: Allocator + Copy>(
     text: &mut String<A>,
     error: VortexError,

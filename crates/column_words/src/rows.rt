@@ -9,7 +9,7 @@ use column_sums::SumValue;
 use itoa::Buffer;
 use std::alloc::{AllocError, Allocator};
 
-/// Returns whether it is null, or an integer.
+/// Returns whether the row is null, or an integer.
 pub fn is_null_or_number<A: Allocator>(row: ScalarView<'_, A>) -> bool
     ensures { IsTrue result ↔ IsNullOrNumber (sees row.entry) }
 {
@@ -19,8 +19,8 @@ pub fn is_null_or_number<A: Allocator>(row: ScalarView<'_, A>) -> bool
     }
 }
 
-/// Puts the word of the row, which is null or an integer, right after the text. Where memory is refused, the text stays
-/// as it was.
+/// Appends the word of the row, which is null or an integer, to the text. Where memory is refused, the text stays as it
+/// was.
 pub fn push_row_word<A: Allocator + Copy>(
     text: &mut String<A>,
     row: ScalarView<'_, A>,
@@ -36,7 +36,7 @@ pub fn push_row_word<A: Allocator + Copy>(
     }
 }
 
-/// Puts the digits of the total right after the text. Where memory is refused, the text stays as it was.
+/// Appends the digits of the total to the text. Where memory is refused, the text stays as it was.
 pub fn push_total_word<A: Allocator + Copy>(
     text: &mut String<A>,
     total: SumValue,

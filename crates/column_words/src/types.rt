@@ -1,4 +1,4 @@
-//! Types of rows as words: a name, with a question mark behind it where rows may be null.
+//! Types of rows as words: a name, followed by a question mark where rows may be null.
 ghost use Rattle.std.specs.Prelude.{◌≡◌, ◌≢◌, ◌++◌, ℕ, List, MatchOption, OnErr, OnOk, codes};
 ghost use Rattle.std.specs.String.{string_bytes};
 ghost use Rattle.column_base.specs.declared.dtype.PType.{PType};
@@ -8,8 +8,7 @@ ghost use Rattle.column_words.specs.Types.{marked, ptype_name, type_name};
 use column_base::{Nullability, PType};
 use std::alloc::{AllocError, Allocator};
 
-/// Returns the type of rows that a word names: a type of numbers, with a question mark behind it where rows may be
-/// null.
+/// Returns the type of rows that a word names: a type of numbers, followed by a question mark where rows may be null.
 pub fn parse_type(word: &str) -> Option<(PType, Nullability)>
     ensures { MatchOption result ((ptype : PType) (nullability : Nullability) →
         word.now ≢ type_name ptype nullability) (λ named. word.now ≡ type_name named.0 named.1) }
@@ -64,8 +63,8 @@ pub fn name_of(ptype: PType) -> &'static str
     }
 }
 
-/// Puts the name of a type right after the text, and then a question mark where rows may be null. Where memory is
-/// refused, the text stays as it was.
+/// Appends the name of a type to the text, and a question mark where rows may be null. Where memory is refused, the
+/// text stays as it was.
 pub fn push_marked<A: Allocator + Copy>(
     text: &mut String<A>,
     name: &str,

@@ -72,7 +72,7 @@ pub(crate) fn run_column<A: Allocator + Copy>(
     ArrayRef::of_runs(*ctx.allocator(), runs)
 }
 
-/// Both, or the first refusal.
+/// Returns both, or the first refusal.
 pub(crate) fn both<L: Drop, R: Drop>(
     left: VortexResult<L>,
     right: VortexResult<R>,

@@ -20,14 +20,14 @@ use vortex_runend::{
     PrimitiveArray, UnsignedPType, Validity, VortexResult, trimmed_ends_iter,
 };
 
-// Where three runs end. Of the rows 1 to 8 one is in the first run, three in the second and four in the last. The first
-// has none of the rows from 2 on.
+// Where three runs end. Among the rows 1 to 8 one is in the first run, three are in the second and four in the last.
+// The first has none of the rows from 2 on.
 const THREE_ENDS: [u8; 3] = [2, 5, 10];
 
-// Where four runs end, of which the rows 1 to 8 show each.
+// Where four runs end. The rows 1 to 8 show each of them.
 const FOUR_ENDS: [u8; 4] = [2, 5, 7, 10];
 
-// These ends beside values.
+// These ends with values.
 fn with_ends<E: UnsignedPType, V: Drop, A: Allocator + Copy>(
     alloc: A,
     ends: &[E],

@@ -20,7 +20,7 @@ fn every_other<A: Allocator + Copy>(alloc: A) -> VortexResult<BitBuffer<A>> {
     Ok(mask.freeze())
 }
 
-// The ends of runs of 32 rows from row 16 on, of which every other row is selected.
+// The ends of runs of 32 rows from row 16 on; every other row is selected.
 struct KeptRuns {}
 
 impl Calls for KeptRuns {
@@ -47,7 +47,7 @@ fn ends_of_kept_runs_count_selected_rows(rt: HostRuntime) -> Result<(), Fail> {
     Ok(())
 }
 
-// Three rows of 7, behind a run of 300 that is hidden.
+// Three rows of 7, after a run of 300 that is hidden.
 fn rows_of_seven<A: Allocator + Copy>(ctx: &mut ExecutionCtx<A>) -> VortexResult<ArrayRef<A>> {
     let alloc = *ctx.allocator();
     run_column(

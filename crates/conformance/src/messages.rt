@@ -1,4 +1,4 @@
-//! A message that is put behind other bytes, with each request for memory refused in turn.
+//! A message that is put after other bytes, with each request for memory refused in turn.
 use crate::columns::required;
 use column_bytes::put_message;
 use refusing::{Calls, are_answered_in_turn};
@@ -6,12 +6,12 @@ use std::alloc::Allocator;
 use std::test::Fail;
 use vortex_runend::{ArrayRef, VortexResult};
 
-// Two bytes, and behind them the message of 7 and 300, of i16 without null.
+// Two bytes, followed by the message of 7 and 300, of i16 without null.
 const BEHIND: [u8; 18] = [
     b'a', b'b', 0x08, 1, 0x10, 6, 0x18, 1, 0x20, 2, 0x28, 1, 0x3a, 4, 7, 0, 0x2c, 1,
 ];
 
-// A message is put behind the bytes of a vector that has no room for it.
+// A message is put after the bytes of a vector that has no room for it.
 struct RowsBehind {}
 
 impl Calls for RowsBehind {

@@ -1,4 +1,5 @@
-//! Names that no other test has: the slots of run columns, and what a run column holds beside them.
+//! Names that no other test has: the slots of run columns, and what a run column holds in addition
+//! to them.
 use std::alloc::Global;
 use std::test::Fail;
 use vortex_runend::{RunEndData, RunEndSlots};

@@ -47,7 +47,7 @@ fn three_views<A: Allocator + Copy>(alloc: A) -> VortexResult<Vec<View, A>> {
     Ok(Vec::from_slice(alloc, &[view(0, 5), view(5, 0), view(5, 4)])?)
 }
 
-/// "first", null and "last", one behind the other in one buffer.
+/// Makes the texts "first", null and "last", one after the other in one buffer.
 pub(crate) fn three_texts<A: Allocator + Copy>(alloc: A) -> VortexResult<VarBinViewArray<A>> {
     let parts = both(three_views(alloc), buffer_of(alloc, "firstlast"));
     let ((views, buffers), flags) = both(parts, bits(alloc, &[true, false, true]))?;

@@ -13,7 +13,7 @@ use vortex_runend::{BitBufferMut, CountedEnds, ExecutionCtx, Mask, VortexResult}
 // Where two runs end, in rows.
 const TWO_ENDS: [u32; 2] = [2, 5];
 
-// Two indices, of which the first is null.
+// Two indices; the first is null.
 fn first_is_null<A: Allocator + Copy>(alloc: A) -> VortexResult<Mask<A>>
     ensures { IfOk result (λ mask. mask_bits mask ≡ replicate 1 false ++ true ∷ []) }
 {

@@ -2,7 +2,7 @@
 use std::alloc::Allocator;
 use vortex_runend::{ArrayRef, FlatColumn, ScalarView, VortexResult};
 
-/// A value that a row may show.
+/// Compares a value with what a row shows.
 pub(crate) trait Shown {
     /// Returns whether it is the value that is seen.
     fn is_seen<A: Allocator>(&self, view: ScalarView<'_, A>) -> bool;

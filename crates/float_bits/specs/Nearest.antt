@@ -10,8 +10,8 @@ use Rattle.float_bits.specs.CommonSizes.{common_size}
 abbrev pub distance : ℕ → ℕ → ℕ
 distance a b = (a - b) + (b - a)
 
--- of the patterns from 0 to the last one, which have these sizes, none is nearer to n; and where another one is as near,
--- this one is even
+-- no pattern from 0 to the last one, with these sizes, is nearer to n; and where another one is as near, this one is
+-- even
 pub record IsNearestOf (size_of : ℕ → ℕ) (last n bits : ℕ) : Type 0 where
   pub pattern : bits ≤ last
   pub nearest : (other : ℕ) → other ≤ last → distance n (size_of bits) ≤ distance n (size_of other)

@@ -20,7 +20,7 @@ pub(crate) const INFINITY: u64 = 0x7ff0_0000_0000_0000;
 
 const QUIET_NAN: u64 = 0x7ff8_0000_0000_0000;
 
-/// The sum of rows of floats of 64 bits, before it is rounded. It takes 2,272 bytes, however many rows it has.
+/// Holds the sum of rows of floats of 64 bits, before it is rounded. It takes 2,272 bytes, however many rows it has.
 ///
 /// A contract sees the tally of its rows: the exact sums of the positive and of the negative ones, and how many are
 /// NaNs, infinities and -0.0.
@@ -149,7 +149,7 @@ impl FloatSum {
         self.minus_zeros += rows;
     }
 
-    /// Adds the rows of another sum, of a further chunk say.
+    /// Adds the rows of another sum, for example of a further chunk.
     pub fn join(&mut self, other: &FloatSum)
         requires { self.old.rows + other.now.rows < 2 ^ 64 }
         ensures { self.new ≡ joined self.old other.now }
@@ -165,7 +165,7 @@ impl FloatSum {
 
     /// Returns the bits of the float that is nearest to the exact sum, at a tie the even one. By IEEE 754 a sum with a
     /// NaN or with both infinities is a NaN, one with an infinity is that infinity, and one past the finite floats by
-    /// half a step is an infinity too. A sum that is 0 is -0.0 where all rows are, and 0.0 where there are no rows.
+    /// half a step is an infinity too. A sum that is 0 is -0.0 where all rows are, and 0.0 without rows.
     pub fn rounded(&self) -> u64
         ensures { IsRoundedSum self.now result }
     {

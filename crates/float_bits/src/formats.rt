@@ -3,19 +3,19 @@ ghost use Rattle.std.specs.Prelude.{◌≡◌};
 ghost use Rattle.float_bits.specs.CommonSizes.{unit_doublings};
 ghost use Rattle.float_bits.specs.Format.{exponent_unit, greatest_steps, infinity, precision, quiet_nan, sign_bit};
 
-/// A binary format: from the highest bit a sign, the exponent's field, the fraction's field.
+/// Names a binary format: from the highest bit a sign, the exponent's field, the fraction's field.
 #[derive(Clone, Copy, Debug, PartialEq, Eq)]
 pub enum FloatFormat {
-    /// 16 bits: 5 of the exponent, 10 of the fraction.
+    /// Has 16 bits: 5 of the exponent, 10 of the fraction.
     F16,
-    /// 32 bits: 8 of the exponent, 23 of the fraction.
+    /// Has 32 bits: 8 of the exponent, 23 of the fraction.
     F32,
-    /// 64 bits: 11 of the exponent, 52 of the fraction.
+    /// Has 64 bits: 11 of the exponent, 52 of the fraction.
     F64,
 }
 
 impl FloatFormat {
-    /// Returns what the sign counts for among the bits, which is also how many patterns have each sign.
+    /// Returns the value of the sign bit in a pattern, which is also the number of patterns with each sign.
     pub fn sign_bit(self) -> u64
         ensures { result ≡ sign_bit self }
     {
@@ -48,7 +48,7 @@ impl FloatFormat {
         }
     }
 
-    /// Returns what 1 in the exponent's field counts for, which is also how many fractions there are.
+    /// Returns the value of 1 in the exponent's field, which is also the number of fractions.
     pub(crate) fn exponent_unit(self) -> u64
         ensures { result ≡ exponent_unit self }
     {
@@ -70,7 +70,7 @@ impl FloatFormat {
         }
     }
 
-    /// Returns by how much the exponent's field of a finite number is past 1 at most.
+    /// Returns how much the exponent's field of a finite number is past 1 at most.
     pub(crate) fn greatest_steps(self) -> u64
         ensures { result ≡ greatest_steps self }
     {

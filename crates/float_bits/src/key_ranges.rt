@@ -35,7 +35,7 @@ pub fn keys_at_most(format: FloatFormat, constant: u64) -> Range<i64>
     first_number(format)..first_above(format, constant)
 }
 
-/// Returns the keys of the patterns of the constant: of both zeros for a zero, and none where it is a NaN.
+/// Returns the keys of the patterns of the constant: both zeros for a zero, and none for a NaN.
 pub fn keys_equal(format: FloatFormat, constant: u64) -> Range<i64>
     requires { IsPattern format constant }
     ensures { (bits : ℕ) → IsPattern format bits →

@@ -13,8 +13,8 @@ use std::marker::Model;
 // How many sizes are added before bins are settled.
 const MOST_ADDITIONS: u64 = 1 << 28;
 
-/// A natural number in 68 bins, of which each counts for 2^32 of the one before it. A bin may hold more than a digit,
-/// so that adding carries nothing, until it is settled.
+/// Holds a natural number in 68 bins, each of which counts for 2^32 of the one before it. A bin may hold more than a
+/// digit, so that adding carries nothing, until it is settled.
 #[derive(Drop)]
 pub(crate) struct WideNatural {
     bins: [u128; 68],
@@ -65,7 +65,7 @@ impl WideNatural {
         self.additions = 0;
     }
 
-    /// Returns its digits, each below 2^32, the lowest first.
+    /// Returns the digits of the number, each below 2^32, the lowest first.
     pub(crate) fn digits(&self) -> [u128; 68]
         ensures value { value result ≡ self.now }
         ensures digits { AreBelow base result }

@@ -135,7 +135,7 @@ type_of_front (Duration Microsecond) = refl
 type_of_front (Duration Nanosecond) = refl
 type_of_front (Decimal d w) = refl
 
--- fronts tell types, but for decimals
+-- fronts determine types, except decimals
 pub fronts_tell : (t u : LogicalType) → front_of t ≡ front_of u → sort_of t ≡ sort_of u
 fronts_tell t u same = sym (type_of_front t) ∙ ap (λ word. type_at (number word)) same ∙ type_of_front u
 

@@ -21,8 +21,8 @@ pub enum Operation {
 
 impl LogicalType {
     /// Returns the type of an operation's answer: that of the column, except that a sum of integers is of 64 bits.
-    /// `None` where the operation says nothing of such values: a sum of dates, of times, of timestamps,
-    /// of the keys of floats, and of decimals, whose sums have a precision of their own.
+    /// `None` where the operation has no meaning for such values: sums of dates, times, timestamps and keys of floats,
+    /// and sums of decimals, which have a precision of their own.
     pub fn answer(self, operation: Operation) -> Option<LogicalType>
         ensures { result ≡ answer_of self operation }
     {
@@ -48,7 +48,7 @@ impl LogicalType {
 }
 
 impl Annotation<'_> {
-    /// Returns whether rows of both are compared by their numbers: they are of one type, and of timestamps both have a
+    /// Returns whether rows of both are compared by their numbers: they are of one type, and timestamps both have a
     /// zone, whichever it is, or neither has one.
     pub fn is_compared_with(self, other: Annotation<'_>) -> bool
         ensures { IsTrue result ↔

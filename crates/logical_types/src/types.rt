@@ -32,19 +32,19 @@ pub enum DecimalWidth {
 /// Says what the numbers of a column mean.
 #[derive(Clone, Copy, Debug, PartialEq, Eq)]
 pub enum LogicalType {
-    /// Themselves.
+    /// Means the integers themselves.
     Integer(PType),
-    /// Floating-point numbers, stored by their keys in the total order (`float_bits`).
+    /// Means floating-point numbers, stored by their keys in the total order (`float_bits`).
     Float(FloatFormat),
-    /// Days of the calendar.
+    /// Means days of the calendar.
     Date(DateUnit),
-    /// Times of a day, counted from midnight.
+    /// Means times of a day, counted from midnight.
     TimeOfDay(TimeUnit),
-    /// Points in time, counted from 1970-01-01 00:00: of UTC where there is a zone, else of an unknown clock.
+    /// Means points in time, counted from 1970-01-01 00:00: in UTC where there is a zone, else by an unknown clock.
     Timestamp(TimeUnit),
-    /// Lengths of time.
+    /// Means lengths of time.
     Duration(TimeUnit),
-    /// Decimals.
+    /// Means decimals.
     Decimal(DecimalDType, DecimalWidth),
 }
 

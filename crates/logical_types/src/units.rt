@@ -7,10 +7,10 @@ ghost use Rattle.logical_types.specs.Units.{IsSameTime, counted_type, kind_of, n
 use crate::types::{DateUnit, LogicalType, TimeUnit};
 use column_base::NativePType;
 
-/// Says what times are of: a time is counted anew in a type of its kind.
+/// Names a kind of times: a time can be counted anew in a type of its kind.
 #[derive(Clone, Copy, Debug, PartialEq, Eq)]
 pub enum TimeKind {
-    /// Points in time: dates, and timestamps.
+    /// Means points in time: dates, and timestamps.
     Instant,
     TimeOfDay,
     Duration,

@@ -10,8 +10,8 @@ use column_base::{DecimalDType, PType};
 use float_bits::FloatFormat;
 use std::alloc::{AllocError, Allocator};
 
-/// Puts the format string of a type after the text, with the zone of timestamps: `read_format` reads that string as
-/// this type and zone. Refused only for memory, where the text stays as it was.
+/// Appends the format string of a type to the text, with the zone of timestamps: `read_format` reads that string as
+/// this type and zone. Refused only for memory, and then the text stays as it was.
 pub fn push_format<A: Allocator + Copy>(
     text: &mut String<A>,
     annotation: Annotation<'_>,

@@ -5,12 +5,12 @@ ghost use Rattle.refusing.specs.declared.plan.Refusals.TheVariants.{Never, From,
 use crate::plan::{Plan, Refusals};
 use std::alloc::{AllocError, Allocator};
 
-/// An allocator that refuses the requests its plan names, and passes the others on to `B`.
+/// Refuses the requests for memory that its plan names, and passes the others on to `B`.
 ///
 /// A request is one call for a block: a collection's first block, or the new block of one that
 /// grows or shrinks. A request that `B` itself refuses counts as asked, and not as refused.
 ///
-/// The counts stand in cells, and no contract can say what a cell holds: only tests show them.
+/// The counts are in cells, and no contract can say what a cell holds: only tests show them.
 ///
 /// Tests lend it as `&Refusing<Global>`, which is an allocator too, and `Copy`.
 #[derive(Drop)]

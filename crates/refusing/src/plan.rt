@@ -4,14 +4,14 @@ ghost use Rattle.refusing.specs.Refusals.{Refuses};
 
 use std::cell::Cell;
 
-/// Which requests for memory are refused, counted from 1.
+/// Says which requests for memory are refused, counted from 1.
 #[derive(Clone, Copy, Debug, PartialEq, Eq)]
 pub enum Refusals {
-    /// No request.
+    /// Refuses no request.
     Never,
-    /// The request of this number and every later one; all requests for 0.
+    /// Refuses the request of this number and every later one; all requests for 0.
     From(u64),
-    /// The request of this number alone; no request for 0.
+    /// Refuses only the request of this number; none for 0.
     Only(u64),
 }
 
@@ -28,8 +28,8 @@ impl Refusals {
     }
 }
 
-// The counts stand in cells, since an allocator is asked through a `&`. No clause can say what a
-// cell holds, so those of `Refusals` say what is refused, and the counts have none.
+// The counts are in cells, since an allocator is asked through a `&`. No clause can say what a cell
+// holds, so those of `Refusals` say what is refused, and the counts have none.
 #[derive(Drop)]
 pub(crate) struct Plan {
     refusals: Refusals,

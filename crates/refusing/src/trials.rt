@@ -1,4 +1,4 @@
-// Calls with each request for memory refused in turn, alone and with all later ones.
+// Calls with each request for memory refused in turn, by itself and with all later ones.
 use crate::allocator::Refusing;
 use column_base::{VortexError, VortexResult};
 use std::alloc::{Allocator, Global};
@@ -6,13 +6,13 @@ use std::alloc::{Allocator, Global};
 // More requests than any calls make.
 const MANY: u64 = 200;
 
-/// Calls that ask for memory.
+/// Makes calls that ask for memory.
 pub trait Calls {
     /// Makes the calls, with all that they ask for in this memory. Is each answer the one that is due?
     fn are_answered<A: Allocator + Copy>(alloc: A) -> VortexResult<bool>;
 }
 
-/// Makes the calls with the first, second, .. request refused, alone and with all later ones, until none is. Do
+/// Makes the calls with the first, second, .. request refused, by itself and with all later ones, until none is. Do
 /// they answer `OutOfMemory` where a request was refused, or else what they have to, and is some request refused?
 pub fn are_answered_in_turn<C: Calls>(alloc: Global) -> bool {
     let alone = first_unmet::<C>(alloc, true);
@@ -42,7 +42,7 @@ enum Outcome {
     Wrong,
 }
 
-// How the calls end where this request is refused, alone or with all later ones.
+// How the calls end where this request is refused, by itself or with all later ones.
 fn outcome_of<C: Calls>(alloc: Global, request: u64, is_alone: bool) -> Outcome {
     let heap = if is_alone {
         Refusing::only(alloc, request)

@@ -31,7 +31,7 @@ visible-four r offset count four at long =
     ∙ ap (λ (k : ℕ). visible_with four_ends four_numbers k r.count) at
     ∙ ap (λ (n : ℕ). visible_with four_ends four_numbers offset n) long
 
--- the answer of signed numbers, told by the runs that show them
+-- the answer for signed numbers, by the runs that show them
 signed_told : (t : DType) (rows : List (Option Value)) (answer : SumAnswer) → IsSignedType t → IsSumAnswer t rows answer → answer ≡ answer_of SignedRange (map number_in rows)
 signed_told (column.Primitive t n) rows answer signed told = told ∙ sym (ap (λ (range : SumRange). answer_of range (map number_in rows)) (sum_range-signed t signed))
 signed_told (column.Bool n) rows answer signed told = absurd signed

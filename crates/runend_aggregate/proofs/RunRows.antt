@@ -31,7 +31,7 @@ none_reached : (ends : List ℕ) (offset count run : ℕ) → ((k : ℕ) → k <
 none_reached ends offset count zero ended = refl
 none_reached ends offset count (suc run) ended = let e = ended run (omega arith) in omega arith
 
--- so before the first visible run there is no row
+-- so before the first visible run there are 0 rows
 Decoded-first : (ends : List ℕ) (numbers : List (Option ℤ)) (offset count : ℕ) → Decoded ends numbers offset count (run_at ends offset) []
 Decoded-first ends numbers offset count = record {
   counted = none_reached ends offset count (run_at ends offset) (λ k h. ended_before ends offset k h);

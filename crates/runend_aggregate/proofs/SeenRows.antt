@@ -1,4 +1,4 @@
--- Rows that are seen: those of no lists are null or flat, and the order tells them apart.
+-- Rows that are seen: those that are not lists are null or flat, and the order distinguishes them.
 use Rattle.std.proofs.Common.{◌≡◌, ◌∙◌, ◌+◌, ℕ, false, List, Option, Some, None, refl, sym, ap, arith, inl, inr}
 use Rattle.std.specs.Prelude.{slice_get, option_map}
 use Rattle.std.specs.Ordering.{is_ne}
@@ -35,7 +35,7 @@ no_list (column.Utf8 n) (view.List elements start size) flat typed = absurd type
 no_list (column.Binary n) (view.List elements start size) flat typed = absurd typed
 no_list (column.List e n) (view.List elements start size) flat typed = cc
 
--- rows that the order does not tell apart are one
+-- rows that are equal in the order are one
 pub seen_equal : {A : Type 0} (t : DType) (a b : ScalarView A) → is_list t ≡ false → IsViewOf t a → IsViewOf t b → row_cmp (sees a) (sees b) ≡ Equal → sees a ≡ sees b
 seen_equal t a b flat typed_a typed_b same =
     let v = no_list t a flat typed_a in
@@ -43,7 +43,7 @@ seen_equal t a b flat typed_a typed_b same =
     let told : row_cmp (single v.0) (single w.0) ≡ Equal = rw (v.1, w.1) same in
     sym v.1 ∙ ap single (row_equal v.0 w.0 told) ∙ w.1
 
--- an ordering that is no other is equality
+-- an ordering that is neither of the others is equality
 pub level : (o : Ordering) → is_ne o ≡ false → o ≡ Equal
 level Less h = cc
 level Equal h = refl

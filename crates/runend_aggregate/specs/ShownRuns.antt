@@ -10,7 +10,7 @@ abbrev pub rows_before : List ℕ → ℕ → ℕ → ℕ → ℕ
 rows_before ends offset count zero = 0
 rows_before ends offset count (suc run) = min (slice_index ends run - offset) count
 
--- how many rows of the window show a run: those before its end, but for those before the run
+-- how many rows of the window show a run: those before its end, without those before the run
 abbrev pub rows_showing : List ℕ → ℕ → ℕ → ℕ → ℕ
 rows_showing ends offset count run = min (slice_index ends run - offset) count - rows_before ends offset count run
 
@@ -26,7 +26,7 @@ visible_runs r =
     let first = first_visible r.ends r.offset r.count in
     runs_from r.ends (map number_in (column_rows r.values)) r.offset r.count first (stop_visible r.ends r.offset r.count - first)
 
--- a run of so many rows, or none where there is no row
+-- a run of a number of rows, or none for 0 rows
 abbrev pub one_run : Option ℤ → ℕ → List (Option ℤ × ℕ)
 one_run value zero = []
 one_run value (suc n) = (value, suc n) ∷ []

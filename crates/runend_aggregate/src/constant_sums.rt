@@ -16,8 +16,8 @@ use column_sums::{Runs, SignedSum, SumAnswer, UnsignedSum, sum_in_runs};
 use runend_array::ConstantArray;
 use std::alloc::Allocator;
 
-/// Returns the sum of the rows of a constant column, as `sum` answers it of runs: its value is added once, as often as
-/// there are rows. Refused as `Unsupported` exactly for columns of other types than integers. It takes no memory.
+/// Returns the sum of the rows of a constant column, as `sum` does for runs: adds its value times the number of rows,
+/// once. Refused as `Unsupported` exactly for columns of other types than integers. Takes no memory.
 pub fn sum_of_constant<A: Allocator>(array: &ConstantArray<A>) -> VortexResult<SumAnswer>
     ensures refused { IsRefusedBy (sum_fault array.now.dtype) result }
     ensures no_memory { result ≢ Err VortexError.OutOfMemory }
@@ -82,7 +82,7 @@ fn unsigned_number<A: Allocator>(array: &ConstantArray<A>) -> Option<u64>
     }
 }
 
-// The run of all rows of a constant. There is none where there is no row.
+// The run of all rows of a constant. Without rows there is none.
 #[derive(Drop)]
 struct OneRun<V: NativePType> {
     value: Option<V>,
@@ -104,7 +104,7 @@ impl<V: NativePType> Runs<V> for OneRun<V> {
         self.row_count
     }
 
-    // There is no run between two others: any run may be asked for.
+    // No run lies between two others: any run may be asked for.
     fn inner_row_count(&self, run: usize) -> usize
         requires { run < length (one_run (option_map V.number self.now.value) self.now.row_count) }
         ensures counted { run_rows (one_run (option_map V.number self.now.value) self.now.row_count) run ≡ Some result }
@@ -113,7 +113,7 @@ impl<V: NativePType> Runs<V> for OneRun<V> {
         self.row_count(run)
     }
 
-    // There are no eight runs: flags may be asked for from any run on, and none are known.
+    // There are never eight runs: flags may be asked for from any run on, and none are known.
     fn flags_of_eight(&self, _from: usize) -> Option<u64>
         ensures { IfSome result
             (λ flags. AreFlagsOfEight flags

@@ -10,9 +10,8 @@ use column_core::{ScalarView, VortexError, VortexResult, fault_of_lists};
 use runend_array::ConstantArray;
 use std::alloc::Allocator;
 
-/// Returns the least and the greatest of the rows that are not null, borrowed from the column, as `min_max` answers
-/// them of runs: the value twice, or `None` where there is no row or all are null. Refused as `Unsupported` exactly for
-/// lists.
+/// Returns the least and the greatest of the rows that are not null, borrowed from the column, as `min_max` does for
+/// runs: the value twice, or `None` without rows or where all are null. Refused as `Unsupported` exactly for lists.
 pub fn min_max_of_constant<A: Allocator + Copy>(
     array: &ConstantArray<A>,
 ) -> VortexResult<Option<(ScalarView<'_, A>, ScalarView<'_, A>)>>
@@ -35,8 +34,8 @@ pub fn min_max_of_constant<A: Allocator + Copy>(
     }
 }
 
-/// Returns whether any two rows of a constant column are equal. They are. Refused as `Unsupported` exactly for lists,
-/// as `is_constant` is of runs.
+/// Returns whether all rows of a constant column are equal, which they are. Refused as `Unsupported` exactly for lists,
+/// as `is_constant` is for runs.
 pub fn is_constant_of_constant<A: Allocator>(array: &ConstantArray<A>) -> VortexResult<bool>
     ensures refused { IsRefusedBy (list_fault array.now.dtype) result }
     ensures no_memory { result ≢ Err VortexError.OutOfMemory }
@@ -48,9 +47,9 @@ pub fn is_constant_of_constant<A: Allocator>(array: &ConstantArray<A>) -> Vortex
     }
 }
 
-/// Returns whether no row of a constant column is above the next, or, where `strict` is asked, is each below the next.
-/// Equal rows are sorted, and strictly so only where there are fewer than two. Refused as `Unsupported` exactly for
-/// lists, as `is_sorted` is of runs.
+/// Returns whether no row of a constant column is above the next, or, for `strict`, whether each is below the next.
+/// Equal rows are sorted, and strictly only where there are fewer than two. Refused as `Unsupported` exactly for lists,
+/// as `is_sorted` is for runs.
 pub fn is_sorted_of_constant<A: Allocator>(
     array: &ConstantArray<A>,
     strict: bool,
@@ -65,7 +64,7 @@ pub fn is_sorted_of_constant<A: Allocator>(
     }
 }
 
-// What the rows show, or `None` where there is no row or all are null.
+// What the rows show, or `None` without rows or where all are null.
 fn shown_in<A: Allocator>(array: &ConstantArray<A>) -> Option<ScalarView<'_, A>>
     ensures none { IfNone result (All (λ row. row ≡ None) (column_rows (OfConstant array.now))) }
     ensures least { IfSome result (λ row. IsLeast (column_rows (OfConstant array.now)) (sees row)) }

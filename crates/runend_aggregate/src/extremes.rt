@@ -15,8 +15,8 @@ use std::cmp::Ordering;
 use std::ops::Range;
 
 /// Returns the least and the greatest of the rows that are not null, borrowed from the column, or `None` where all rows
-/// are null. Work is by visible runs. Refused as `Unsupported` exactly for lists. It takes no memory, whatever the form
-/// of the run values.
+/// are null. Takes a step for each visible run. Refused as `Unsupported` exactly for lists. Takes no memory, whatever
+/// the form of the run values.
 pub fn min_max<'a, A: Allocator + Copy>(
     array: &'a RunEndArray<A>,
     ctx: &mut ExecutionCtx<A>,
@@ -43,8 +43,8 @@ pub fn min_max<'a, A: Allocator + Copy>(
 }
 
 /// Returns a row that is not null and furthest to that side, borrowed from the column: the least where the side is
-/// `Less`, and the greatest where it is `Greater`. `None` where all rows are null. Work is by visible runs, which are
-/// compared for that side only. Refused as `Unsupported` exactly for lists. It takes no memory, whatever the form of
+/// `Less`, and the greatest where it is `Greater`. `None` where all rows are null. Takes a step for each visible run,
+/// and compares only for that side. Refused as `Unsupported` exactly for lists. Takes no memory, whatever the form of
 /// the run values.
 pub fn extreme<'a, A: Allocator + Copy>(
     array: &'a RunEndArray<A>,
@@ -92,8 +92,7 @@ fn furthest<A: Allocator + Copy>(
     best
 }
 
-// The least and the greatest of some rows that are no nulls, each looked up, or `None` where all of them
-// are null.
+// The least and the greatest of some rows that are not null, each looked up, or `None` where all of them are null.
 fn looked_up_ends<A: Allocator + Copy>(
     values: &ArrayRef<A>,
     range: Range<usize>,
@@ -113,7 +112,7 @@ fn looked_up_ends<A: Allocator + Copy>(
     Some((least, greatest))
 }
 
-// The least and the greatest of some rows that are no nulls. Flat values are read where they are stored, by their type.
+// The least and the greatest of some rows that are not null. Flat values are read where they are stored, by their type.
 fn ends_of<A: Allocator + Copy>(
     values: &ArrayRef<A>,
     range: Range<usize>,

@@ -11,8 +11,8 @@ use column_sums::{SignedSum, SumAnswer, SumValue};
 use runend_array::{ExecutionCtx, RunEndArray};
 use std::alloc::Allocator;
 
-/// `sum_signed_runs` of 12 rows, by runs that end at 3, 6, 8 and 12 and show 4, null, 4 and 5: the sum
-/// is 40, of each run that is not null, with its value and its number of rows, by three additions at most.
+/// Sums 12 rows by `sum_signed_runs`, over runs that end at 3, 6, 8 and 12 and show 4, null, 4 and 5: the sum is 40. It
+/// adds each run that is not null, with its value and its number of rows, by three additions at most.
 pub fn sum_of_four_runs<A: Allocator + Copy>(
     four_runs: &RunEndArray<A>,
     sum: &mut SignedSum,
@@ -31,8 +31,8 @@ pub fn sum_of_four_runs<A: Allocator + Copy>(
     sum_signed_runs(four_runs, sum, ctx)
 }
 
-/// `sum_signed_runs` of 4 of these rows, from position 3 on: they are three nulls and a 4, so that the sum is 4, of
-/// the one row that the window shows of the third run, by one addition at most.
+/// Sums 4 of these rows by `sum_signed_runs`, from position 3 on: they are three nulls and a 4, so the sum is 4. It
+/// adds the one row that the window shows of the third run, by one addition at most.
 pub fn sum_in_four_runs<A: Allocator + Copy>(
     four_runs: &RunEndArray<A>,
     sum: &mut SignedSum,

@@ -1,6 +1,6 @@
-//! Aggregates over run columns: sums, the least and the greatest row, and whether rows are constant or
-//! sorted. Each looks at the visible runs alone, and what it answers over runs is what its definition
-//! answers over rows. A constant column is one run of all its rows, and has the same aggregates.
+//! Aggregates over run columns: sums, the least and the greatest row, and whether rows are constant or sorted. Each
+//! looks only at the visible runs, and answers over runs what its definition answers over rows. A constant column is
+//! one run of all its rows, and has the same aggregates.
 #![tactic(auto)]
 
 mod constant_sums;

@@ -15,8 +15,8 @@ use std::alloc::Allocator;
 use std::cmp::Ordering;
 use std::ops::Range;
 
-/// Returns whether any two rows are equal, null equal to null. No rows are constant. Work is by visible runs. Refused
-/// as `Unsupported` exactly for lists. It takes no memory, whatever the form of the run values.
+/// Returns whether all rows are equal, null being equal to null; for no rows the answer is true. Takes a step for each
+/// visible run. Refused as `Unsupported` exactly for lists. Takes no memory, whatever the form of the run values.
 pub fn is_constant<A: Allocator + Copy>(
     array: &RunEndArray<A>,
     ctx: &mut ExecutionCtx<A>,
@@ -33,9 +33,9 @@ pub fn is_constant<A: Allocator + Copy>(
     Ok(are_equal(array.values(), array.visible_runs()))
 }
 
-/// Returns whether no row is above the next, or, where `strict` is asked, is each below the next. No rows are sorted.
-/// Work is by visible runs. Refused as `Unsupported` exactly for lists. It takes no memory, whatever the form of the
-/// run values.
+/// Returns whether no row is above the next, or, for `strict`, whether each is below the next; for no rows the answer
+/// is true. Takes a step for each visible run. Refused as `Unsupported` exactly for lists. Takes no memory, whatever
+/// the form of the run values.
 pub fn is_sorted<A: Allocator + Copy>(
     array: &RunEndArray<A>,
     strict: bool,
@@ -86,7 +86,7 @@ fn are_equal<A: Allocator + Copy>(values: &ArrayRef<A>, range: Range<usize>) -> 
     }
 }
 
-// May a row that stands so to the next one be there?
+// May a row come before the next one, with which it compares so?
 fn is_step(ordering: Ordering, strict: bool) -> bool
     ensures { result ≡ is_step_of strict ordering }
 {
@@ -97,8 +97,7 @@ fn is_step(ordering: Ordering, strict: bool) -> bool
     }
 }
 
-// Is each of the rows from `range.start` to `range.end - 2`, each looked up, one that may stand before the
-// next?
+// May each of the rows from `range.start` to `range.end - 2`, each looked up, come before the next?
 fn are_looked_up_sorted<A: Allocator + Copy>(
     values: &ArrayRef<A>,
     range: Range<usize>,

@@ -1,4 +1,4 @@
-//! The rows of a column, and how they stand to one another.
+//! The rows of a column, and how they compare with one another.
 ghost use Rattle.std.specs.Prelude.{◌≡◌, ◌<◌, Some, false, length, option_map, slice_get};
 ghost use Rattle.column_core.specs.ScalarView.{sees, IsViewOf};
 ghost use Rattle.column_core.specs.Kinds.{is_list};
@@ -11,7 +11,7 @@ use runend_array::ArrayRef;
 use std::alloc::Allocator;
 use std::cmp::Ordering;
 
-/// Returns the row at an index that there is.
+/// Returns the row at an index, which has to be there.
 pub(crate) fn row_of<A: Allocator + Copy>(values: &ArrayRef<A>, row: usize) -> ScalarView<'_, A>
     requires { row < length (rows values.now) }
     ensures row { slice_get (rows values.now) row ≡ Some (sees result) }
@@ -23,7 +23,7 @@ pub(crate) fn row_of<A: Allocator + Copy>(values: &ArrayRef<A>, row: usize) -> S
     }
 }
 
-/// Returns how one row stands to another one.
+/// Returns how one row compares with another one.
 pub(crate) fn order_at<A: Allocator + Copy>(
     values: &ArrayRef<A>,
     left: usize,

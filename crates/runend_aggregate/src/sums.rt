@@ -16,8 +16,8 @@ use runend_array::{ExecutionCtx, RunEndArray, RunEndArrayExt};
 use std::alloc::Allocator;
 
 /// Returns the sum of the rows of a column of signed numbers, by adding each visible run that is not null, with its
-/// value and the number of rows that show it, up to and with the first that leaves the range of `i64`. To `sum` it adds
-/// no more often than there are such runs. Never refused.
+/// value and the number of rows that show it, up to and with the first that leaves the range of `i64`. Adds to `sum` at
+/// most as often as there are such runs. Never refused.
 pub fn sum_signed_runs<A: Allocator + Copy>(
     array: &RunEndArray<A>,
     sum: &mut SignedSum,
@@ -40,8 +40,8 @@ pub fn sum_signed_runs<A: Allocator + Copy>(
 }
 
 /// Returns the sum of the rows of a column of unsigned numbers, by adding each visible run that is not null, with its
-/// value and the number of rows that show it, up to and with the first that leaves the range of `u64`. To `sum` it adds
-/// no more often than there are such runs. Never refused.
+/// value and the number of rows that show it, up to and with the first that leaves the range of `u64`. Adds to `sum` at
+/// most as often as there are such runs. Never refused.
 pub fn sum_unsigned_runs<A: Allocator + Copy>(
     array: &RunEndArray<A>,
     sum: &mut UnsignedSum,
@@ -64,8 +64,8 @@ pub fn sum_unsigned_runs<A: Allocator + Copy>(
 }
 
 /// Returns the sum of the rows that are not null, added one at a time in order: null where some partial sum leaves the
-/// range of `i64` for signed numbers, or of `u64` for unsigned ones. Work is by visible runs. Refused as `Unsupported`
-/// exactly for columns of other types. It takes no memory, whatever the form of the run values.
+/// range of `i64` for signed numbers, or of `u64` for unsigned ones. Takes a step for each visible run. Refused as
+/// `Unsupported` exactly for columns of other types. Takes no memory, whatever the form of the run values.
 pub fn sum<A: Allocator + Copy>(
     array: &RunEndArray<A>,
     ctx: &mut ExecutionCtx<A>,

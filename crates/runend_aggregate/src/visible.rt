@@ -59,8 +59,8 @@ pub(crate) fn rows_of_run<E: UnsignedPType>(
     rows_to_end(ends, run, offset, count).saturating_sub(rows_before_run(ends, run, offset, count))
 }
 
-/// Returns how many rows lie between the end of a run and that of the run before it, where the ends increase. So many
-/// rows of a window show a run that is neither the first nor the last visible one.
+/// Returns how many rows lie between the end of a run and the end of the run before it, where the ends increase. As
+/// many rows of a window show a run that is neither the first nor the last visible one.
 #[inline(always)]
 pub(crate) fn rows_between<E: UnsignedPType>(ends: &[E], run: usize) -> usize
     requires within { run < length ends.now }

@@ -6,7 +6,7 @@ use Rattle.column_core.specs.Leaf.{Leaf, leaf_rows}
 use Rattle.runend_array.specs.Fault.{IsFirstOutside, IsFirstPast}
 use Rattle.runend_array.specs.Lists.{AreLists, ByRows, ByRuns, HasRows, IsAllValid, IsRangeWithin, PlainIndex, RowValidityForm, lists_with, row_flag_at}
 
--- where the form alone says so, each row is valid
+-- where the form says so, each row is valid
 row_flag_at-all_valid : (form : RowValidityForm) (row : ℕ) → IsAllValid form → IsTrue (row_flag_at form row)
 row_flag_at-all_valid (ByRows NeverNull) row valid = refl
 row_flag_at-all_valid (ByRows NoneNull) row valid = refl

@@ -17,8 +17,8 @@ use Rattle.column_base.specs.ValidityForm.{NeverNull, NoneNull, AllNull, ByBits}
 use Rattle.runend_array.specs.Lists.{ByRows, ByRuns, Index, IsFlagRunUpTo, IsRunUpTo, IsWithinElements, Lists, PlainIndex, RowValidityForm, RunIndex, flag_stop, index_at, index_count, index_stop, row_flag_at, run_stop}
 use Rattle.runend_array.proofs.ListSlice.{slice_get-made_from}
 
--- the rows from `start` on that the runs before `run` show, of `count` at most, where `shown` tells what a run shows:
--- the row behind them is in no run before
+-- the rows from `start` on that the runs before `run` show, of `count` at most, where `shown` is what a run shows: the
+-- row after them is in no run before
 pub record Walked {X : Type 0} (shown : ℕ → X) (ends : List ℕ) (offset start count run : ℕ) (rows : List X) : Type 0 where
   pub short : length rows ≤ count
   pub next : length rows < count → run ≤ run_at ends (offset + (start + length rows))

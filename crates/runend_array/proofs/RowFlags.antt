@@ -1,4 +1,4 @@
--- Which rows of a column are valid, as its form tells it.
+-- Which rows of a column are valid, by its form.
 use Rattle.std.proofs.Common.{◌≡◌, ◌≢◌, ◌<◌, ◌+◌, ℕ, ℤ, List, [], ◌∷◌, Bool, true, false, Option, Some, None, cond, length, map, replicate, refl, sym, ◌∙◌, ap, arith}
 use Rattle.std.specs.List.{slice_get}
 use Rattle.std.specs.Option.{is_some, option_map}
@@ -55,7 +55,7 @@ each-from_flags rows form i row same within here =
     let shown : slice_get (map is_some rows) i ≡ Some (is_some row) = slice_get-map is_some rows i ∙ ap (option_map is_some) here in
     cc
 
--- a validity that is told row by row
+-- a validity that is held row by row
 row_flags-by_rows : (form : ValidityForm) (n : ℕ) → HasLength form n → row_flags_of (ByRows form) n ≡ flags form n
 row_flags-by_rows form n fits =
     let made = length-map-range_with_len (row_flag_at (ByRows form)) 0 n in
@@ -63,7 +63,7 @@ row_flags-by_rows form n fits =
     let within : i < n = rw made at h in
     slice_get-made (row_flag_at (ByRows form)) n i within ∙ sym (flags-at form n i fits within))
 
--- items are no null where their flags are true
+-- items are not null where their flags are true
 flags-of_optionals : {B : Type 0} (value : B → FlatValue) (items : List B) (bits : List Bool) → length bits ≡ length items
     → map is_some (map (option_map (λ (v : FlatValue). Single v)) (map (option_map value) (optionals items bits))) ≡ bits
 flags-of_optionals value [] [] same = refl

@@ -39,7 +39,7 @@ validity_of AllInvalid = ByRows AllNull
 validity_of (Bits bits) = ByRows (ByBits bits)
 validity_of (Runs runs) = runs_validity runs.value
 
--- runs that tell a validity are over flat booleans without null
+-- the runs of a validity are over flat booleans without null
 abbrev pub IsRowValidity : {A : Type 0} → RowValidity A → Type 0
 IsRowValidity NonNullable = Unit {0}
 IsRowValidity AllValid = Unit {0}

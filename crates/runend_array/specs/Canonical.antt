@@ -22,7 +22,7 @@ canonical_column (flat.List array) = OfLists array
 abbrev pub IsWrittenOut : Constant → Leaf → Type 0
 IsWrittenOut constant leaf = IsWrittenLeaf leaf × (constant.value ≡ None → leaf_validity leaf ≡ AllNull) × (IsSome constant.value → leaf_validity leaf ≡ without_nulls (nullability_of constant.dtype))
 
--- the flat form of a column: a flat column as it stands, a constant written out, and what the runs of a run column show
+-- the flat form of a column: a flat column as it is, a constant written out, and what the runs of a run column show
 abbrev pub IsCanonical : Column → Column → Type 0
 IsCanonical (OfLeaf leaf) c = c ≡ OfLeaf leaf
 IsCanonical (OfLists lists) c = c ≡ OfLists lists

@@ -17,7 +17,7 @@ pub record Constant : Type 0 where
   pub value : Option FlatValue
   pub count : ℕ
 
--- the value of a constant, in so many rows
+-- the value of a constant, in this number of rows
 abbrev pub repeated : Constant → ℕ → Constant
 repeated constant count = record { dtype = constant.dtype; value = constant.value; count = count }
 
@@ -173,6 +173,6 @@ truths_of (OfConstant constant) = []
 truths_of (OfLists lists) = []
 truths_of (OfRuns ends_type ends values offset count) = []
 
--- the validity that runs of booleans tell
+-- the validity that runs of booleans give
 abbrev pub runs_validity : Runs → RowValidityForm
 runs_validity r = ByRuns r.ends_type r.ends (truths_of r.values) r.offset r.count

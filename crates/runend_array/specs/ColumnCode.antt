@@ -1,4 +1,4 @@
--- How forms of columns are told apart: by their levels of runs, the outermost first, and what stands below them.
+-- How forms of columns are distinguished: by their levels of runs, the outermost first, and what is below them.
 use Rattle.std.specs.Prelude.{◌≡◌, ℕ, zero, suc, ℤ, Bool, List, [], ◌∷◌, Option, ◌⊎◌, refl}
 use Rattle.std.specs.Coded.{Coded, code_by, coded×, coded⊎, coded_ℕ, coded_ℤ, coded_bool, coded_list, coded_option}
 use Rattle.std.proofs.Common.{ap, inl, inr}
@@ -169,7 +169,7 @@ lists_code = code_by (Leaf × (Index × (Index × RowValidityForm))) (coded× le
 abbrev pub constant_code : Coded Constant
 constant_code = code_by (DType × (Option FlatValue × ℕ)) (coded× dtype_code (coded× (coded_option flat_code) coded_ℕ)) (λ c. (c.dtype, (c.value, c.count))) (λ p. record { dtype = p.0; value = p.1.0; count = p.1.1 }) (λ _. refl)
 
--- a column: its levels of runs, and what stands below them
+-- a column: its levels of runs, and what is below them
 abbrev pub Level : Type 0
 Level = PType × (List ℕ × (ℕ × ℕ))
 

@@ -1,4 +1,4 @@
--- What encoders and decoders answer.
+-- What encoders and decoders return.
 use Rattle.std.specs.Prelude.{◌≡◌, List, length, Option, None}
 use Rattle.column_base.specs.declared.dtype.PType.{PType}
 use Rattle.column_base.specs.declared.dtype.PType.TheVariants.{U64}
@@ -33,9 +33,9 @@ IsComputedFlat (OfConstant constant) = ⊥
 IsComputedFlat (OfLists lists) = Unit {0}
 IsComputedFlat (OfRuns ends_type ends values offset count) = ⊥
 
--- the encoding of a flat column of integers: ends and values that are a tight exact cover of its rows. Ends are as
--- narrow as can be, and values flat; a column whose validity says that all of its rows are null has u64 ends and one
--- constant null
+-- the encoding of a flat column of integers: ends and values that are a tight exact cover of its rows. Ends are of the
+-- least type that holds them, and values are flat; a column whose validity says that all of its rows are null has u64
+-- ends and one constant null
 pub record IsEncoding (array ends : PrimitiveForm) (values : Column) : Type 0 where
   pub cover : IsTightCover (number_rows array) (ends_of ends) (column_rows values)
   pub dtype : column_dtype values ≡ primitive_dtype array

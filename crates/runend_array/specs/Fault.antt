@@ -1,4 +1,4 @@
--- Why parts are no run column, or no column of lists: the first fault, in the order in which they are tested.
+-- Why parts do not make a run column, or a column of lists: the first fault, in the order in which they are tested.
 use Rattle.std.specs.Prelude.{◌≡◌, ◌≢◌, ◌⊎◌, ℕ, pos, ◌<◌, length, IsTrue, List, Option, Some}
 use Rattle.column_base.specs.declared.error.VortexError.{VortexError}
 use Rattle.column_base.specs.declared.error.VortexError.TheVariants.{EndsNotUnsigned, OutOfBounds, ColumnLength, TypeMismatch}
@@ -24,18 +24,18 @@ pub record IsFirstOutside (lists : Lists) (row : ℕ) : Type 0 where
   pub outside : ¬ IsWithinElements lists row
   pub least : (k : ℕ) → k < row → IsTrue (row_flag_at lists.validity k) → IsWithinElements lists k
 
--- the first row, of offsets and sizes row by row, whose elements do not lie within so many
+-- the first row, of offsets and sizes row by row, whose elements do not lie within `count` elements
 pub record IsFirstPast (offsets sizes : List ℕ) (count row : ℕ) : Type 0 where
   pub within : row < length offsets
   pub outside : ¬ IsRangeWithin offsets sizes count row
   pub least : (k : ℕ) → k < row → IsRangeWithin offsets sizes count k
 
--- how many rows a validity speaks of, where its form says so
+-- for how many rows a validity has flags, where its form says so
 abbrev pub rows_told : RowValidityForm → Option ℕ
 rows_told (ByRows form) = length_of form
 rows_told (ByRuns ends_type ends bits offset count) = Some count
 
--- the first fault of the parts of a column of lists, of which offsets, sizes and validity are of the right types
+-- the first fault of the parts of a column of lists whose offsets, sizes and validity are of the right types
 abbrev pub ListsFault : Lists → VortexError → Type 0
 ListsFault lists (ColumnLength left right) = (left ≡ list_count lists) × (left ≢ right) × ((right ≡ index_count lists.sizes) ⊎ ((index_count lists.sizes ≡ left) × (rows_told lists.validity ≡ Some right)))
 ListsFault lists (OutOfBounds row count) = (index_count lists.sizes ≡ list_count lists) × HasRows lists.validity (list_count lists) × (count ≡ length (leaf_rows lists.elements)) × ((place : ℕ) × (row ≡ pos place) × IsFirstOutside lists place)

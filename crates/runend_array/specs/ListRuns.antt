@@ -4,7 +4,7 @@ use Rattle.column_base.specs.declared.dtype.PType.{PType}
 use Rattle.runend_array.specs.Lists.{Lists, RunIndex, RowValidityForm, ByRuns, index_numbers, list_count, row_flags_of}
 use Rattle.runend_array.specs.Fault.{rows_told}
 
--- the validity of rows in runs: as it stands where its form serves any number of rows, else runs over flat flags
+-- the validity of rows in runs: as it is where its form serves any number of rows, else runs over flat flags
 pub record IsValidityInRuns (ends_type : PType) (ends : List ℕ) (values : RowValidityForm) (values_count offset count : ℕ) (rows : RowValidityForm) : Type 0 where
   pub kept : IsNone (rows_told values) → rows ≡ values
   pub runs : ¬ IsNone (rows_told values) → rows ≡ ByRuns ends_type ends (row_flags_of values values_count) offset count

@@ -5,30 +5,30 @@ use Rattle.runend_array.specs.Fault.{rows_told}
 use Rattle.runend_array.specs.Lists.{Index, Lists, PlainIndex, RowValidityForm, RunIndex, ByRows, ByRuns, HasRows, index_at, index_count, row_flag_at, row_nullability}
 use Rattle.runend_windows.specs.Visible.{visible}
 
--- told row by row, with bits only where some row is null and some is not
+-- held row by row, with bits only where some rows are null and others are not
 abbrev pub IsNormalByRows : RowValidityForm → Type 0
 IsNormalByRows (ByRows form) = IsNormal form
 IsNormalByRows (ByRuns ends_type ends bits offset count) = ⊥
 
--- where a window of so many rows begins: at this position, and at 0 where it has no rows
+-- where a window of a number of rows begins: at this position, and at 0 where it has no rows
 abbrev pub position_of : ℕ → ℕ → ℕ
 position_of zero position = 0
 position_of (suc n) position = position
 
--- the numbers of a range of rows: those that are stored one by one; of runs, the runs of these rows
+-- the numbers of a range of rows: stored one by one, or in the runs of these rows
 abbrev pub index_between : Index → ℕ → ℕ → Index
 index_between (PlainIndex numbers) start stop = PlainIndex (slice_range numbers start stop)
 index_between (RunIndex ends_type ends numbers offset count) start stop =
     RunIndex ends_type (visible ends (offset + start) (stop - start) ends) (visible ends (offset + start) (stop - start) numbers)
     (position_of (stop - start) (offset + start)) (stop - start)
 
--- an index of a range of rows: stored as that of all rows is, with the numbers of these rows
+-- an index of a range of rows: stored as the index of all rows is, with the numbers of these rows
 pub record IsIndexInRange (whole : Index) (start stop : ℕ) (part : Index) : Type 0 where
   pub form : part ≡ index_between whole start stop
   pub counted : index_count part ≡ stop - start
   pub numbers : (i : ℕ) → i < stop - start → index_at part i ≡ index_at whole (start + i)
 
--- the flags of a range of rows: of runs, the runs of these rows; else row by row, with no bits to spare
+-- the flags of a range of rows: in the runs of these rows, or row by row, with bits only where they are needed
 abbrev pub IsStoredInRange : RowValidityForm → ℕ → ℕ → RowValidityForm → Type 0
 IsStoredInRange (ByRows form) start stop part = IsNormalByRows part
 IsStoredInRange (ByRuns ends_type ends bits offset count) start stop part =

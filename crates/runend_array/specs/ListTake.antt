@@ -16,7 +16,7 @@ ArePlacesOf count positions places = (place : ℕ) → place < length positions 
 abbrev pub number_taken : Index → List ℕ → ValidityForm → ℕ → ℕ
 number_taken index positions places place = cond (flag_at places place) (index_at index (slice_index positions place)) 0
 
--- whether the row at a position is valid, which none is where the position is null
+-- whether the row at a position is valid; at a null position it is not
 abbrev pub flag_taken : RowValidityForm → List ℕ → ValidityForm → ℕ → Bool
 flag_taken validity positions places place = cond (flag_at places place) (row_flag_at validity (slice_index positions place)) false
 
@@ -33,7 +33,7 @@ abbrev pub nullability_taken : Nullability → Nullability → Nullability
 nullability_taken NonNullable places = places
 nullability_taken Nullable places = Nullable
 
--- the validity of the rows at these positions, told row by row with no bits to spare
+-- the validity of the rows at these positions, held row by row, with bits only where they are needed
 pub record IsValidityAt (whole : RowValidityForm) (positions : List ℕ) (places : ValidityForm) (part : RowValidityForm) : Type 0 where
   pub normal : IsNormalByRows part
   pub counted : HasRows part (length positions)

@@ -31,7 +31,7 @@ index_at (RunIndex ends_type ends numbers offset count) i = slice_index numbers 
 abbrev pub index_numbers : Index → List ℕ
 index_numbers index = map (index_at index) (range_with_len 0 (index_count index))
 
--- where the run of a row may be sought from: anywhere in numbers one by one, in runs from a run that is not past it
+-- where a search for the run of a row may begin: anywhere in flat numbers, in runs at a run that is not past it
 abbrev pub IsRunUpTo : Index → ℕ → ℕ → Type 0
 IsRunUpTo (PlainIndex numbers) run i = ⊤
 IsRunUpTo (RunIndex ends_type ends numbers offset count) run i = run ≤ run_at ends (offset + i)
@@ -40,12 +40,12 @@ IsRunUpTo (RunIndex ends_type ends numbers offset count) run i = run ≤ run_at 
 abbrev pub run_stop : List ℕ → ℕ → ℕ → ℕ → ℕ
 run_stop ends offset count i = min (slice_index ends (run_at ends (offset + i)) - offset) count
 
--- where the stretch of a row ends: in numbers one by one it is that row alone, in runs the rest of its run
+-- where the stretch of a row ends: flat numbers have only that row in it, runs the rest of its run
 abbrev pub index_stop : Index → ℕ → ℕ
 index_stop (PlainIndex numbers) i = i + 1
 index_stop (RunIndex ends_type ends numbers offset count) i = run_stop ends offset count i
 
--- which rows are valid: told row by row, or by runs over flat flags
+-- which rows are valid: held row by row, or in runs over flat flags
 pub data RowValidityForm : Type 0 where
   ByRows : ValidityForm → RowValidityForm
   ByRuns : PType → List ℕ → List Bool → ℕ → ℕ → RowValidityForm
@@ -55,7 +55,7 @@ abbrev pub row_flag_at : RowValidityForm → ℕ → Bool
 row_flag_at (ByRows form) i = flag_at form i
 row_flag_at (ByRuns ends_type ends bits offset count) i = slice_index_or bits (run_at ends (offset + i)) false
 
--- the form alone says that all rows are valid
+-- the form says that all rows are valid
 abbrev pub IsAllValid : RowValidityForm → Type 0
 IsAllValid (ByRows NeverNull) = ⊤
 IsAllValid (ByRows NoneNull) = ⊤
@@ -63,13 +63,13 @@ IsAllValid (ByRows AllNull) = ⊥
 IsAllValid (ByRows (ByBits bits)) = ⊥
 IsAllValid (ByRuns ends_type ends bits offset count) = ⊥
 
--- where the run of a row may be sought from, among flags
+-- where a search for the run of a row may begin, among flags
 abbrev pub IsFlagRunUpTo : RowValidityForm → ℕ → ℕ → Type 0
 IsFlagRunUpTo (ByRows form) run i = ⊤
 IsFlagRunUpTo (ByRuns ends_type ends bits offset count) run i = run ≤ run_at ends (offset + i)
 
--- where the stretch of a row ends, of so many rows: that row alone where there is a bit for each row, the rest of its
--- run in runs, and else all rows from it on
+-- where the stretch of a row ends, among a number of rows: it has only that row where there is a bit for each row, the
+-- rest of its run in runs, and else all rows from it on
 abbrev pub flag_stop : RowValidityForm → ℕ → ℕ → ℕ
 flag_stop (ByRows NeverNull) rows i = rows
 flag_stop (ByRows NoneNull) rows i = rows
@@ -77,11 +77,11 @@ flag_stop (ByRows AllNull) rows i = rows
 flag_stop (ByRows (ByBits bits)) rows i = i + 1
 flag_stop (ByRuns ends_type ends bits offset count) rows i = run_stop ends offset count i
 
--- the flags of so many rows
+-- the flags of a number of rows
 abbrev pub row_flags_of : RowValidityForm → ℕ → List Bool
 row_flags_of form count = map (row_flag_at form) (range_with_len 0 count)
 
--- it speaks of so many rows
+-- it is the validity of this number of rows
 abbrev pub HasRows : RowValidityForm → ℕ → Type 0
 HasRows (ByRows form) n = HasLength form n
 HasRows (ByRuns ends_type ends bits offset count) n = count ≡ n
@@ -123,7 +123,7 @@ list_dtype lists = column.List (element_of (leaf_dtype lists.elements)) (row_nul
 abbrev pub IsWithinElements : Lists → ℕ → Type 0
 IsWithinElements lists i = index_at lists.offsets i + index_at lists.sizes i ≤ length (leaf_rows lists.elements)
 
--- the elements of a row, of offsets and sizes row by row, lie within so many
+-- the elements of a row, of offsets and sizes row by row, lie within a number of elements
 abbrev pub IsRangeWithin : List ℕ → List ℕ → ℕ → ℕ → Type 0
 IsRangeWithin offsets sizes count row = slice_index offsets row + slice_index sizes row ≤ count
 

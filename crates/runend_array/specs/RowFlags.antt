@@ -18,7 +18,7 @@ pub record IsValidityOf (c : Column) (form : RowValidityForm) : Type 0 where
 abbrev pub constant_validity : Constant → ValidityForm
 constant_validity constant = cond (is_some constant.value) (without_nulls (nullability_of constant.dtype)) AllNull
 
--- the form of the validity of a column: the one that is stored; under runs that of the values where it serves any
+-- the form of the validity of a column: the one that is stored; for runs the one of the values where it serves any
 -- number of rows, else runs over flat flags
 abbrev pub IsValidityForm : Column → RowValidityForm → Type 0
 IsValidityForm (OfLeaf leaf) form = form ≡ ByRows (leaf_validity leaf)

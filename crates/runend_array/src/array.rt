@@ -17,8 +17,8 @@ use column_core::DType;
 use std::alloc::Allocator;
 use std::marker::Model;
 
-/// Run k shows value k in the rows before its end and after the end before it. Of these rows the
-/// column shows `length` many, from `offset` on.
+/// Holds runs, and a window over their rows. Run k shows value k in the rows from the end before it up to its own end.
+/// The column shows `length` of these rows, from row `offset` on.
 #[cycle(array)]
 #[derive(Drop)]
 pub struct RunEndArray<A: Allocator> {
@@ -51,29 +51,29 @@ impl<A: Allocator> Model for RunEndArray<A> {
     ghost size_decreases = { λ a h. Prim.search (deep_le-parts, h) };
 }
 
-/// The two columns inside a run column.
+/// Holds the two columns inside a run column.
 #[derive(Drop)]
 pub struct RunEndSlots<A: Allocator> {
-    /// Where each run ends, in rows.
+    /// Holds where each run ends, in rows.
     pub ends: ArrayRef<A>,
-    /// What each run shows.
+    /// Holds what each run shows.
     pub values: ArrayRef<A>,
 }
 
 impl<A: Allocator> RunEndSlots<A> {
-    /// The names of the slots, in their order.
+    /// Names the slots, in their order.
     pub const NAMES: [&'static str; 2] = ["ends", "values"];
-    /// The place of the ends among the slots.
+    /// Gives the place of the ends among the slots.
     pub const ENDS: usize = 0;
-    /// The place of the values among the slots.
+    /// Gives the place of the values among the slots.
     pub const VALUES: usize = 1;
 }
 
-/// The run-end encoding.
+/// Names the run-end encoding.
 #[derive(Clone, Debug, Drop)]
 pub struct RunEnd;
 
-/// The slots of a run column.
+/// Gives the slots of a run column.
 pub trait RunEndArraySlotsExt<A: Allocator> {
     // The form of the run column.
     ghost runs: { Self → Runs };
@@ -91,7 +91,7 @@ pub trait RunEndArraySlotsExt<A: Allocator> {
         ensures valid { AreRuns (runs self.now) };
 }
 
-/// What a run column tells beside its slots.
+/// Gives what a run column has in addition to its slots.
 pub trait RunEndArrayExt<A: Allocator>: RunEndArraySlotsExt<A> {
     /// Returns how many rows of the runs lie before the window.
     fn offset(&self) -> usize
@@ -109,7 +109,7 @@ pub trait RunEndArrayExt<A: Allocator>: RunEndArraySlotsExt<A> {
             result ≡ min (count_by (λ e. nat_le e (r.offset + index)) r.ends) (length r.ends - 1) }
         ensures run { let r = Self.runs self.now in index < r.count → result ≡ run_at r.ends (r.offset + index) };
 
-    /// Where the runs of the rows before row `index` stop: one run past the last of them.
+    /// Returns where the runs of the rows before row `index` stop: one run past the last of them.
     fn find_slice_end_index(&self, index: usize) -> usize
         requires some { 0 < length (Self.runs self.now).ends }
         requires within { index ≤ (Self.runs self.now).count }

@@ -25,7 +25,7 @@ use runend_windows::decode_flat;
 use std::alloc::Allocator;
 use std::sync::Arc;
 
-/// A column in one of its forms: flat, lists, one value in each row, or run-end encoded.
+/// Holds a column in one of its forms: flat, lists, one value in each row, or run-end encoded.
 #[cycle(array)]
 #[derive(Drop)]
 pub enum ArrayRef<A: Allocator> {
@@ -51,7 +51,7 @@ impl<A: Allocator + Copy> ArrayRef<A> {
         }
     }
 
-    /// Returns whether there are no rows.
+    /// Returns whether the array has no rows.
     pub fn is_empty(&self) -> bool
         ensures { IsTrue result ↔ (length (rows self.now) ≡ 0) }
     {
@@ -85,7 +85,7 @@ impl<A: Allocator + Copy> ArrayRef<A> {
         }
     }
 
-    /// Returns the flat column that this array is, borrowed, or `None` where it has another form.
+    /// Returns the flat column that this array is, borrowed, or `None` for an array of another form.
     pub fn flat_view(&self) -> Option<FlatView<'_, A>>
         ensures flat { IfSome result (λ view. column_of self.now ≡ OfLeaf (leaf_in view)) }
         ensures other { IfNone result (¬ IsLeaf (column_of self.now)) }
@@ -144,8 +144,8 @@ impl<A: Allocator + Copy> ArrayRef<A> {
         }
     }
 
-    /// Returns an array that is equal in form. Its buffers are shared with this one's where those are shared, and else
-    /// copied. Refused only as `OutOfMemory`.
+    /// Returns an array that is equal in form. Shares the buffers that are shared, and copies the others. Refused only
+    /// as `OutOfMemory`.
     pub fn try_clone(&self, ctx: &mut ExecutionCtx<A>) -> VortexResult<ArrayRef<A>>
         ensures only { IsOkUnless result VortexError.OutOfMemory }
         ensures form { IfOk result (λ array. column_of array ≡ column_of self.now) }
@@ -154,9 +154,9 @@ impl<A: Allocator + Copy> ArrayRef<A> {
         self.clone_in(*ctx.allocator(), Buffers::Shared)
     }
 
-    /// Returns an array that is equal in form, with ends, numbers, bits and views in buffers that are shared with none:
-    /// those that this one shows a part of may then be freed. The bytes of texts and the elements of lists stay shared.
-    /// Refused only as `OutOfMemory`.
+    /// Returns an array that is equal in form, whose ends, numbers, bits and views are in buffers that nothing else
+    /// shares: the longer buffers that this array shows a part of may then be freed. The bytes of texts and the
+    /// elements of lists stay shared. Refused only as `OutOfMemory`.
     pub fn compact(&self, ctx: &mut ExecutionCtx<A>) -> VortexResult<ArrayRef<A>>
         ensures only { IsOkUnless result VortexError.OutOfMemory }
         ensures form { IfOk result (λ array. column_of array ≡ column_of self.now) }
@@ -193,10 +193,9 @@ impl<A: Allocator + Copy> ArrayRef<A> {
         }
     }
 
-    /// Returns the rows in a flat form: a flat column is copied as it stands, a constant is written out, and of a run
-    /// column the rows that its runs show are written, with 0, false or the view of nothing under null; runs of lists
-    /// become lists over the same elements. Buffers of texts and elements of lists are shared. Refused as `OutOfMemory`
-    /// alone.
+    /// Returns the rows in a flat form. A flat column is copied as it is; a constant and the rows that runs show are
+    /// written out, with 0, false or the view of nothing under null; runs of lists become lists over the same elements.
+    /// Buffers of texts and elements of lists are shared. Refused only as `OutOfMemory`.
     pub fn canonicalize(&self, ctx: &mut ExecutionCtx<A>) -> VortexResult<ArrayRef<A>>
         ensures only { IsOkUnless result VortexError.OutOfMemory }
         ensures rows { IfOk result (λ array. rows array ≡ rows self.now) }
@@ -208,8 +207,7 @@ impl<A: Allocator + Copy> ArrayRef<A> {
         flat.into_array(*ctx.allocator())
     }
 
-    /// Returns the rows in a flat form, as `canonicalize` writes them, as that form alone. Refused as `OutOfMemory`
-    /// alone.
+    /// Returns the rows in a flat form, as `canonicalize` writes them, as a `Canonical`. Refused only as `OutOfMemory`.
     pub fn to_canonical(&self, ctx: &mut ExecutionCtx<A>) -> VortexResult<Canonical<A>>
         ensures only { IsOkUnless result VortexError.OutOfMemory }
         ensures rows { IfOk result (λ flat. column_rows (canonical_column flat) ≡ rows self.now) }
@@ -221,7 +219,7 @@ impl<A: Allocator + Copy> ArrayRef<A> {
         self.canonicalize_in(*ctx.allocator(), prefill_runs)
     }
 
-    // From `prefill_runs` runs on the rows of booleans start as the value of most runs.
+    // From `prefill_runs` runs on, all rows of booleans are first filled with what most runs show.
     pub(crate) fn canonicalize_in(
         &self,
         alloc: A,
@@ -246,9 +244,8 @@ impl<A: Allocator + Copy> ArrayRef<A> {
         }
     }
 
-    // The rows that runs of these values show, from row `offset` on, `count` many, in a flat form, with 0,
-    // false or the view of nothing under null. Values that are flat are read where they are; a constant
-    // and runs are made flat first.
+    // The `count` rows, from row `offset` on, that runs of these values show, in a flat form, with 0, false or the view
+    // of nothing under null. Values that are flat are read where they are; a constant and runs are made flat first.
     #[cycle(canonicalize_in)]
     pub(crate) fn decode_with(
         &self,
@@ -288,8 +285,8 @@ impl<A: Allocator + Copy> ArrayRef<A> {
         }
     }
 
-    /// Returns the rows from `start` to `stop - 1`, in a flat form: of runs only the values of the runs of these rows
-    /// are looked at, and of a flat form the buffers are shared where they can be. Refused only as `OutOfMemory`.
+    /// Returns the rows from `start` to `stop - 1`, in a flat form. Looks only at those values of a run column that
+    /// these rows show, and shares the buffers of a flat form where it can. Refused only as `OutOfMemory`.
     #[cycle(rows_between)]
     pub fn rows_between(&self, alloc: A, start: usize, stop: usize) -> VortexResult<Canonical<A>>
         requires ordered { start ≤ stop }
@@ -338,7 +335,7 @@ impl<A: Allocator + Copy> ArrayRef<A> {
     }
 }
 
-// The rows of a constant from `start` to `stop - 1`, of which there is one at least, written out.
+// The rows of a constant from `start` to `stop - 1`, of which there has to be one at least, written out.
 fn constant_between<A: Allocator + Copy>(
     alloc: A,
     array: &ConstantArray<A>,

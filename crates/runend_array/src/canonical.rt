@@ -16,7 +16,7 @@ use column_core::{FlatColumn, PrimitiveArray, VortexError, VortexResult};
 use runend_windows::decode_flat;
 use std::alloc::Allocator;
 
-/// An array in a flat form: rows that are stored one by one, or lists.
+/// Holds an array in a flat form: rows that are stored one by one, or lists.
 #[derive(Drop)]
 pub enum Canonical<A: Allocator> {
     Flat(FlatColumn<A>),
@@ -47,9 +47,9 @@ impl<A: Allocator + Copy> Canonical<A> {
         }
     }
 
-    /// Returns the rows that runs of these values show, from row `offset` on, `count` many, in a flat form, with 0,
-    /// false or the view of nothing under null. From `prefill_runs` runs on the rows of booleans start as the value of
-    /// most runs; the answer is the same. Refused only as `OutOfMemory`.
+    /// Returns the `count` rows, from row `offset` on, that runs of these values show, in a flat form, with 0, false or
+    /// the view of nothing under null. From `prefill_runs` runs on, all rows of booleans are first filled with what
+    /// most runs show; the answer is the same. Refused only as `OutOfMemory`.
     pub fn decode_with(
         self,
         alloc: A,

@@ -31,8 +31,8 @@ use runend_windows::{
 use std::alloc::Allocator;
 
 /// Returns the ends and the values of the runs of a column: a run for each longest stretch of equal rows, null being
-/// equal to null. Ends are as narrow as can be. A column whose validity says that all of its rows are null, of which
-/// there is one at least, gives one end in u64 and one constant null. Refused only as `OutOfMemory`.
+/// equal to null. Ends are of the least type that holds them. A column whose validity says that all of its rows are
+/// null, and that has a row, gives one end in u64 and one constant null. Refused only as `OutOfMemory`.
 pub fn runend_encode<A: Allocator + Copy>(
     array: &PrimitiveArray<A>,
     ctx: &mut ExecutionCtx<A>,
@@ -67,9 +67,9 @@ fn encode_nulls<A: Allocator + Copy>(
     Ok((ends, ArrayRef::Constant(values)))
 }
 
-/// Returns the rows that runs show, from row `offset` on, `count` many: a constant null where there is a run and all
-/// values are null, else a flat column with 0, false or the view of nothing under null. From `prefill_runs` runs on the
-/// rows of booleans start as the value of most runs; others make no use of it. Refused only as `OutOfMemory`.
+/// Returns the `count` rows, from row `offset` on, that runs show: a constant null where there is a run and all values
+/// are null, else a flat column with 0, false or the view of nothing under null. From `prefill_runs` runs on, all rows
+/// of booleans are first filled with what most runs show; other types make no use of it. Refused only as `OutOfMemory`.
 pub fn decode_column<A: Allocator + Copy>(
     alloc: A,
     ends: &PrimitiveArray<A>,

@@ -9,7 +9,7 @@ use column_core::{DType, Scalar, ScalarView, VortexError, VortexResult};
 use std::alloc::Allocator;
 use std::marker::Model;
 
-/// One scalar, in each of `len` rows.
+/// Shows one scalar in each of `len` rows.
 #[derive(Drop)]
 pub struct ConstantArray<A: Allocator> {
     scalar: Scalar<A>,
@@ -29,7 +29,7 @@ impl<A: Allocator> Model for ConstantArray<A> {
 }
 
 impl<A: Allocator> ConstantArray<A> {
-    /// Returns the scalar in each of `len` rows. No memory is taken.
+    /// Returns the scalar in each of `len` rows. Takes no memory.
     pub fn new(scalar: Scalar<A>, len: usize) -> Self
         ensures { result ≡ record { dtype = scalar.dtype; value = scalar.value; count = len } }
     {
@@ -58,7 +58,7 @@ impl<A: Allocator> ConstantArray<A> {
         self.len
     }
 
-    /// Returns whether there are no rows.
+    /// Returns whether the column has no rows.
     pub fn is_empty(&self) -> bool
         ensures { IsTrue result ↔ (self.now.count ≡ 0) }
     {
@@ -96,7 +96,7 @@ impl<A: Allocator + Copy> ConstantArray<A> {
     }
 }
 
-/// Null in each of `count` rows. Takes no memory.
+/// Returns null in each of `count` rows. Takes no memory.
 pub fn null_constant<A: Allocator>(dtype: DType, count: usize) -> ConstantArray<A>
     requires { MayBeNull (nullability_of dtype) }
     ensures { result ≡ record { dtype = dtype; value = None; count = count } }

@@ -6,12 +6,12 @@ ghost use Rattle.column_core.specs.FlatView.{leaf_in};
 use column_core::{BitBuffer, FlatColumn, FlatView, VortexError, VortexResult};
 use std::alloc::Allocator;
 
-/// How a copy holds its buffers.
+/// Says how a copy holds its buffers.
 #[derive(Clone, Copy)]
 pub(crate) enum Buffers {
-    /// Shared with the array where those are shared.
+    /// Shares them with the array where those of the array are shared.
     Shared,
-    /// Shared with none.
+    /// Shares none of them.
     Compact,
 }
 

@@ -13,8 +13,8 @@ pub use runend_windows::first_past;
 use runend_windows::{ended_before, first_past_of};
 use std::alloc::Allocator;
 
-/// Returns the run of a row, over a column of ends: the number of ends at or below it, but the last run where that is
-/// past it. The ends are flat, unsigned, strictly increasing, and at least one.
+/// Returns the run of a row, over a column of ends: the number of ends at or below the row, or the last run where no
+/// run ends past it. The ends are flat, unsigned, strictly increasing, and at least one.
 #[tactic(auto, using(runend_windows::proofs::Ends::length_ends_of))]
 pub fn find_physical_index<A: Allocator + Copy>(ends: &ArrayRef<A>, index: usize) -> usize
     requires plain { IsPlainEnds (column_of ends.now) }
@@ -29,9 +29,8 @@ pub fn find_physical_index<A: Allocator + Copy>(ends: &ArrayRef<A>, index: usize
     }
 }
 
-/// Where a slice that ends before row `index` stops, over a column of ends: one run past those whose
-/// ends are below it, but at most the number of runs. The ends are flat, unsigned, strictly
-/// increasing, and at least one.
+/// Returns where a slice that ends before row `index` stops, over a column of ends: one run past those that end below
+/// the row, but at most the number of runs. The ends are flat, unsigned, strictly increasing, and at least one.
 #[tactic(auto, using(runend_windows::proofs::Ends::length_ends_of))]
 pub fn find_slice_end_index<A: Allocator + Copy>(ends: &ArrayRef<A>, index: usize) -> usize
     requires plain { IsPlainEnds (column_of ends.now) }
@@ -62,7 +61,7 @@ pub(crate) fn run_from_first<A: Allocator + Copy>(ends: &ArrayRef<A>, index: usi
     find_physical_index(ends, index)
 }
 
-/// Returns where a slice that ends before row `index` stops as `find_slice_end_index` does, without a search where no
+/// Returns where a slice that ends before row `index` stops, as `find_slice_end_index` does, without a search where no
 /// run ends past the row.
 pub(crate) fn slice_end_from_last<A: Allocator + Copy>(ends: &ArrayRef<A>, index: usize) -> usize
     requires plain { IsPlainEnds (column_of ends.now) }
@@ -92,8 +91,8 @@ pub(crate) fn run_of<A: Allocator + Copy>(ends: &ArrayRef<A>, row: usize) -> usi
     }
 }
 
-/// Returns the run of a row, over a column of strictly increasing ends: run by run from `run` on, which is not past it.
-/// Some run ends past the row.
+/// Returns the run of a row, over a column of strictly increasing ends. Goes run by run from `run` on, which is not
+/// past it. Some run has to end past the row.
 pub(crate) fn run_from<A: Allocator + Copy>(ends: &ArrayRef<A>, run: usize, row: usize) -> usize
     requires plain { IsPlainEnds (column_of ends.now) }
     requires increasing { IsStrictlyIncreasing (end_numbers (column_of ends.now)) }

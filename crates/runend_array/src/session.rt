@@ -7,8 +7,8 @@ ghost use Rattle.runend_array.specs.declared.session.Kernel.{Kernel};
 use std::alloc::Allocator;
 use std::marker::Model;
 
-/// A kernel that serves run columns. Where it is not registered, a column is decoded first; rows,
-/// types, answers and refusals are the same.
+/// Names a kernel that serves run columns. Where it is not registered, a column is decoded first; rows, types, answers
+/// and refusals are the same.
 #[derive(Clone, Copy, Debug, PartialEq, Eq)]
 pub enum Kernel {
     Slice,
@@ -25,27 +25,27 @@ pub enum Kernel {
     IsSorted,
 }
 
-/// By which kernels choose between equal ways. They decide form and cost alone. The default is 0
+/// Holds the thresholds by which kernels choose between equal ways. They decide only form and cost. The default is 0
 /// throughout.
 #[derive(Clone, Copy, Debug, Default, PartialEq, Eq)]
 pub struct Thresholds {
-    /// Runs from which on a bool decoder starts with all rows as the majority of runs.
+    /// Sets the least number of runs at which a decoder of booleans first fills all rows with what most runs show.
     pub prefill_runs: usize,
-    /// Selected rows below which a filter takes rows directly.
+    /// Sets the number of selected rows below which a filter takes rows directly.
     pub min_run_filter_rows: usize,
-    /// A filter takes rows directly where selected rows times this are fewer than the runs.
+    /// Lets a filter take rows directly where the selected rows times this number are fewer than the runs.
     pub filter_factor: usize,
-    /// Runs for each index up to which a merge serves sorted indices.
+    /// Sets the greatest number of runs for each index at which sorted indices are merged with the ends.
     pub sorted_runs_per_index: usize,
-    /// Rows for each index up to which a table of the runs of all rows serves.
+    /// Sets the greatest number of rows for each index at which a table says the run of each row.
     pub table_len_per_index: usize,
-    /// Runs from which on indices may be sorted for a merge.
+    /// Sets the least number of runs at which indices may be sorted for a merge.
     pub unsorted_min_runs: usize,
-    /// Runs for each index up to which indices may be sorted for a merge.
+    /// Sets the greatest number of runs for each index at which indices may be sorted for a merge.
     pub unsorted_runs_per_index: usize,
 }
 
-/// Which kernels are registered, and the thresholds by which they choose.
+/// Says which kernels are registered, and holds the thresholds by which they choose.
 #[derive(Drop)]
 pub struct VortexSession {
     registered: [bool; 12],
@@ -105,7 +105,7 @@ impl VortexSession {
     }
 }
 
-/// What a call is given: its session, and the allocator of what it makes.
+/// Holds what a call is given: its session, and the allocator of what it makes.
 #[derive(Drop)]
 pub struct ExecutionCtx<A: Allocator> {
     session: VortexSession,
@@ -139,7 +139,7 @@ impl<A: Allocator + Copy> ExecutionCtx<A> {
         &self.session
     }
 
-    /// Returns the session, to be changed: the context has it as it was last written.
+    /// Returns the session, to be changed; the context keeps what is written to it.
     pub fn session_mut(&mut self) -> &mut VortexSession
         ensures* writes_back { sem 𝓛 (lends_session A.row A.Allocator self.entry result) }
         ensures value { result.now ≡ self.old }

@@ -35,8 +35,8 @@ use runend_windows::{no_null, repeated_items};
 use std::alloc::Allocator;
 use std::rc::Rc;
 
-/// Returns a constant, written out: where it is null, the validity says so of all rows, else no row is null. Null of a
-/// list type is written as lists without elements. Refused only as `OutOfMemory`.
+/// Returns a constant, written out: a null one with a validity that says so of all rows, any other without a null row.
+/// Null of a list type is written as lists without elements. Refused only as `OutOfMemory`.
 pub(crate) fn write_constant<A: Allocator + Copy>(
     alloc: A,
     constant: &ConstantArray<A>,
@@ -261,7 +261,7 @@ fn no_numbers<A: Allocator>(alloc: A, ptype: PType) -> PrimitiveValues<A>
     }
 }
 
-// A flat column of that type, which is none of lists, without rows.
+// A flat column of that type, which is not a type of lists, without rows.
 fn no_flat<A: Allocator + Copy>(alloc: A, dtype: DType) -> VortexResult<FlatColumn<A>>
     requires { ¬ IsLists dtype }
     ensures only { IsOkUnless result VortexError.OutOfMemory }
@@ -332,7 +332,7 @@ fn shared_elements<A: Allocator + Copy>(
     Ok(shared)
 }
 
-// Lists of those elements, of which there are none.
+// Lists of elements of that type, without rows and without elements.
 fn no_lists<A: Allocator + Copy>(
     alloc: A,
     element: ElementDType,

@@ -37,7 +37,7 @@ built_of_none dtype ends values single no_ends typed none =
     subst (λ (es : List ℕ). IsTightCover [] es values.rows) (sym no_ends) (subst (λ (vs : List (Option Value)). IsTightCover [] [] vs) (sym none) (IsTightCover-of_none [] refl)) in
     (built_of_cover dtype [] ends values None single typed cover (ap length none), rows_of_cover [] ends values.rows cover)
 
--- no end of a part that is put behind rows is past the last row that there can be
+-- no end of a part that is appended to rows is past the last row that there can be
 pub ends_within : (own : Built) (part : List (Option Value)) (dtype : DType) (ends : List ℕ) (values : PlainColumn) (last : Option ScalarForm) (part_ends : List ℕ) (part_values : List (Option Value))
     → built_with dtype (shown_rows ends values.rows) ≡ own → IsBuilt dtype ends values last → IsTightCover part part_ends part_values → length own.rows + length part < 2 ^ 64
     → All (λ end. last_end ends + end < 2 ^ 64) part_ends
@@ -48,7 +48,7 @@ ends_within own part dtype ends values last part_ends part_values is built cover
     let rows = ap (λ (b : Built). length b.rows) is in
     omega arith
 
--- the last item of a list is the last one of those that stand behind others
+-- the last item of a list is the last one of the list with others before it
 last_of_append : (front rest : List (Option Value)) (value : Option Value) → slice_get rest (length rest - 1) ≡ Some value → slice_get (front ++ rest) (length (front ++ rest) - 1) ≡ Some value
 last_of_append [] rest value last = last
 last_of_append (first ∷ others) [] value last = cc

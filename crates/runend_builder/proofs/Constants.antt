@@ -19,7 +19,7 @@ use Rattle.column_core.specs.Value.{Single, Value}
 use Rattle.runend_array.specs.Column.{Column, OfConstant, OfLeaf, OfLists, OfRuns, column_rows}
 use Rattle.runend_builder.specs.Encoded.{IsConstantForm}
 
--- the end of the one run, or none where there is no row
+-- the end of the one run, or none without rows
 abbrev pub constant_ends : ℕ → List ℕ
 constant_ends count = replicate (min count 1) count
 

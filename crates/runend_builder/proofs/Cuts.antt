@@ -1,4 +1,4 @@
--- Texts that are put one behind the other into one buffer.
+-- Texts that are put one after the other into one buffer.
 use Rattle.std.proofs.Common.{◌≡◌, ◌∙◌, ◌+◌, ◌-◌, ◌<◌, ◌≤◌, ℕ, zero, suc, List, [], ◌∷◌, ◌++◌, Bool, false, Some, length, map, drop, take, refl, sym, ap, subst, arith, get_or}
 use Rattle.std.specs.Prelude.{All, option_map, slice_get, slice_index_or, slice_range}
 use Rattle.std.proofs.lemmas.List.{drop-append-le, drop_at, length-append, length-drop, map-append, take-append-le, take_all}
@@ -27,7 +27,7 @@ within_one bytes v first stop = record {
   bytes = subst (λ (n : ℕ). v.start + v.size ≤ length (slice_index_or (bytes ∷ []) n [])) (sym first) stop;
 }
 
--- bytes behind a range do not change it
+-- bytes after a range do not change it
 range_stays : (bytes more : List ℕ) (start stop : ℕ) → start ≤ stop → stop ≤ length bytes → slice_range (bytes ++ more) start stop ≡ slice_range bytes start stop
 range_stays bytes more start stop ordered within =
     let long = length-drop start bytes in
@@ -48,7 +48,7 @@ still_cut kind bytes more v cut =
       empty = cut.empty;
     }
 
--- the view of a text that is put behind cuts it
+-- the view of a text that is appended cuts it
 cut_of_new : (bytes text : List ℕ) → view_bytes ((bytes ++ text) ∷ []) (text_view bytes text) ≡ text
 cut_of_new bytes [] = refl
 cut_of_new bytes (first ∷ others) =

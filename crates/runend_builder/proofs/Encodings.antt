@@ -24,7 +24,7 @@ use Rattle.runend_builder.proofs.Parts.{parts_of_rows}
 use Rattle.runend_builder.specs.Builder.{Built, IsBuilt, built_with, part_rows, shown_rows}
 use Rattle.runend_builder.proofs.Builds.{rows_of_cover}
 
--- lists alone are refused
+-- only lists are refused
 no_fault : (dtype : DType) → ¬ IsLists dtype → list_fault dtype ≡ None
 no_fault (column.Bool n) single = refl
 no_fault (column.Primitive t n) single = refl
@@ -33,7 +33,7 @@ no_fault (column.Utf8 n) single = refl
 no_fault (column.Binary n) single = refl
 no_fault (column.List e n) single = absurd (single tt)
 
--- so memory alone refuses
+-- so only memory refuses
 only_error : (fault : Option VortexError) (error : VortexError) → fault ≡ None → IsErrorFor fault error → error ≡ OutOfMemory
 only_error fault error none (inl only) = only
 only_error fault error none (inr some) = cc
@@ -60,7 +60,7 @@ positive : (n : ℕ) → ¬ (n ≡ 0) → 0 < n
 positive zero some = absurd (some refl)
 positive (suc n) some = omega arith
 
--- without values there are no rows
+-- without values there are 0 rows
 nil_of : {X : Type 0} (xs : List X) → length xs ≡ 0 → xs ≡ []
 nil_of [] none = refl
 nil_of (x ∷ xs) none = absurd (omega arith)

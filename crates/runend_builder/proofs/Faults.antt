@@ -15,7 +15,7 @@ both_tests result true true is none = (refl, refl)
 both_tests result true false is none = absurd (none WindowOverflow is)
 both_tests result false small is none = absurd (none TypeMismatch is)
 
--- where there is no fault, the rows are of the builder's type, and there are fewer than 2^64 in all
+-- without a fault, the rows are of the builder's type, and there are fewer than 2^64 in all
 pub no_append_fault : (own dtype : DType) (count more : ℕ) (result : Option VortexError) → result ≡ append_fault own dtype count more → ((error : VortexError) → ¬ (result ≡ Some error))
     → (dtype ≡ own) × (count + more < 2 ^ 64)
 no_append_fault own dtype count more result is none =

@@ -1,4 +1,4 @@
--- What a builder holds, once a column is put behind it, and as a column.
+-- What a builder holds, once a column is appended, and as a column.
 use Rattle.std.proofs.Common.{◌≡◌, ◌∙◌, ℕ, ℤ, List, [], ◌∷◌, ◌++◌, Bool, true, false, length, drop, pos, refl, sym, ap, subst, arith, replicate}
 use Rattle.std.specs.Prelude.{All, Err, IfOk, Ok, OnOk, Result, is_err}
 use Rattle.std.proofs.lemmas.List.{length-append, length-drop, length-map}
@@ -91,7 +91,7 @@ counted_next xs ys grown bits cs k own others is =
     let all = ap length is in
     omega arith
 
--- items behind others, with their flags
+-- items after others, with their flags
 record Next (own part grown : Leaf) (bits : List Bool) (start : ℕ) : Type 0 where
   counted : length (bits ++ drop start (flags (leaf_validity part) (leaf_count part))) ≡ leaf_count grown
   blank : AreBlank grown (bits ++ drop start (flags (leaf_validity part) (leaf_count part)))
@@ -169,7 +169,7 @@ next_of (OfVarBins o) (OfVarBins p) (OfVarBins g) bits start n held h computed f
       typed = λ m. sym (kind_with g.kind (nullability_in g.validity) m m refl) ∙ ap (λ (k : VarBinKind). kind_dtype k m) h.0 ∙ kind_with o.kind (nullability_in o.validity) m m refl;
     }
 
--- a builder, once a column is put behind it
+-- a builder, once a column is appended
 pub grown_next : (own part grown : Leaf) (bits next : List Bool) (start : ℕ) (n : Nullability) → IsGrown own bits n → AreAppended own part start grown → AreSound grown → IsComputedLeaf part
     → HasLength (leaf_validity part) (leaf_count part) → leaf_dtype part ≡ type_with own n → next ≡ bits ++ drop start (flags (leaf_validity part) (leaf_count part))
     → IsGrown grown next n × (single_rows (with_validity grown (ByBits next)) ≡ single_rows (with_validity own (ByBits bits)) ++ drop start (single_rows part)) × (type_with grown n ≡ type_with own n)

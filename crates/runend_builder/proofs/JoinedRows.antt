@@ -41,7 +41,7 @@ filter_of_joined mask mask' rows rows' none none' =
       fault-from_fits (length (mask ++ mask')) (length (rows ++ rows')) (omega (arith, length-append mask mask', length-append rows rows')),
     )
 
--- what is left of joined lists behind so many items
+-- what is left of joined lists after n items
 dropped : {X : Type 0} (n : ℕ) (xs ys : List X) → drop n (xs ++ ys) ≡ drop n xs ++ drop (n - length xs) ys
 dropped n xs ys = elim (cases_lt (length xs) n) [
   | inl past ↦
@@ -55,7 +55,7 @@ dropped n xs ys = elim (cases_lt (length xs) n) [
       drop-append-le n xs ys within ∙ ap (λ (k : ℕ). drop n xs ++ drop k ys) (sym none)
 ]
 
--- the first so many items of joined lists
+-- the first n items of joined lists
 taken : {X : Type 0} (n : ℕ) (xs ys : List X) → take n (xs ++ ys) ≡ take n xs ++ take (n - length xs) ys
 taken n xs ys = elim (cases_lt (length xs) n) [
   | inl past ↦

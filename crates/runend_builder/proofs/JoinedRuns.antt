@@ -18,7 +18,7 @@ last_next x y xs = simp unary_clauses
 without_last-next : {X : Type 0} (x y : X) (xs : List X) → without_last (x ∷ y ∷ xs) ≡ x ∷ without_last (y ∷ xs)
 without_last-next x y xs = simp unary_clauses
 
--- tiles behind so many rows
+-- tiles after `count` rows
 Tiles-behind : {A : Type 0} (count start stop : ℕ) (ends : List ℕ) (values : List A) → Tiles start stop ends values → Tiles (count + start) (count + stop) (behind count ends) values
 Tiles-behind count start stop [] [] tiles = ap (λ (k : ℕ). count + k) tiles
 Tiles-behind count start stop [] (value ∷ values) tiles = absurd tiles
@@ -47,7 +47,7 @@ differs : {A : Type 0} (value : A) (values : List A) → ((value' : A) → slice
 differs value [] h = tt
 differs value (next ∷ values) h = h next refl
 
--- tiles behind tiles
+-- tiles after tiles
 Tiles-append : {A : Type 0} (start mid stop : ℕ) (ends ends' : List ℕ) (values values' : List A) → Tiles start mid ends values → Tiles mid stop ends' values'
     → DiffersAtSeam values values' → Tiles start stop (ends ++ ends') (values ++ values')
 Tiles-append start mid stop [] ends' [] values' tiles tiles' seam = subst (λ (k : ℕ). Tiles k stop ends' values') (sym tiles) tiles'
@@ -64,7 +64,7 @@ Tiles-append start mid stop (end ∷ next ∷ ends) ends' (value ∷ next_value 
       (λ a b last first. seam a b (last_next value next_value values ∙ last) first),
 )
 
--- what they show before the seam, and behind it
+-- what they show before the seam, and after it
 shown-before : {A : Type 0} (start mid : ℕ) (ends ends' : List ℕ) (values values' : List A) (i : ℕ) → Tiles start mid ends values → start ≤ i → i < mid
     → shown_at (ends ++ ends') (values ++ values') i ≡ shown_at ends values i
 shown-before start mid [] ends' [] values' i tiles from to = absurd (let same : start ≡ mid = tiles in omega arith)
@@ -190,7 +190,7 @@ first_shown start stop (end ∷ ends) (v ∷ values) value i tiles first before 
     let filled = tiles.0 in
     shown_at-here end ends v values i (omega arith) ∙ first
 
--- a row behind the first part
+-- a row after the first part
 shown_in_second : (rows rows' : List (Option Value)) (ends' : List ℕ) (values' : List (Option Value)) (i : ℕ) → IsTightCover rows' ends' values'
     → length rows ≤ i → i < length rows + length rows' → slice_get (rows ++ rows') i ≡ shown_at (behind (length rows) ends') values' i
 shown_in_second rows rows' ends' values' i cover' from to =
@@ -201,7 +201,7 @@ shown_in_second rows rows' ends' values' i cover' from to =
     ∙ sym (shown-behind (length rows) ends' values' (i - length rows))
     ∙ ap (shown_at (behind (length rows) ends') values') (sym parts)
 
--- tiles of the second part, behind the first
+-- tiles of the second part, after the first
 second_tiles : (rows rows' : List (Option Value)) (ends' : List ℕ) (values' : List (Option Value)) → IsTightCover rows' ends' values'
     → Tiles (length rows) (length (rows ++ rows')) (behind (length rows) ends') values'
 second_tiles rows rows' ends' values' cover' =
@@ -212,7 +212,7 @@ second_tiles rows rows' ends' values' cover' =
     subst (λ (k : ℕ). Tiles k (length (rows ++ rows')) (behind (length rows) ends') values') start
     (subst (λ (k : ℕ). Tiles (length rows + 0) k (behind (length rows) ends') values') stop tiles)
 
--- runs behind each other
+-- runs that follow each other
 apart : (rows rows' : List (Option Value)) (ends ends' : List ℕ) (values values' : List (Option Value))
     → length rows + length rows' < 2 ^ 64 → IsTightCover rows ends values → IsTightCover rows' ends' values'
     → DiffersAtSeam values values' → IsTightCover (rows ++ rows') (ends ++ behind (length rows) ends') (values ++ values')

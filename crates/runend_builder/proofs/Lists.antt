@@ -23,7 +23,7 @@ rest_all {X} xs now whole k past before = sym (append-nil now) ∙ ap (λ (ys : 
 pub range_is_rest : {X : Type 0} (xs : List X) (start : ℕ) → slice_range xs start (length xs) ≡ drop start xs
 range_is_rest xs start = let long = length-drop start xs in take_all (length xs - start) (drop start xs) (omega arith)
 
--- items behind others leave those that stood there
+-- items after others leave those that were there
 pub first_stay : {X : Type 0} (old now next more : List X) → length old ≤ length now → take (length old) now ≡ old → next ≡ now ++ more → (length old ≤ length next) × (take (length old) next ≡ old)
 first_stay old now next more long first grown =
     let size = ap length grown in
@@ -33,7 +33,7 @@ first_stay old now next more long first grown =
 pub first_kept : {X : Type 0} (old now next : List X) → take (length old) now ≡ old → next ≡ now → take (length old) next ≡ old
 first_kept old now next first same = ap (take (length old)) same ∙ first
 
--- copies behind others are what is left of more copies
+-- copies after others are what is left of more copies
 pub copies_behind : {X T E : Type 0} (result : Result T E) (now old copies : List X) (start count : ℕ) (x : X) → copies ≡ replicate count x → OnOk result (now ≡ old ++ replicate (count - start) x)
     → OnOk result (now ≡ old ++ drop start copies)
 copies_behind {X} (Ok value) now old copies start count x same pushed = pushed ∙ ap (λ (xs : List X). old ++ xs) (sym (ap (drop start) same ∙ drop-replicate start count x))

@@ -1,4 +1,4 @@
--- Texts in a range of one buffer, and behind others once that range stands there.
+-- Texts in a range of one buffer, and after others once that range is there.
 use Rattle.std.proofs.Common.{◌≡◌, ◌∙◌, ◌+◌, ◌-◌, ◌<◌, ◌≤◌, ℕ, zero, suc, List, [], ◌∷◌, ◌++◌, Bool, true, false, Some, length, map, drop, take, refl, sym, ap, subst, arith, get_or, append_assoc}
 use Rattle.std.specs.Prelude.{All, Err, Ok, OnErr, OnOk, Result, slice_range}
 use Rattle.std.proofs.Math.Seq.{drop-append-add}
@@ -54,7 +54,7 @@ cut_from_range buffer first last start size after before =
     ∙ take-take size m (drop k (drop first buffer)) (omega arith)
     ∙ ap (take size) (drop-drop k first buffer ∙ ap (λ (n : ℕ). drop n buffer) at)
 
--- and once the range stands behind other bytes
+-- and once the range is after other bytes
 cut_behind : (old buffer : List ℕ) (first last start size : ℕ) → first ≤ start → start + size ≤ last
     → slice_range (old ++ slice_range buffer first last) (length old + (start - first)) (length old + (start - first) + size) ≡ slice_range buffer start (start + size)
 cut_behind old buffer first last start size after before =

@@ -1,4 +1,4 @@
--- Rows of items and flags, of which others are put behind.
+-- Rows of items and flags, to which others are appended.
 use Rattle.std.proofs.Common.{◌≡◌, ◌∙◌, ℕ, zero, suc, List, [], ◌∷◌, ◌++◌, Bool, Option, Some, None, length, map, drop, refl, sym, ap, arith}
 use Rattle.std.specs.Prelude.{All, if◌then◌else◌, option_map}
 use Rattle.std.proofs.lemmas.List.{drop-map, map-append}
@@ -10,7 +10,7 @@ use Rattle.column_core.specs.Value.{FlatValue, Single, Value}
 abbrev pub rows_of : {X : Type 0} → (X → FlatValue) → List X → List Bool → List (Option Value)
 rows_of value items bits = map (option_map Single) (map (option_map value) (optionals items bits))
 
--- optional items behind others
+-- optional items after others
 optionals-append : {X : Type 0} (xs ys : List X) (bs cs : List Bool) → length bs ≡ length xs → optionals (xs ++ ys) (bs ++ cs) ≡ optionals xs bs ++ optionals ys cs
 optionals-append [] ys [] cs same = refl
 optionals-append [] ys (b ∷ bs) cs same = cc

@@ -47,14 +47,14 @@ pub record IsBuilt (dtype : DType) (ends : List ℕ) (values : PlainColumn) (las
   pub cover : IsTightCover (shown_rows ends values.rows) ends values.rows
   pub ended : IsLastOf dtype values.rows last
 
--- rows have so many runs: as many as their only tight exact cover
+-- rows have `count` runs: as many as their only tight exact cover
 pub record HasRuns (rows : List (Option Value)) (count : ℕ) : Type 0 where
   pub ends : List ℕ
   pub values : List (Option Value)
   pub cover : IsTightCover rows ends values
   pub counted : length ends ≡ count
 
--- rows of another type, or more rows behind so many than a column has
+-- rows of another type, or more rows, with those before, than a column may have
 abbrev pub append_fault : DType → DType → ℕ → ℕ → Option VortexError
 append_fault own dtype count more =
     cond ((dtype_eq.ghosts).eq dtype own) (cond (nat_lt (count + more) (2 ^ 64)) None (Some WindowOverflow)) (Some TypeMismatch)

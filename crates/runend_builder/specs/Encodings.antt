@@ -7,7 +7,7 @@ use Rattle.runend_windows.specs.Cover.{IsTightCover}
 abbrev pub without_last : {X : Type 0} → List X → List X
 without_last xs = take (length xs - 1) xs
 
--- ends behind so many rows
+-- ends after a number of rows
 abbrev pub behind : ℕ → List ℕ → List ℕ
 behind count ends = map (λ end. count + end) ends
 
@@ -16,8 +16,8 @@ pub record AtSeam (values values' : List (Option Value)) (value value' : Option 
   pub last : slice_get values (length values - 1) ≡ Some value
   pub first : slice_get values' 0 ≡ Some value'
 
--- where the values at the seam differ, or there is no seam, the runs stand behind each other; where they are equal the
--- first of the two runs is joined with the second
+-- where the values at the seam differ, or a part has no run, the runs follow each other; where they are equal the first
+-- of the two runs is joined with the second
 abbrev pub EncodingOfJoined : Type 0
 EncodingOfJoined = (rows rows' : List (Option Value)) (ends ends' : List ℕ) (values values' : List (Option Value))
     → length rows + length rows' < 2 ^ 64 → IsTightCover rows ends values → IsTightCover rows' ends' values'

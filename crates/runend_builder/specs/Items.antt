@@ -61,7 +61,7 @@ with_validity (OfVarBins form) validity = OfVarBins (varbin_with form.kind form.
 abbrev pub type_with : Leaf → Nullability → DType
 type_with leaf nullability = with_nullability (leaf_dtype leaf) nullability
 
--- items that are put behind items of the same kind, from this one on
+-- items that are appended to items of the same kind, from this one on
 abbrev pub AreAppended : Leaf → Leaf → ℕ → Leaf → Type 0
 AreAppended (OfNumbers old) (OfNumbers part) start (OfNumbers grown) = (grown.ptype ≡ old.ptype) × (grown.numbers ≡ old.numbers ++ drop start part.numbers)
 AreAppended (OfTruths old) (OfTruths part) start (OfTruths grown) = grown.bits ≡ old.bits ++ drop start part.bits

@@ -12,7 +12,7 @@ abbrev pub AreNull : List (Option Value) → Type 0
 AreNull rows = All (λ row. row ≡ None) rows
 
 -- the row furthest to one side of two parts is that of the second where it is past that of the first, and else that of
--- the first; a part of nulls alone changes nothing
+-- the first; a part with only nulls changes nothing
 pub record FurthestOfJoined (side : Ordering) (rows rows' : List (Option Value)) : Type 0 where
   pub second : (row row' : Option Value) → IsFurthest side rows row → IsFurthest side rows' row' → row_cmp row' row ≡ side → IsFurthest side (rows ++ rows') row'
   pub first : (row row' : Option Value) → IsFurthest side rows row → IsFurthest side rows' row' → row_cmp row' row ≢ side → IsFurthest side (rows ++ rows') row
@@ -32,7 +32,7 @@ HaveEqualFirsts rows rows' = (row row' : Option Value) → slice_get rows 0 ≡ 
 abbrev pub ConstantOfJoined : Type 0
 ConstantOfJoined = (rows rows' : List (Option Value)) → IsConstant (rows ++ rows') ↔ (IsConstant rows × IsConstant rows' × HaveEqualFirsts rows rows')
 
--- the last row of the first part, where both have one, may stand before the first row of the second
+-- the last row of the first part, where both have one, may come before the first row of the second
 abbrev pub HasStepAtSeam : Bool → List (Option Value) → List (Option Value) → Type 0
 HasStepAtSeam strict rows rows' = (row row' : Option Value) → slice_get rows (length rows - 1) ≡ Some row → slice_get rows' 0 ≡ Some row'
     → IsTrue (is_step_of strict (row_cmp row row'))

@@ -1,4 +1,4 @@
--- What operations that work row by row answer of joined rows.
+-- What operations that work row by row answer for joined rows.
 use Rattle.std.specs.Prelude.{◌≡◌, ◌≤◌, ◌-◌, ◌++◌, ℕ, ℤ, Bool, List, Option, None, length, min, slice_range}
 use Rattle.std.specs.Option.{option_or}
 use Rattle.column_base.specs.declared.dtype.DType.{DType}

@@ -5,7 +5,7 @@ use Rattle.std.specs.List.{list_all}
 use Rattle.column_sums.specs.RowSum.{are_null, last_after, partial_sums, sum_from, sum_of_rows}
 use Rattle.column_sums.specs.SumRange.{SumRange, is_within}
 
--- the sums on the way of rows alone, and their total
+-- the partial sums of rows, from 0 on, and their total
 abbrev pub sums_alone : List (Option ℤ) → List ℤ
 sums_alone rows = partial_sums (pos 0) rows
 
@@ -28,7 +28,7 @@ SumOfJoined = (range : SumRange) (rows rows' : List (Option ℤ))
     → (sum_of_rows range (rows ++ rows') ≡ option_and_then (λ sum. sum_from range sum rows') (sum_of_rows range rows))
     × (are_null (rows ++ rows') ≡ (are_null rows && are_null rows'))
 
--- rows that are added to a sum, by their sums alone
+-- rows that are added to a sum, by only their partial sums
 abbrev pub SumFromAnySum : Type 0
 SumFromAnySum = (range : SumRange) (sum : ℤ) (rows : List (Option ℤ))
     → sum_from range sum rows ≡ (if list_all (λ n. is_within range (sum +ℤ n)) (sums_alone rows) then Some (sum +ℤ total rows) else None)
@@ -39,7 +39,8 @@ pub record AreExtremes (ns : List ℤ) (low high : ℤ) : Type 0 where
   pub high_among : Contains ns high
   pub between : All (λ n. (low ≤ℤ n) × (n ≤ℤ high)) ns
 
--- rows that are added to a sum, by the least and the greatest of their sums alone; with no valid row the sum stays
+-- rows that are added to a sum, by only the least and the greatest of their partial sums; with no valid row the sum
+-- stays
 pub record SumFromExtremes (range : SumRange) (sum : ℤ) (rows : List (Option ℤ)) : Type 0 where
   pub some : (low high : ℤ) → AreExtremes (sums_alone rows) low high
       → sum_from range sum rows ≡ (if is_within range (sum +ℤ low) && is_within range (sum +ℤ high) then Some (sum +ℤ total rows) else None)
@@ -59,7 +60,7 @@ pub record NumbersOfJoined (rows rows' : List (Option ℤ)) : Type 0 where
 abbrev pub ThreeNumbersOfJoined : Type 0
 ThreeNumbersOfJoined = (rows rows' : List (Option ℤ)) → NumbersOfJoined rows rows'
 
--- of rows that are not negative the sums of the parts are added
+-- for rows that are not negative, the sums of the parts are added
 abbrev pub SumOfJoinedNaturals : Type 0
 SumOfJoinedNaturals = (range : SumRange) (rows rows' : List (Option ℤ)) → All IsNatural rows → All IsNatural rows'
     → sum_of_rows range (rows ++ rows') ≡ added range (sum_of_rows range rows) (sum_of_rows range rows')

@@ -1,4 +1,4 @@
--- Texts or bytes that are put one behind the other into one buffer.
+-- Texts or bytes that are put one after the other into one buffer.
 use Rattle.std.specs.Prelude.{◌≡◌, ℕ, List, [], ◌∷◌, All, length, map}
 use Rattle.column_core.specs.VarBinForm.{IsOfKind, IsWithinBuffer, view_bytes, zero_view}
 use Rattle.column_core.specs.declared.varbinview.View.{View}
@@ -8,7 +8,7 @@ use Rattle.column_core.specs.declared.varbinview.VarBinKind.{VarBinKind}
 abbrev pub texts_of : List (List ℕ) → List View → List (List ℕ)
 texts_of buffers views = map (view_bytes buffers) views
 
--- the view of a text that is put behind the bytes: that of nothing is the zero view
+-- the view of a text that is put after the bytes: the view of nothing is the zero view
 abbrev pub text_view : List ℕ → List ℕ → View
 text_view bytes [] = zero_view
 text_view bytes (first ∷ others) = record { buffer = 0; start = length bytes; size = length (first ∷ others) }

@@ -7,8 +7,8 @@ ghost use Rattle.column_base.specs.Words.{first_bits, IsWordOf};
 use column_core::{BitBuffer, BitBufferMut, Validity, VortexError, VortexResult};
 use std::alloc::Allocator;
 
-/// Puts behind the flags, for each of `count` rows from row `start` on, whether it is not null. Refused as
-/// `OutOfMemory` alone, and then the flags stay.
+/// Appends a flag for each of `count` rows from row `start` on, which says whether it is not null. Refused only as
+/// `OutOfMemory`, and then the flags stay as they are.
 pub(crate) fn append_flags<A: Allocator>(
     flags: &mut Vec<bool, A>,
     validity: &Validity<A>,
@@ -30,7 +30,7 @@ pub(crate) fn append_flags<A: Allocator>(
     }
 }
 
-// Puts so many copies of a flag behind the flags. Refused only as `OutOfMemory`, and then the flags stay.
+// Appends `count` copies of a flag. Refused only as `OutOfMemory`, and then the flags stay as they are.
 fn append_copies<A: Allocator>(
     flags: &mut Vec<bool, A>,
     flag: bool,
@@ -45,7 +45,7 @@ fn append_copies<A: Allocator>(
     Ok(())
 }
 
-/// Puts the bits from bit `start` on behind the others. Refused only as `OutOfMemory`, and then the others stay.
+/// Appends the bits from bit `start` on. Refused only as `OutOfMemory`, and then the others stay as they are.
 pub(crate) fn append_bits<A: Allocator>(
     grown: &mut Vec<bool, A>,
     bits: &BitBuffer<A>,
@@ -83,7 +83,7 @@ fn words_of<A: Allocator + Copy>(alloc: A, bits: &[bool]) -> VortexResult<Vec<u6
     Ok(words)
 }
 
-// Up to 64 bits as a word, which has 0 behind them.
+// Up to 64 bits as a word, with 0 after them.
 #[inline(always)]
 fn word_of(bits: &[bool]) -> u64
     requires { length bits.now ≤ 64 }

@@ -22,16 +22,16 @@ use std::alloc::Allocator;
 use std::marker::Model;
 use std::mem::replace;
 
-/// The encoding of rows that come batch by batch, of any type but lists. It holds runs and not rows: an end and a value
-/// for each run of the encoding of all rows so far.
+/// Encodes rows of any type but lists that come batch by batch. It holds runs and not rows: an end and a value for each
+/// run of the encoding of all rows so far.
 #[derive(Drop)]
 pub struct RunBuilder<A: Allocator> {
     dtype: DType,
-    /// Where each run ends, in rows.
+    /// Holds where each run ends, in rows.
     ends: Vec<u64, A>,
-    /// What each run shows.
+    /// Holds what each run shows.
     values: FlatBuilder<A>,
-    /// What the last run shows, if there is one.
+    /// Holds what the last run shows, if there is one.
     last: Option<Scalar<A>>,
 }
 
@@ -66,7 +66,7 @@ impl<A: Allocator + Copy> RunBuilder<A> {
         last_of(&self.ends) as usize
     }
 
-    /// Returns whether there are no rows.
+    /// Returns whether the builder has no rows.
     pub fn is_empty(&self) -> bool
         ensures { IsTrue result ↔ (length self.now.rows ≡ 0) }
     {
@@ -87,9 +87,9 @@ impl<A: Allocator + Copy> RunBuilder<A> {
         self.ends.len()
     }
 
-    /// Puts the rows of a batch, in any form, behind the rows. Refused as `TypeMismatch` for a batch of another type,
-    /// then as `WindowOverflow` where there were 2^64 rows or more, both before any memory is taken; else only as
-    /// `OutOfMemory`. Where it is refused, the rows stay.
+    /// Appends the rows of a batch, which is of any form. Refused as `TypeMismatch` for a batch of another type, then
+    /// as `WindowOverflow` where there were 2^64 rows or more, both before any memory is taken; else only as
+    /// `OutOfMemory`. Where it is refused, the rows stay as they are.
     pub fn append_rows(
         &mut self,
         batch: &ArrayRef<A>,
@@ -110,8 +110,8 @@ impl<A: Allocator + Copy> RunBuilder<A> {
         self.append_part(*ctx.allocator(), batch)
     }
 
-    /// Puts `count` rows of one value, or of null, after the rows. Refused as `append_rows` refuses that many rows of
-    /// the value's type, and then the rows stay. Where the last row is of this value, no memory is taken: so rows may
+    /// Appends `count` rows of one value, or of null. Refused as `append_rows` refuses as many rows of the value's
+    /// type, and then the rows stay as they are. Where the last row has this value, no memory is taken: so rows may
     /// come one by one.
     pub fn append_value(&mut self, value: &Scalar<A>, count: usize) -> VortexResult<()>
         ensures refused { IsRefusedBy (append_fault self.old.dtype value.now.dtype (length self.old.rows) count)
@@ -133,8 +133,8 @@ impl<A: Allocator + Copy> RunBuilder<A> {
         self.append_run(value, count)
     }
 
-    /// Returns the encoding of all rows so far, which the builder keeps: what `encode_rows` answers for a column of
-    /// them. Refused only as `OutOfMemory`.
+    /// Returns the encoding of all rows so far, as `encode_rows` returns it for a column of them. The builder keeps its
+    /// rows. Refused only as `OutOfMemory`.
     pub fn encoding(&self, ctx: &mut ExecutionCtx<A>) -> VortexResult<RunEndArray<A>>
         ensures only { IsOkUnless result VortexError.OutOfMemory }
         ensures encoded { IfOk result (λ runs. IsEncodedRows self.now.rows self.now.dtype runs) }
@@ -144,10 +144,10 @@ impl<A: Allocator + Copy> RunBuilder<A> {
         Ok(RunEnd::new_unchecked(ArrayRef::Primitive(ends), array_of(values), 0, self.len()))
     }
 
-    /// Returns the encoding of all rows, as `encoding` answers it, made of the builder's own memory where that can be;
-    /// the builder has no rows after, holds no memory and takes rows of its type again. Ends are narrowed to their
-    /// least type, the values' bits and flags packed, and all else is moved, with the room that it had in reserve.
-    /// Refused only as `OutOfMemory`, and then the rows stay.
+    /// Returns the encoding of all rows, as `encoding` does, in the builder's own memory where that is possible: ends
+    /// are narrowed to their least type, bits and flags of the values are packed, and all else is moved, with the room
+    /// that it had in reserve. Then the builder has no rows, holds no memory and takes rows of its type again. Refused
+    /// only as `OutOfMemory`, and then the rows stay as they are.
     pub fn finish(&mut self, ctx: &mut ExecutionCtx<A>) -> VortexResult<RunEndArray<A>>
         ensures only { IsOkUnless result VortexError.OutOfMemory }
         ensures encoded { IfOk result (λ runs. IsEncodedRows self.old.rows self.old.dtype runs) }
@@ -163,7 +163,7 @@ impl<A: Allocator + Copy> RunBuilder<A> {
 }
 
 impl<A: Allocator + Copy> RunBuilder<A> {
-    // A builder of rows of a type, which is none of lists, without rows.
+    // A builder of rows of a type, which is not a type of lists, without rows.
     fn empty(alloc: A, dtype: DType) -> Self
         requires { ¬ IsLists dtype }
         ensures { result ≡ built_with dtype [] }
@@ -176,7 +176,7 @@ impl<A: Allocator + Copy> RunBuilder<A> {
         }
     }
 
-    // Why so many rows of a type are refused, if they are.
+    // Why `count` rows of a type are refused, if they are.
     fn fault_of(&self, dtype: DType, count: usize) -> Option<VortexError>
         ensures fault { result ≡ append_fault self.now.dtype dtype (length self.now.rows) count }
         ensures single { ¬ IsLists self.now.dtype }
@@ -190,8 +190,8 @@ impl<A: Allocator + Copy> RunBuilder<A> {
         None
     }
 
-    // Puts rows of one value of the same type, of which there are some, after the rows. Refused as `OutOfMemory` only,
-    // and then the rows stay; where the last run goes on, no memory is taken.
+    // Appends at least one row of one value of the same type. Refused only as `OutOfMemory`, and then the rows stay as
+    // they are; where the last run goes on, no memory is taken.
     fn append_run(&mut self, value: &Scalar<A>, count: usize) -> VortexResult<()>
         requires typed { value.now.dtype ≡ self.old.dtype }
         requires some { 0 < count }
@@ -217,8 +217,7 @@ impl<A: Allocator + Copy> RunBuilder<A> {
         Ok(())
     }
 
-    // Puts the rows of an array of the same type behind the rows. Refused only as `OutOfMemory`, and then the rows
-    // stay.
+    // Appends the rows of an array of the same type. Refused only as `OutOfMemory`, and then the rows stay as they are.
     fn append_part(&mut self, alloc: A, array: &ArrayRef<A>) -> VortexResult<()>
         requires single { ¬ IsLists (dtype_of array.now) }
         requires typed { dtype_of array.now ≡ self.old.dtype }
@@ -238,7 +237,7 @@ impl<A: Allocator + Copy> RunBuilder<A> {
         appended
     }
 
-    // The same of the ends and the values of their encoding, of which there are some.
+    // The same for the ends and the values of their encoding, which has a run.
     fn append_runs(
         &mut self,
         alloc: A,
@@ -285,8 +284,8 @@ impl<A: Allocator + Copy> RunBuilder<A> {
         }
     }
 
-    // The same, made of the builder's own memory, which has no rows after. Refused only as `OutOfMemory`, and then the
-    // rows stay.
+    // The same in the builder's own memory; then the builder has no rows. Refused only as `OutOfMemory`, and then the
+    // rows stay as they are.
     fn take_parts(&mut self, alloc: A) -> VortexResult<(PrimitiveArray<A>, FlatColumn<A>)>
         ensures only { IsOkUnless result VortexError.OutOfMemory }
         ensures encoding { IfOk result (λ parts.

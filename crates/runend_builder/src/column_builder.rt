@@ -19,13 +19,13 @@ use std::alloc::Allocator;
 use std::marker::Model;
 use std::mem::replace;
 
-/// The rows of a flat column of any type but lists, which grows at its end. Items are held as a column stores them,
-/// texts and bytes one behind the other in one buffer, and a flag of a byte for each row.
+/// Holds the rows of a flat column of any type but lists, which grows at its end. Items are held as a column stores
+/// them, texts and bytes one after the other in one buffer, and a flag of a byte for each row.
 #[derive(Drop)]
 pub struct FlatBuilder<A: Allocator> {
     nullability: Nullability,
     items: Items<A>,
-    /// Which rows are no null.
+    /// Says which rows are not null.
     flags: Vec<bool, A>,
 }
 
@@ -41,7 +41,7 @@ impl<A: Allocator> Model for FlatBuilder<A> {
 }
 
 impl<A: Allocator + Copy> FlatBuilder<A> {
-    /// Returns a column of this type, which is none of lists, without rows. Takes no memory.
+    /// Returns a column of this type, which is not a type of lists, without rows. Takes no memory.
     pub fn new(alloc: A, dtype: DType) -> Self
         requires { ¬ IsLists dtype }
         ensures dtype { result.dtype ≡ dtype }
@@ -54,14 +54,13 @@ impl<A: Allocator + Copy> FlatBuilder<A> {
         }
     }
 
-    /// Puts the rows of a column of the same type from row `start` on behind the rows, in memory of their own. Refused
-    /// only as `OutOfMemory`, and then the rows stay.
+    /// Appends the rows of a column of the same type from row `start` on, in memory of their own. Refused only as
+    /// `OutOfMemory`, and then the rows stay as they are.
     ///
-    /// The column has the form that calls compute (`IsComputedLeaf`): it stores 0, false or the view of nothing under
-    /// null, has bits of validity only for rows of both kinds, and is `AllInvalid` only where it has a row.
-    /// `to_column` and `take_column` here answer such columns, so do `take`, `filter`, `fill_null` and `cast` of
-    /// `column_ops`, and the values of an encoding are one. Any other flat column becomes one by a `cast` to its own
-    /// type.
+    /// The column has to have the form that calls compute (`IsComputedLeaf`): it stores 0, false or the view of nothing
+    /// under null, has bits of validity only for rows of both kinds, and is `AllInvalid` only where it has a row.
+    /// `to_column` and `take_column` here return such columns, and so do `take`, `filter`, `fill_null` and `cast` of
+    /// `column_ops`; the values of an encoding are one. Any other flat column becomes one by a `cast` to its own type.
     pub fn append(&mut self, column: FlatView<'_, A>, start: usize) -> VortexResult<()>
         requires typed { leaf_dtype (leaf_in column) ≡ self.old.dtype }
         requires computed { IsComputedLeaf (leaf_in column) }
@@ -81,8 +80,8 @@ impl<A: Allocator + Copy> FlatBuilder<A> {
         appended
     }
 
-    /// Puts one row of the same type, a value or null, after the rows. Refused as `OutOfMemory` only, and then the rows
-    /// stay.
+    /// Appends one row of the same type, a value or null. Refused only as `OutOfMemory`, and then the rows stay as they
+    /// are.
     pub fn push(&mut self, row: ScalarView<'_, A>) -> VortexResult<()>
         requires { IsViewOf self.old.dtype row }
         ensures only { IsOkUnless result VortexError.OutOfMemory }
@@ -97,7 +96,7 @@ impl<A: Allocator + Copy> FlatBuilder<A> {
     }
 
     /// Returns the rows as a flat column with memory of its own, as a call computes it: 0, false or the view of nothing
-    /// is stored under null, and texts and bytes stand in one buffer. Refused only as `OutOfMemory`.
+    /// is stored under null, and texts and bytes are in one buffer. Refused only as `OutOfMemory`.
     pub fn to_column(&self, alloc: A) -> VortexResult<FlatColumn<A>>
         ensures only { IsOkUnless result VortexError.OutOfMemory }
         ensures rows { IfOk result (λ column. single_rows (leaf_of column) ≡ self.now.rows) }
@@ -107,9 +106,9 @@ impl<A: Allocator + Copy> FlatBuilder<A> {
         column_of(alloc, &self.items, &self.flags, self.nullability)
     }
 
-    /// Returns the same column, made of the builder's own memory: numbers, views and bytes of texts are moved to it,
-    /// with the room that they had in reserve, and bits and flags are packed. The builder has no rows after, holds no
-    /// memory and takes rows of its type again. Refused only as `OutOfMemory`, and then the rows stay.
+    /// Returns the same column in the builder's own memory: numbers, views and bytes of texts are moved to it, with the
+    /// room that they had in reserve, and bits and flags are packed. Then the builder has no rows, holds no memory and
+    /// takes rows of its type again. Refused only as `OutOfMemory`, and then the rows stay as they are.
     pub fn take_column(&mut self, alloc: A) -> VortexResult<FlatColumn<A>>
         ensures only { IsOkUnless result VortexError.OutOfMemory }
         ensures rows { IfOk result (λ column. single_rows (leaf_of column) ≡ self.old.rows) }

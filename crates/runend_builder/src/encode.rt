@@ -20,8 +20,8 @@ use runend_encode::{encode_flat, encode_runs};
 use std::alloc::Allocator;
 
 /// Returns the run column of the encoding of the rows of an array, of any form and any kind but lists: a tight exact
-/// cover of them, with ends of the least unsigned type that has the last of them and with flat values of the array's
-/// type. Of runs and of a constant only the visible runs are looked at, and not the rows. Refused as `Unsupported`
+/// cover of them, with ends of the least unsigned type that holds the last end, and with flat values of the array's
+/// type. Looks at the visible runs of a run column or a constant, and not at their rows. Refused as `Unsupported`
 /// exactly for lists, before any memory is taken, else only as `OutOfMemory`.
 pub fn encode_rows<A: Allocator + Copy>(
     array: &ArrayRef<A>,
@@ -53,7 +53,7 @@ pub fn row_runs<A: Allocator + Copy>(
     runs_in(alloc, array)
 }
 
-// The ends and the values of the encoding of rows that are no lists, by form.
+// The ends and the values of the encoding of rows that are not lists, by form.
 fn runs_in<A: Allocator + Copy>(
     alloc: A,
     array: &ArrayRef<A>,

@@ -1,4 +1,4 @@
-//! The ends of a part, put behind others.
+//! The ends of a part, appended to others.
 ghost use Rattle.std.specs.Prelude.{◌≡◌, ◌+◌, ◌^◌, ◌<◌, ◌≤◌, ◌++◌, All, length, map, vec_capacity, vec_len};
 ghost use Rattle.runend_builder.specs.Encodings.{behind};
 ghost use Rattle.column_core.specs.PrimitiveForm.{primitive_dtype};
@@ -8,7 +8,7 @@ use column_base::match_each_unsigned;
 use column_core::{PrimitiveArray, PrimitiveValues, UnsignedPType};
 use std::alloc::Allocator;
 
-/// Puts the ends of a part behind the ends, so many rows later.
+/// Appends the ends of a part, each moved by the rows that come before the part.
 pub(crate) fn push_ends<A: Allocator>(ends: &mut Vec<u64, A>, part: &PrimitiveArray<A>, count: u64)
     requires plain { IsEndsType (primitive_dtype part.now) }
     requires room { vec_len ends.old + length (ends_of part.now) ≤ vec_capacity ends.old }
@@ -18,7 +18,7 @@ pub(crate) fn push_ends<A: Allocator>(ends: &mut Vec<u64, A>, part: &PrimitiveAr
     match_each_unsigned!(part.values(), items => push_stored(ends, items.as_slice(), count))
 }
 
-// The same of ends as they are stored.
+// The same for ends as they are stored.
 fn push_stored<E: UnsignedPType, A: Allocator>(ends: &mut Vec<u64, A>, part: &[E], count: u64)
     requires room { vec_len ends.old + length part.now ≤ vec_capacity ends.old }
     requires small { All (λ end. count + end < 2 ^ 64) (map E.natural part.now) }

@@ -15,7 +15,7 @@ use crate::texts::{TextItems, append_texts, no_texts};
 use column_core::{DType, DecimalDType, FlatView, VarBinKind, VortexError, VortexResult};
 use std::alloc::Allocator;
 
-/// The items of a column of one kind, as they are stored, under null too.
+/// Holds the items of a column of one kind, as they are stored, under null too.
 #[derive(Drop)]
 pub(crate) enum Items<A: Allocator> {
     Numbers(NumberItems<A>),
@@ -24,7 +24,7 @@ pub(crate) enum Items<A: Allocator> {
     VarBins(TextItems<A>),
 }
 
-/// Returns no items of a type, which is none of lists. Takes no memory.
+/// Returns no items of a type, which is not a type of lists. Takes no memory.
 pub(crate) fn no_items<A: Allocator + Copy>(alloc: A, dtype: DType) -> Items<A>
     requires { ¬ IsLists dtype }
     ensures typed { type_with (stored_in result) (nullability_of dtype) ≡ dtype }
@@ -41,8 +41,8 @@ pub(crate) fn no_items<A: Allocator + Copy>(alloc: A, dtype: DType) -> Items<A>
     }
 }
 
-/// Puts the items of a column of the same kind from row `start` on behind the others. Refused only as `OutOfMemory`,
-/// and then the others stay.
+/// Appends the items of a column of the same kind from row `start` on. Refused only as `OutOfMemory`, and then the
+/// others stay as they are.
 pub(crate) fn append_items<A: Allocator>(
     items: &mut Items<A>,
     column: FlatView<'_, A>,

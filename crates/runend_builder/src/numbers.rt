@@ -7,7 +7,7 @@ use column_core::{NativePType, PType, PrimitiveValues, VortexError, VortexResult
 use std::alloc::Allocator;
 use std::mem::replace;
 
-/// Integers of one native type, in order, as they are stored.
+/// Holds integers of one native type, in order, as they are stored.
 #[derive(Drop)]
 pub(crate) enum NumberItems<A: Allocator> {
     U8(Vec<u8, A>),
@@ -37,8 +37,8 @@ pub(crate) fn no_numbers<A: Allocator>(alloc: A, ptype: PType) -> NumberItems<A>
     }
 }
 
-/// Puts the numbers of the same type from number `start` on behind the others. Refused only as `OutOfMemory`, and then
-/// the others stay.
+/// Appends the numbers of the same type from number `start` on. Refused only as `OutOfMemory`, and then the others stay
+/// as they are.
 pub(crate) fn append_numbers<A: Allocator>(
     items: &mut NumberItems<A>,
     part: &PrimitiveValues<A>,
@@ -84,8 +84,8 @@ pub(crate) fn copied_numbers<A: Allocator + Copy>(
     }
 }
 
-/// Returns the numbers themselves as a column stores them: none is copied, and none stays. Want of memory refuses
-/// nothing.
+/// Returns the numbers themselves as a column stores them: none is copied, and none stays. Not refused where memory
+/// runs out.
 pub(crate) fn taken_numbers<A: Allocator + Copy>(
     alloc: A,
     items: &mut NumberItems<A>,
@@ -107,7 +107,7 @@ pub(crate) fn taken_numbers<A: Allocator + Copy>(
     }
 }
 
-// Puts the numbers of the type from number `start` on behind the others.
+// Appends the numbers of the type from number `start` on.
 fn append_part<T: NativePType, A: Allocator>(
     items: &mut Vec<T, A>,
     part: &PrimitiveValues<A>,

@@ -1,4 +1,4 @@
-//! One row that is put after the others.
+//! One row that is appended to others.
 ghost use Rattle.std.specs.Prelude.{◌≡◌, ◌++◌, ◌∷◌, [], IsOkUnless, OnErr, OnOk, is_some, map};
 ghost use Rattle.column_base.specs.Types.{HasNumber};
 ghost use Rattle.column_core.specs.ScalarView.{sees};
@@ -13,8 +13,8 @@ use crate::texts::{TextItems, push_text};
 use column_core::{NativePType, ScalarView, VortexError, VortexResult};
 use std::alloc::Allocator;
 
-/// Puts the item of a row after items of its kind: 0, false or the view of nothing for null. Refused as `OutOfMemory`
-/// only, and then the others stay.
+/// Appends the item of a row to items of its kind: 0, false or the view of nothing for null. Refused only as
+/// `OutOfMemory`, and then the others stay as they are.
 pub(crate) fn push_item<A: Allocator>(
     items: &mut Items<A>,
     row: ScalarView<'_, A>,
@@ -54,7 +54,7 @@ pub(crate) fn is_valid<A: Allocator>(row: ScalarView<'_, A>) -> bool
     }
 }
 
-// Puts a number of the type after the others.
+// Appends a number of the type.
 fn push_number<A: Allocator>(items: &mut NumberItems<A>, number: i128) -> VortexResult<()>
     requires typed { HasNumber (ptype_in items.old) number }
     ensures only { IsOkUnless result VortexError.OutOfMemory }
@@ -90,7 +90,7 @@ fn push_narrow<T: NativePType, A: Allocator>(
     Ok(())
 }
 
-// Puts a text of the kind after the others, in bytes of its own.
+// Appends a text of the kind, in bytes of its own.
 fn push_bytes<A: Allocator>(texts: &mut TextItems<A>, text: &[u8]) -> VortexResult<()>
     requires of_kind { IsOfKind texts.old.kind text.now }
     requires cut { AreCut texts.old.kind (texts.old.bytes.items ∷ []) texts.old.views.items }

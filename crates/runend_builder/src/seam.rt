@@ -49,9 +49,9 @@ pub(crate) fn row_scalar<A: Allocator + Copy>(
     Scalar::of_view(alloc, values.dtype(), values.get(row))
 }
 
-/// Puts the runs of a part, of which there are some, behind the runs: its ends so many rows later, and its values.
-/// Where the run at the seam goes on, the end of the first part of it goes, and its value stands there. Refused only as
-/// `OutOfMemory`, and then nothing is changed.
+/// Appends the runs of a part, which has a run: its ends, moved by the rows before it, and its values. Where the run at
+/// the seam goes on, its first end is dropped and its first value is kept. Refused only as `OutOfMemory`, and then
+/// nothing is changed.
 pub(crate) fn push_runs<A: Allocator + Copy>(
     ends: &mut Vec<u64, A>,
     values: &mut FlatBuilder<A>,
@@ -81,7 +81,7 @@ pub(crate) fn push_runs<A: Allocator + Copy>(
     Ok(())
 }
 
-/// Puts a run of one value after the runs. Refused as `OutOfMemory` only, and then nothing is changed.
+/// Appends a run of one value to the runs. Refused only as `OutOfMemory`, and then nothing is changed.
 pub(crate) fn push_run<A: Allocator + Copy>(
     ends: &mut Vec<u64, A>,
     values: &mut FlatBuilder<A>,
@@ -103,7 +103,7 @@ pub(crate) fn push_run<A: Allocator + Copy>(
     Ok(())
 }
 
-/// Moves the end of the last run, which there is, `count` rows on.
+/// Moves the end of the last run, which has to be there, by `count` rows.
 pub(crate) fn extend_last<A: Allocator>(ends: &mut Vec<u64, A>, count: u64)
     requires some { 0 < length ends.old.items }
     requires small { last_end ends.old.items + count < 2 ^ 64 }

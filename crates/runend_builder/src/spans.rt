@@ -1,4 +1,4 @@
-//! Texts of one buffer, put behind others all at once: their bytes as they stand, and a view for each.
+//! Texts of one buffer, appended to others all at once: their bytes as they are, and a view for each.
 ghost use Rattle.std.specs.Prelude.{◌≡◌, ◌+◌, ◌-◌, ◌^◌, ◌<◌, ◌≤◌, ◌++◌, ◌∷◌, ℕ, [], All, IfSome, IsOkUnless, OnErr, OnOk, length, map, slice_range, vec_capacity, vec_len};
 ghost use Rattle.column_core.specs.VarBinForm.{IsWithinBuffer};
 ghost use Rattle.runend_builder.specs.Spans.{IsInSpan, moved_view};
@@ -30,8 +30,8 @@ pub(crate) fn span_of(views: &[View], buffer: &[u8]) -> Option<Range<usize>>
     Some(start..end)
 }
 
-/// Puts texts of a buffer behind the others: the bytes of the range in which all of them lie, and a view for each.
-/// Refused only as `OutOfMemory`, and then the others stay.
+/// Appends texts of a buffer: the bytes of the range in which all of them lie, and a view for each. Refused only as
+/// `OutOfMemory`, and then the others stay as they are.
 pub(crate) fn push_span<A: Allocator>(
     views: &mut Vec<View, A>,
     bytes: &mut Vec<u8, A>,
@@ -57,7 +57,7 @@ pub(crate) fn push_span<A: Allocator>(
     Ok(())
 }
 
-// Puts a view for each text behind the others, once the range stands from byte `base` on.
+// Appends a view for each text, once the range begins at byte `base`.
 fn push_moved<A: Allocator>(
     views: &mut Vec<View, A>,
     part: &[View],
@@ -74,7 +74,7 @@ fn push_moved<A: Allocator>(
     }
 }
 
-// The view of a text of the range, once the range stands from byte `base` on.
+// The view of a text of the range, once the range begins at byte `base`.
 #[inline(always)]
 fn moved(view: View, span: &Range<usize>, base: usize) -> View
     requires text { IsInSpan span.now.start span.now.end view }

@@ -1,4 +1,4 @@
-//! Texts or bytes that grow, one behind the other in one buffer.
+//! Texts or bytes that grow, one after the other in one buffer.
 ghost use Rattle.std.specs.Prelude.{◌≡◌, ◌≤◌, ◌<◌, ◌++◌, ◌∷◌, [], IsOkUnless, OnErr, OnOk, drop, length, map, slice_index, slice_index_or, take};
 ghost use Rattle.column_core.specs.VarBinForm.{IsOfKind, IsWithinBuffer, IsZeroViewAtNulls, view_bytes, zero_view};
 ghost use Rattle.runend_builder.specs.Texts.{AreCut, text_view, texts_of};
@@ -8,7 +8,7 @@ use bytes::Bytes;
 use column_core::{VarBinKind, VarBinViewArray, View, VortexError, VortexResult};
 use std::alloc::Allocator;
 
-/// A view for each text, and the bytes that all of them cut.
+/// Holds a view for each text, and the bytes that all of them cut.
 #[derive(Drop)]
 pub(crate) struct TextItems<A: Allocator> {
     pub(crate) kind: VarBinKind,
@@ -29,8 +29,8 @@ pub(crate) fn no_texts<A: Allocator + Copy>(alloc: A, kind: VarBinKind) -> TextI
     }
 }
 
-/// Puts the texts of the same kind from row `start` on behind the others, in bytes of their own, with the view of
-/// nothing for null. Refused only as `OutOfMemory`, and then the others stay.
+/// Appends the texts of the same kind from row `start` on, in bytes of their own, with the view of nothing for null.
+/// Refused only as `OutOfMemory`, and then the others stay as they are.
 pub(crate) fn append_texts<A: Allocator>(
     items: &mut TextItems<A>,
     part: &VarBinViewArray<A>,
@@ -93,7 +93,7 @@ fn append_each<A: Allocator>(
     pushed
 }
 
-// Puts the texts behind the others one by one. Where it is refused, some may stand there.
+// Appends the texts one by one. Where it is refused, some may have been appended.
 fn push_texts<A: Allocator>(
     views: &mut Vec<View, A>,
     bytes: &mut Vec<u8, A>,
@@ -116,7 +116,7 @@ fn push_texts<A: Allocator>(
     Ok(())
 }
 
-/// Puts a text after the others. Refused as `OutOfMemory` only, and then nothing is changed.
+/// Appends a text to the others. Refused only as `OutOfMemory`, and then nothing is changed.
 pub(crate) fn push_text<A: Allocator>(
     views: &mut Vec<View, A>,
     bytes: &mut Vec<u8, A>,
@@ -135,7 +135,7 @@ pub(crate) fn push_text<A: Allocator>(
     Ok(())
 }
 
-// The view of a text that is put behind the bytes.
+// The view of a text that is put after the bytes.
 fn view_behind(bytes: &[u8], text: &[u8]) -> View
     ensures { result ≡ text_view bytes.now text.now }
 {

@@ -13,7 +13,7 @@ row_of v zero k within = absurd (omega arith)
 row_of v (suc n) zero within = refl
 row_of v (suc n) (suc k) within = row_of v n k (omega arith)
 
--- the first of them stands for each
+-- the first of them is each of them
 pub taken-constant : {B : Type 0} (v : Option B) (n : ℕ) (positions : List ℕ) (marks : List Bool) → ArePositions (optionals positions marks) n
     → take_rows (replicate (min n 1) v) (position_numbers (optionals (replicate (length positions) 0) marks)) ≡ take_rows (replicate n v) (position_numbers (optionals positions marks))
 taken-constant v n [] marks within = refl

@@ -49,7 +49,7 @@ fault_of_parts bytes m dtype count ends values BadMetadata means slots fault = a
 fault_of_parts bytes m dtype count ends values (EndsTypeNumber n) means slots fault = absurd fault.1
 fault_of_parts bytes m dtype count ends values e means slots fault = (m, means, inr (slots, fault))
 
--- want of memory is no fault
+-- refused memory is not a fault
 pub no_fault_of_memory : (bytes : List ℕ) (dtype : DType) (count : ℕ) (ends values : Column) (e : VortexError) → RecordFault bytes dtype count ends values e → e ≢ OutOfMemory
 no_fault_of_memory bytes dtype count ends values e fault is =
     let stated = subst (RecordFault bytes dtype count ends values) is fault in

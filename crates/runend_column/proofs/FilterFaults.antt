@@ -21,7 +21,7 @@ only_memory fault (Err error) none told = elim told [
   | inr has ↦ let never : ◌≡◌ {A = Option VortexError} None (Some error) = sym none ∙ has in absurd (cc)
 ]
 
--- a mask as long as the rows of a flat column is no fault
+-- a mask as long as the rows of a flat column has no fault
 pub no_fault-single : (mask : ℕ) (leaf : Leaf) → mask ≡ length (single_rows leaf) → filter_fault mask (length (leaf_rows leaf)) ≡ None
 no_fault-single mask leaf long = no_fault mask (length (leaf_rows leaf)) (long ∙ length-map (leaf_rows leaf) (option_map (λ (v : FlatValue). Single v)))
 

@@ -15,7 +15,7 @@ pub only_error : {T E : Type 0} (result : Result T E) (error one : E) → IsErrA
 only_error (Ok value) error one passed same = tt
 only_error (Err other) error one passed same = passed ∙ same
 
--- where there is no fault, memory alone can be refused
+-- without a fault, only memory can be refused
 pub refused_by_none : {T : Type 0} (fault : Option VortexError) (result : Result T VortexError) → fault ≡ None → IsOkUnless result OutOfMemory → IsRefusedBy fault result
 refused_by_none fault (Ok value) none only = none
 refused_by_none fault (Err error) none only = inl only

@@ -47,7 +47,7 @@ shown_at ends offset (suc n) window run within =
 pub visible_shown : (r : Runs) → AreRuns r → AllHaveRows (visible_ends r) (window_start r.count r.offset) r.count
 visible_shown r runs = shown_at r.ends r.offset r.count runs.window
 
--- ends that were read, a start and a number of rows that stand for that window
+-- ends that were read, a start and a number of rows that are that window
 module _ (r : Runs) (ends : PrimitiveForm) (start total : ℕ) (ends_are : ends_of ends ≡ visible_ends r) (starts : start ≡ window_start r.count r.offset) (counts : total ≡ r.count) where
   pub read_window : IsWindow (visible_ends r) (window_start r.count r.offset) r.count → IsWindow (ends_of ends) start total
   read_window window =

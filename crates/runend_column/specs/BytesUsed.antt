@@ -25,7 +25,7 @@ width_of I16 = 2
 width_of I32 = 4
 width_of I64 = 8
 
--- so many bits, 8 to a byte
+-- the bytes of a number of bits, 8 to a byte
 abbrev pub bits_bytes : ℕ → ℕ
 bits_bytes count = (count + 7) / 8
 

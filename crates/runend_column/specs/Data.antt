@@ -1,4 +1,4 @@
--- The offset that a run column holds beside its slots: its equality, what a hash of it writes, and its text.
+-- The offset that a run column holds in addition to its slots: its equality, what a hash of it writes, and its text.
 use Rattle.std.specs.Prelude.{ℕ, Bool, List, ◌++◌, nat_eq, codes}
 use Rattle.std.specs.Hash as fed
 use Rattle.std.specs.Hash.{HashWrites}

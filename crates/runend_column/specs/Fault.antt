@@ -1,4 +1,4 @@
--- Why bytes, ends and values are no run column: the first fault, in the order in which they are tested.
+-- Why bytes, ends and values do not make a run column: the first fault, in the order in which they are tested.
 use Rattle.std.specs.Prelude.{◌≡◌, ◌≢◌, ◌⊎◌, ℕ, List, length}
 use Rattle.column_base.specs.declared.dtype.DType.{DType}
 use Rattle.column_base.specs.declared.error.VortexError.{VortexError}
@@ -24,8 +24,8 @@ SlotsFault m dtype ends values error = ⊥
 abbrev pub StatedFault : RunEndMetadata → DType → ℕ → Column → Column → VortexError → Type 0
 StatedFault m dtype count ends values error = SlotsFault m dtype ends values error ⊎ (AreStatedSlots m dtype ends values × PartsFault ends values m.offset count error)
 
--- the first fault of bytes, ends and values: the bytes are no record, or state an unknown type of ends, or else a fault
--- under their record
+-- the first fault of bytes, ends and values: the bytes are not a record, or state an unknown type of ends, or else a
+-- fault under their record
 abbrev pub RecordFault : List ℕ → DType → ℕ → Column → Column → VortexError → Type 0
 RecordFault bytes dtype count ends values BadMetadata = ¬ IsRecord bytes
 RecordFault bytes dtype count ends values (EndsTypeNumber number) = StatesUnknownEndsType bytes number

@@ -25,7 +25,7 @@ abbrev pub AreListsOver : Column → List ℕ → List ℕ → ValidityForm → 
 AreListsOver (OfLeaf elements) offsets sizes validity c = AreListsIn elements offsets sizes validity c
 AreListsOver elements offsets sizes validity c = ⊥
 
--- why there are no such lists: the elements are not flat, or the parts have a fault
+-- why these are not the parts of lists: the elements are not flat, or the parts have a fault
 abbrev pub ListsOverFault : Column → List ℕ → List ℕ → ValidityForm → VortexError → Type 0
 ListsOverFault (OfLeaf elements) offsets sizes validity error = ListsFault (lists_of_parts elements offsets sizes validity) error
 ListsOverFault elements offsets sizes validity error = error ≡ Unsupported
@@ -47,7 +47,7 @@ pub record IsIndexIn (numbers : Index) (c : Column) : Type 0 where
   pub index : IsIndex c
   pub is : index_of c ≡ numbers
 
--- the same of numbers one by one
+-- the column has these offsets or sizes, flat
 abbrev pub IsIndexOf : List ℕ → Column → Type 0
 IsIndexOf numbers c = IsIndexIn (PlainIndex numbers) c
 
@@ -59,7 +59,7 @@ abbrev pub AreSizesOf : Column → Column → Type 0
 AreSizesOf (OfLists lists) c = IsIndexIn lists.sizes c
 AreSizesOf lists c = ⊥
 
--- one boolean for so many rows
+-- one boolean for this number of rows
 abbrev pub same_flags : Bool → ℕ → Column
 same_flags flag count = OfConstant (record { dtype = column.Bool NonNullable; value = Some (Truth flag); count = count })
 
@@ -67,7 +67,7 @@ same_flags flag count = OfConstant (record { dtype = column.Bool NonNullable; va
 abbrev pub truths_column : List Bool → Column
 truths_column bits = OfLeaf (OfTruths (bool_with bits NeverNull))
 
--- whether each of so many rows is valid, as a column
+-- whether each of a number of rows is valid, as a column
 abbrev pub flags_column : RowValidityForm → ℕ → Column
 flags_column (ByRows NeverNull) rows = same_flags true rows
 flags_column (ByRows NoneNull) rows = same_flags true rows

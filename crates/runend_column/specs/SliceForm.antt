@@ -5,8 +5,8 @@ use Rattle.runend_array.specs.Canonical.{IsFlatPart}
 use Rattle.runend_array.specs.Column.{Column, OfLeaf, OfConstant, OfLists, OfRuns, Constant, Runs, runs_with, column_rows, column_dtype}
 use Rattle.runend_array.specs.RowRuns.{first_run, last_run}
 
--- the runs from `first` to `stop - 1`, with ends of the same type and flat values, of which `count` rows are shown from
--- `offset` on
+-- the runs from `first` to `stop - 1`, with ends of the same type and flat values; they show `count` rows from `offset`
+-- on
 pub record KeepsRuns (whole : Runs) (first stop offset count : ℕ) (part : Runs) : Type 0 where
   pub ends_type : part.ends_type ≡ whole.ends_type
   pub ends : part.ends ≡ slice_range whole.ends first stop
@@ -33,7 +33,7 @@ IsOfOneRun whole run count (OfConstant constant) = RepeatsRun whole run count co
 IsOfOneRun whole run count (OfLists lists) = ⊥
 IsOfOneRun whole run count (OfRuns ends_type ends values o n) = ⊥
 
--- the form of a slice: without rows it has no runs, rows of one run that are no lists are a constant, and other rows
+-- the form of a slice: without rows it has no runs, rows of one run that are not lists are a constant, and other rows
 -- have just these runs
 pub record SliceLeaves (whole : Runs) (start stop : ℕ) (part : Column) : Type 0 where
   pub empty : start ≡ stop → IsOfRuns whole 0 0 0 0 part

@@ -13,7 +13,7 @@ visible_ends r = visible r.ends r.offset r.count r.ends
 abbrev pub visible_values : Runs → List (Option Value)
 visible_values r = visible r.ends r.offset r.count (column_rows r.values)
 
--- where a window of so many rows over the visible runs begins: where it began, and at 0 where it has no rows
+-- where a window of a number of rows over the visible runs begins: where it began, and at 0 where it has no rows
 abbrev pub window_start : ℕ → ℕ → ℕ
 window_start zero offset = 0
 window_start (suc n) offset = offset

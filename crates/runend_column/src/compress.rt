@@ -24,8 +24,8 @@ use runend_array::{ArrayRef, ExecutionCtx, ListViewArray};
 use runend_windows::decode_typed_numbers;
 use std::alloc::Allocator;
 
-/// Returns the rows that runs show, from row `offset` on, `length` many. A constant null where there is a run and all
-/// values are null, else a flat column with 0 under null. The parts are a valid window over flat unsigned ends without
+/// Returns the `length` rows, from row `offset` on, that runs show: a constant null where there is a run and all values
+/// are null, else a flat column with 0 under null. The parts have to be a valid window over flat unsigned ends without
 /// null. Refused only as `OutOfMemory`.
 pub fn runend_decode_primitive<A: Allocator + Copy>(
     ends: PrimitiveArray<A>,
@@ -47,9 +47,9 @@ pub fn runend_decode_primitive<A: Allocator + Copy>(
     decode_runs(ends, FlatColumn::Primitive(values), offset, length, ctx)
 }
 
-/// Returns the rows that runs of decimals show, from row `offset` on, `length` many. A constant null where there is a
-/// run and all values are null, else a flat column with 0 under null. The parts are a valid window over flat unsigned
-/// ends without null. Refused only as `OutOfMemory`.
+/// Returns the `length` rows, from row `offset` on, that runs of decimals show: a constant null where there is a run
+/// and all values are null, else a flat column with 0 under null. The parts have to be a valid window over flat
+/// unsigned ends without null. Refused only as `OutOfMemory`.
 pub fn runend_decode_decimal<A: Allocator + Copy>(
     ends: PrimitiveArray<A>,
     values: DecimalArray<A>,
@@ -71,9 +71,9 @@ pub fn runend_decode_decimal<A: Allocator + Copy>(
     decode_runs(ends, FlatColumn::Decimal(values), offset, length, ctx)
 }
 
-/// Returns the rows that runs of texts or bytes show, from row `offset` on, `length` many. A constant null where there
-/// is a run and all values are null, else a flat column with the view of nothing under null. The parts are a valid
-/// window over flat unsigned ends without null. The buffers are kept. Refused only as `OutOfMemory`.
+/// Returns the `length` rows, from row `offset` on, that runs of texts or bytes show: a constant null where there is a
+/// run and all values are null, else a flat column with the view of nothing under null. The parts have to be a valid
+/// window over flat unsigned ends without null. Keeps the buffers. Refused only as `OutOfMemory`.
 pub fn runend_decode_varbinview<A: Allocator + Copy>(
     ends: PrimitiveArray<A>,
     values: VarBinViewArray<A>,
@@ -95,9 +95,10 @@ pub fn runend_decode_varbinview<A: Allocator + Copy>(
     decode_runs(ends, FlatColumn::VarBinView(values), offset, length, ctx)
 }
 
-/// Returns the rows that runs of flat values show, from row `offset` on, `length` many. A constant null where there is
-/// a run and all values are null, else a flat column with 0, false or the view of nothing under null. Booleans are
-/// prefilled from the session's number of runs on. Refused only as `OutOfMemory`.
+/// Returns the `length` rows, from row `offset` on, that runs of flat values show: a constant null where there is a run
+/// and all values are null, else a flat column with 0, false or the view of nothing under null. From the session's
+/// `prefill_runs` runs on, all rows of booleans are first filled with what most runs show. Refused only as
+/// `OutOfMemory`.
 pub(crate) fn decode_runs<A: Allocator + Copy>(
     ends: PrimitiveArray<A>,
     values: FlatColumn<A>,
@@ -122,9 +123,9 @@ pub(crate) fn decode_runs<A: Allocator + Copy>(
     decoded
 }
 
-/// Returns the rows that runs of lists show, from row `offset` on, `length` many: lists over the same elements, with
-/// offsets, sizes and, where it is stored, validity as run columns over these ends and this window, with flat values.
-/// The parts are a valid window over flat unsigned ends without null. Refused only as `OutOfMemory`.
+/// Returns the `length` rows, from row `offset` on, that runs of lists show: lists over the same elements, whose
+/// offsets and sizes, and validity where it is stored, are run columns over these ends and this window, with flat
+/// values. The parts have to be a valid window over flat unsigned ends without null. Refused only as `OutOfMemory`.
 pub fn runend_decode_listview<A: Allocator + Copy>(
     ends: PrimitiveArray<A>,
     values: ListViewArray<A>,
@@ -149,11 +150,11 @@ pub fn runend_decode_listview<A: Allocator + Copy>(
 
 /// Returns the rows of runs whose ends come from an iterator, as a flat column of `T` with 0 under null: row i is the
 /// value of the first run that ends past it, null where the mask is false there. Ends count rows; a run that ends where
-/// the one before it does shows no row. The validity of a type with null is that which `Validity::from_bits` makes.
+/// the one before it does shows no row. The validity of a type with null is the one that `Validity::from_bits` makes.
 /// Refused only as `OutOfMemory`.
 ///
-/// The iterator gives an end for each value, none below the one before it, and the last is `length`.
-/// There is a bit of the mask for each value, and only under `Mask::AllTrue` has the type no null.
+/// The iterator has to give an end for each value, none below the one before it, and `length` as the last one. The mask
+/// has a bit for each value; only under `Mask::AllTrue` may the type have no null.
 pub fn runend_decode_typed_primitive<
     T: NativePType,
     I: Iterator<Item = usize>,

@@ -1,5 +1,5 @@
-//! The rows of a constant at positions and under a mask. All are the same, so that no more are written than are
-//! answered.
+//! The rows of a constant at positions and under a mask. All are the same, so that only those of the answer are
+//! written.
 ghost use Rattle.std.specs.Prelude.{◌≡◌, IfOk, IsOkUnless, length, replicate};
 ghost use Rattle.column_base.specs.Mask.{mask_bits};
 ghost use Rattle.column_base.specs.Types.{nullability_of, with_nullability as dtype_with};
@@ -46,7 +46,7 @@ pub(crate) fn take_constant<A: Allocator + Copy>(
     taken
 }
 
-// The first row of a flat form in so many places, null where the place is.
+// The first row of a flat form at each of these places, null where the place is null.
 fn take_first<A: Allocator + Copy>(
     alloc: A,
     one: &Canonical<A>,
@@ -70,8 +70,8 @@ fn take_first<A: Allocator + Copy>(
     taken
 }
 
-/// Returns the rows at which the mask is true, in a flat form. So many rows are made flat as it has true bits. Refused
-/// only as `OutOfMemory`.
+/// Returns the rows at which the mask is true, in a flat form. Makes as many rows flat as the mask has true bits.
+/// Refused only as `OutOfMemory`.
 pub(crate) fn select_constant<A: Allocator + Copy>(
     alloc: A,
     values: &ArrayRef<A>,
@@ -91,7 +91,7 @@ pub(crate) fn select_constant<A: Allocator + Copy>(
     kept
 }
 
-// So many times the position of the first row.
+// The position of the first row, `count` times.
 fn first_positions<A: Allocator>(alloc: A, count: usize) -> VortexResult<Vec<u64, A>>
     ensures only { IsOkUnless result VortexError.OutOfMemory }
     ensures zeros { IfOk result (λ positions. positions.items ≡ replicate count 0) }

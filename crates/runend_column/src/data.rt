@@ -1,4 +1,4 @@
-//! What a run column holds beside its slots.
+//! What a run column holds in addition to its slots.
 ghost use Rattle.std.specs.Prelude.{◌≡◌, ◌↔◌, Some, fold, IfOk, IsErrOf, IsOkUnless, MatchResult};
 ghost use Rattle.runend_array.specs.Array.{column_of};
 ghost use Rattle.runend_array.specs.Column.{AreParts};
@@ -12,7 +12,7 @@ use std::fmt;
 use std::hash::Hasher;
 use std::marker::Model;
 
-/// What a run column holds beside its slots: the offset, in rows.
+/// Holds what a run column has in addition to its slots: the offset, in rows.
 #[derive(Clone, Debug, Drop)]
 pub struct RunEndData {
     offset: usize,
@@ -26,7 +26,7 @@ impl Model for RunEndData {
     ghost view = { λ d. d.offset };
 }
 
-/// The slots of a run column, and its offset in rows.
+/// Holds the slots of a run column, and its offset in rows.
 #[derive(Drop)]
 pub struct RunEndDataParts<A: Allocator> {
     pub ends: ArrayRef<A>,
@@ -67,9 +67,8 @@ impl RunEndData {
         }
     }
 
-    /// Do the parts make a run column? Else the first fault: `EndsNotUnsigned`, `LengthsDiffer`,
-    /// `NoRunsWindow`, `EndsNotStrict`, `WindowOverflow`, `FirstEndBelowOffset`, `LastEndBelowWindow`.
-    /// Takes no memory.
+    /// Tests that the parts make a run column. Refused by the first fault: `EndsNotUnsigned`, `LengthsDiffer`,
+    /// `NoRunsWindow`, `EndsNotStrict`, `WindowOverflow`, `FirstEndBelowOffset`, `LastEndBelowWindow`. Takes no memory.
     pub fn validate_parts<A: Allocator + Copy>(
         ends: &ArrayRef<A>,
         values: &ArrayRef<A>,
@@ -86,7 +85,7 @@ impl RunEndData {
         runend_array::validate_parts(ends, values, offset, length)
     }
 
-    /// Returns the offset, beside the slots.
+    /// Returns the offset together with the slots.
     pub fn into_parts<A: Allocator>(
         self,
         ends: ArrayRef<A>,
@@ -110,7 +109,7 @@ impl RunEndData {
         self.offset == other.offset
     }
 
-    /// Gives the offset to the hasher, and nothing else.
+    /// Gives only the offset to the hasher.
     pub fn array_hash<H: Hasher>(&self, state: &mut H)
         ensures { state.new ≡ fold H.write state.old (data_writes self.now) }
     {

@@ -12,7 +12,7 @@ use column_core::{FlatColumn, VortexError, VortexResult, fault_of_lists};
 use runend_array::{ArrayRef, Canonical, ExecutionCtx};
 use std::alloc::Allocator;
 
-/// Returns the rows of a column, stored one by one; of a flat column the buffers are shared. Refused as `Unsupported`
+/// Returns the rows of a column, stored one by one. Shares the buffers of a flat column. Refused as `Unsupported`
 /// exactly for lists, before any memory is taken, else only as `OutOfMemory`.
 pub fn flat_rows<A: Allocator + Copy>(
     column: &ArrayRef<A>,

@@ -19,8 +19,8 @@ use runend_array::{ArrayRef, ExecutionCtx, null_constant};
 use runend_windows::{decode_typed_bits, masks_all};
 use std::alloc::Allocator;
 
-/// Returns the rows that runs of booleans show, from row `offset` on, `length` many. A constant null where there is a
-/// run and all values are null, else a flat column with false under null. The parts are a valid window over flat
+/// Returns the `length` rows, from row `offset` on, that runs of booleans show: a constant null where there is a run
+/// and all values are null, else a flat column with false under null. The parts have to be a valid window over flat
 /// unsigned ends without null. Refused only as `OutOfMemory`.
 pub fn runend_decode_bools<A: Allocator + Copy>(
     ends: PrimitiveArray<A>,
@@ -48,8 +48,8 @@ pub fn runend_decode_bools<A: Allocator + Copy>(
 /// where the mask is false there. Ends count rows; a run that ends where the one before it does shows no row. Refused
 /// only as `OutOfMemory`.
 ///
-/// The iterator gives an end for each value, none below the one before it, and the last is `length`.
-/// There is a bit of the mask for each value, and only under `Mask::AllTrue` has the type no null.
+/// The iterator has to give an end for each value, none below the one before it, and `length` as the last one. The mask
+/// has a bit for each value; only under `Mask::AllTrue` may the type have no null.
 pub fn runend_decode_typed_bool<I: Iterator<Item = usize>, A: Allocator + Copy>(
     run_ends: I,
     values: &BitBuffer<A>,

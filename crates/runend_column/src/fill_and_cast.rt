@@ -1,5 +1,4 @@
-//! Columns of any form filled and cast row by row, for which no kernel serves: they are written row
-//! by row first.
+//! Columns of any form filled and cast where no kernel serves: they are written row by row first.
 ghost use Rattle.std.specs.Prelude.{◌≡◌, IfOk, IfSome};
 ghost use Rattle.column_core.specs.Refusal.{IsRefusedBy};
 ghost use Rattle.column_core.specs.Value.{Single};

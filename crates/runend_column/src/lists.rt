@@ -14,11 +14,11 @@ use runend_array::{
 use std::alloc::Allocator;
 use std::rc::Rc;
 
-/// Returns the lists of which row i has `sizes[i]` elements, from element `offsets[i]` on, and is null where the
-/// validity says so. The elements are shared, offsets and sizes copied. Refused as `Unsupported` unless the elements
-/// are flat, then as `ColumnLength`, with the number of offsets first, where there are not as many sizes, or where the
-/// validity is of another number of rows, then as `OutOfBounds`, with the row and the number of elements, for the first
-/// valid row that does not lie within the elements; else only for memory.
+/// Returns the lists whose row i has `sizes[i]` elements, from element `offsets[i]` on, and is null where the validity
+/// says so. Shares the elements, and copies offsets and sizes. Refused as `Unsupported` unless the elements are flat,
+/// then as `ColumnLength`, with the number of offsets first, where there are more or fewer sizes, or where the validity
+/// is of another number of rows, then as `OutOfBounds`, with the row and the number of elements, for the first valid
+/// row that does not lie within the elements; else only for memory.
 #[tactic(auto, using(crate::proofs::ListParts::lists_made, crate::proofs::ListParts::parts_refused, crate::proofs::ListParts::no_elements))]
 pub fn lists_over<A: Allocator + Copy>(
     elements: &ArrayRef<A>,
@@ -61,8 +61,8 @@ pub fn lists_over<A: Allocator + Copy>(
     Canonical::List(lists).into_array(alloc)
 }
 
-/// Returns the elements of all lists, as a flat column that shares them. Refused as `Unsupported` unless the column
-/// lies as lists, else only for memory.
+/// Returns the elements of all lists, as a flat column that shares them. Refused as `Unsupported` unless the column has
+/// the form of lists, else only for memory.
 pub fn list_elements<A: Allocator + Copy>(
     array: &ArrayRef<A>,
     ctx: &mut ExecutionCtx<A>,
@@ -80,7 +80,7 @@ pub fn list_elements<A: Allocator + Copy>(
     }
 }
 
-/// Where the elements of each list start: numbers of u64, flat or in runs, shared. Refused as `list_elements`.
+/// Returns where the elements of each list start: numbers of u64, flat or in runs, shared. Refused as `list_elements`.
 pub fn list_offsets<A: Allocator + Copy>(
     array: &ArrayRef<A>,
     ctx: &mut ExecutionCtx<A>,
@@ -110,7 +110,7 @@ pub fn list_sizes<A: Allocator + Copy>(
     }
 }
 
-/// Returns whether each list is valid: booleans without null, one for all rows where they are alike, else flat or in
+/// Returns whether each list is valid, as booleans without null: one for all rows where they are alike, else flat or in
 /// runs, shared. Refused as `list_elements`.
 pub fn list_validity<A: Allocator + Copy>(
     array: &ArrayRef<A>,
@@ -137,7 +137,7 @@ fn index_column<A: Allocator + Copy>(alloc: A, numbers: &[u64]) -> VortexResult<
     Ok(ArrayRef::Primitive(array))
 }
 
-// A validity that is told row by row.
+// A validity that is held row by row.
 fn by_rows<A: Allocator>(validity: Validity<A>) -> RowValidity<A>
     ensures form { validity_of result ≡ ByRows (form_of validity) }
     ensures plain { IsRowValidity result }

@@ -20,8 +20,8 @@ use runend_encode::coalesce_runs;
 use std::alloc::Allocator;
 
 /// Returns the rows that the visible runs show over these values, one for each, as a run column with ends of the same
-/// type and flat values: of integers in minimal form, of other values over the visible runs as they are. Refused only
-/// as `OutOfMemory`.
+/// type and flat values. Integers are in minimal form; other values keep the visible runs as they are. Refused only as
+/// `OutOfMemory`.
 pub fn over_runs<A: Allocator + Copy>(
     alloc: A,
     array: &RunEndArray<A>,

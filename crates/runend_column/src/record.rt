@@ -30,8 +30,8 @@ pub fn serialize<A: Allocator + Copy>(
     metadata_of(array).encode_to_vec(*ctx.allocator())
 }
 
-/// Returns the run column of ends and values whose record the bytes are: with the offset of the record, and of `length`
-/// rows of the type `dtype`. Refused, in this order, as `BadMetadata` or `EndsTypeNumber` where the bytes are no
+/// Returns the run column of these ends and values with the offset that the bytes, its record, state, and with `length`
+/// rows of the type `dtype`. Refused, in this order, as `BadMetadata` or `EndsTypeNumber` where the bytes are not a
 /// record, `TypeMismatch` where the ends are not a plain non-nullable column of the type that it states, `RunCount`,
 /// with the stated number and the number of the ends, where these differ, `TypeMismatch` where the values are not of
 /// `dtype`, and then as `RunEnd::try_new_offset_length` refuses. Takes no memory.

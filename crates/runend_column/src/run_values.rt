@@ -35,8 +35,8 @@ pub fn selected_by<C: ColumnOps<A>, A: Allocator + Copy>(
     column.filter(alloc, mask)
 }
 
-/// Returns the values at these positions, null for null, in a flat form. The type has null where that of the values or
-/// the positions have. Refused only as `OutOfMemory`.
+/// Returns the values at these positions, null for null, in a flat form. The type has null where the values or the
+/// positions have. Refused only as `OutOfMemory`.
 pub fn take_values<A: Allocator + Copy>(
     alloc: A,
     values: &ArrayRef<A>,

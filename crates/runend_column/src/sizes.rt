@@ -9,11 +9,12 @@ use crate::flat_sizes::{bytes_of_bits, bytes_of_flat, bytes_of_scalar};
 use runend_array::{ArrayRef, ListViewArray, RowValidity, RunEndArray, RunEndArraySlotsExt};
 use std::alloc::Allocator;
 
-/// Returns how many bytes the column takes for what it shows, in its form: numbers as wide as their type, decimals 16
-/// each, bits eight to a byte, and of texts and bytes a view of 24 for each row and the bytes that the rows show. Bits
-/// of validity count where there are some. Runs take their ends and values, also those before and behind the window; a
-/// constant its value; lists an offset and a size of 8 each, and all of their elements. What columns share counts for
-/// each of them. 2^64 - 1 where there are more. Takes no memory, and looks at each row of texts and bytes alone.
+/// Returns how many bytes the column takes for what it shows, in its form, and 2^64 - 1 where there are more: numbers
+/// as wide as their type, decimals 16 each, bits eight to a byte; texts and bytes take a view of 24 for each row and
+/// the bytes that the rows show. Bits of validity count where there are some. Runs take their ends and values, also
+/// those before and after the window; a constant takes its value; lists take an offset and a size of 8 each, and all of
+/// their elements. What columns share counts for each of them. Takes no memory, and looks at single rows only of texts
+/// and bytes.
 #[tactic(auto, using(crate::proofs::Parts::ends_are_leaf, crate::proofs::Parts::ends_bytes))]
 pub fn bytes_used<A: Allocator + Copy>(array: &ArrayRef<A>) -> usize
     ensures { result ≡ in_usize (column_bytes (column_of array.now)) }

@@ -1,4 +1,4 @@
-//! The rows of a range of a column of any form, cut by no kernel.
+//! The rows of a range of a column of any form, cut without a kernel.
 ghost use Rattle.std.specs.Prelude.{◌≡◌, ◌≤◌, length, slice_range, IfOk, IsErrOf, IsOkUnless, Some};
 ghost use Rattle.column_base.specs.declared.error.VortexError.{VortexError};
 ghost use Rattle.column_core.specs.Refusal.{range_fault, IsRefusedBy};
@@ -10,7 +10,7 @@ use runend_array::{ArrayRef, ExecutionCtx};
 use std::alloc::Allocator;
 use std::ops::Range;
 
-/// Returns the rows from `range.start` to `range.end - 1`: of a constant as a constant, and of any other column flat,
+/// Returns the rows from `range.start` to `range.end - 1`: a constant stays one, and any other column becomes flat,
 /// with buffers that are shared where they can be.
 ///
 /// Refused as `BadRange`, with both bounds and the number of rows, where the range begins after its

@@ -17,9 +17,9 @@ use runend_array::{
 use std::alloc::Allocator;
 use std::ops::Range;
 
-/// Returns the rows from `range.start` to `range.end - 1`. Of no rows it is a run column without runs, of rows of one
-/// run a constant, and of rows of several runs a run column of these runs, with flat values. A slice of lists stays a
-/// run column also where one run is left.
+/// Returns the rows from `range.start` to `range.end - 1`. The answer for no rows is a run column without runs, for
+/// rows of one run a constant, and for rows of several runs a run column of these runs, with flat values. A slice of
+/// lists stays a run column also where one run is left.
 ///
 /// Refused as `BadRange`, with both bounds and the number of rows, exactly where the range begins
 /// after its end or ends after the last row, before any memory is taken; else only as `OutOfMemory`.
@@ -41,7 +41,7 @@ pub fn slice<A: Allocator + Copy>(
     slice_of_count(array, range, ctx)
 }
 
-// The rows of the range, with refusals told by the column's own number of rows.
+// The rows of the range; refusals have the column's own number of rows.
 fn slice_of_count<A: Allocator + Copy>(
     array: &RunEndArray<A>,
     range: Range<usize>,
@@ -70,7 +70,7 @@ fn slice_of_count<A: Allocator + Copy>(
     rows_between(array, range.start, range.end, ctx)
 }
 
-// The rows from `start` to `stop - 1`, of which there is one at least.
+// The rows from `start` to `stop - 1`, at least one.
 fn rows_between<A: Allocator + Copy>(
     array: &RunEndArray<A>,
     start: usize,
@@ -119,7 +119,7 @@ fn repeated<A: Allocator + Copy>(
     }
 }
 
-// Those runs, of which `count` rows are shown from `offset` on.
+// Those runs; `count` of their rows are shown, from `offset` on.
 fn runs_between<A: Allocator + Copy>(
     array: &RunEndArray<A>,
     runs: Range<usize>,
@@ -148,7 +148,7 @@ fn runs_between<A: Allocator + Copy>(
     ArrayRef::of_runs(alloc, part)
 }
 
-// The values from `start` to `stop - 1`, flat. Those of integers, which are cut most often, are moved once.
+// The values from `start` to `stop - 1`, flat. Integers, which are cut most often, are moved once.
 fn values_between<A: Allocator + Copy>(
     alloc: A,
     values: &ArrayRef<A>,

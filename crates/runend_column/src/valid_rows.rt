@@ -8,8 +8,8 @@ use runend_array::{ExecutionCtx, RowValidity, RunEndArray, VortexError, VortexRe
 use std::alloc::Allocator;
 
 /// Returns which rows of the column are valid, row by row; `NonNullable` exactly for values whose type has no null. The
-/// validity of the values is kept where it is `NonNullable`, `AllValid` or `AllInvalid`, else the answer is runs over
-/// the same ends and window, with flat values. Refused only as `OutOfMemory`.
+/// answer is the validity of the values where that is `NonNullable`, `AllValid` or `AllInvalid`, else runs over the
+/// same ends and window, with flat values. Refused only as `OutOfMemory`.
 pub fn validity<A: Allocator + Copy>(
     array: &RunEndArray<A>,
     ctx: &mut ExecutionCtx<A>,

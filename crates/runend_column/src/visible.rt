@@ -14,16 +14,15 @@ use column_core::{FlatColumn, PrimitiveArray, VortexError, VortexResult};
 use runend_array::{ArrayRef, Canonical, RunEndArray, RunEndArrayExt, RunEndArraySlotsExt};
 use std::alloc::Allocator;
 
-/// Where the window over the visible runs begins, in rows: at the column's offset, and at 0 where there is no
-/// row.
+/// Returns where the window over the visible runs begins, in rows: at the column's offset, and at 0 without rows.
 pub fn visible_offset<A: Allocator + Copy>(array: &RunEndArray<A>) -> usize
     ensures { result ≡ window_start array.now.count array.now.offset }
 {
     if array.is_empty() { 0 } else { array.offset() }
 }
 
-/// Returns the ends of the visible runs, of the same type, shared where those are. Each of these runs shows a row.
-/// Refused only as `OutOfMemory`.
+/// Returns the ends of the visible runs, of the same type; shares them if they are shared. Each of these runs shows a
+/// row. Refused only as `OutOfMemory`.
 pub fn ends_of_visible<A: Allocator + Copy>(
     alloc: A,
     array: &RunEndArray<A>,
@@ -42,8 +41,8 @@ pub fn ends_of_visible<A: Allocator + Copy>(
     array.ends_between(alloc, runs.start, runs.end)
 }
 
-/// Returns the values of the visible runs, one for each, as a flat column, shared where flat ones are. Refused only as
-/// `OutOfMemory`.
+/// Returns the values of the visible runs, one for each, as a flat column; shares flat values if they are shared.
+/// Refused only as `OutOfMemory`.
 pub fn visible_values<A: Allocator + Copy>(
     alloc: A,
     array: &RunEndArray<A>,

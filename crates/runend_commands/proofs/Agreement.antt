@@ -25,7 +25,7 @@ use Rattle.runend_commands.specs.Meaning.{dtype_after, rows_after, plain, AreExt
 use Rattle.runend_commands.specs.Refusal.{refusal}
 use Rattle.runend_commands.specs.Step.{IsStep, IsShort, IsRefused, Does}
 
--- a flat value is told by the value that it is
+-- a flat value is determined by the value that it is
 one_single : (a b : Option FlatValue) → option_map (λ (v : FlatValue). Single v) a ≡ option_map (λ (v : FlatValue). Single v) b → a ≡ b
 one_single None None same = refl
 one_single None (Some b) same = absurd (cc)
@@ -95,7 +95,7 @@ one_answer column IsConstant a b h h' = one_truth (order.IsConstant column.rows)
 one_answer column (IsSorted strict) a b h h' = one_truth (order.IsSorted strict column.rows) a b h h'
 one_answer column command a b h h' = h ∙ sym h'
 
--- steps of one command that are not short of memory agree
+-- steps of one command that do not run out of memory agree
 step_agrees : {A : Type 0} (first second first_after second_after : ArrayRef A) (command : Command A) (answer other : Answer A)
     → plain first ≡ plain second → IsStep first command answer first_after → IsStep second command other second_after
     → answer ≢ Refused OutOfMemory → other ≢ Refused OutOfMemory → (answer ≡ other) × (plain first_after ≡ plain second_after)

@@ -73,7 +73,7 @@ flat_fault left right left_type right_type lefts rights same_left same_right lef
     ∙ ap (λ (n : ℕ). compare_column_fault left_type right_type n (length (leaf_rows right))) left_count
     ∙ ap (λ (n : ℕ). compare_column_fault left_type right_type (length lefts) n) right_count ∙ none
 
--- a run column beside a constant of as many rows, made of a copy of a scalar
+-- a run column and a constant of as many rows, made of a copy of a scalar
 module _ (r : Runs) (constant : Constant) (copy value : ScalarForm) (count : ℕ) (made : constant ≡ record { dtype = copy.dtype; value = copy.value; count = count })
     (same : copy ≡ value) (counted : count ≡ r.count) where
   as_many : length (column_rows (column_of_runs r)) ≡ constant.count

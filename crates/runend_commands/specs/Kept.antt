@@ -22,7 +22,7 @@ IsConstantWithRows (OfRuns ends_type ends values offset count) = ⊥
 abbrev pub AreConstants : Column → Column → Type 0
 AreConstants before right = IsConstantWithRows before × IsConstantForm right
 
--- the command keeps this column a constant: a filter any constant, and what maps values one that has a row
+-- the command keeps this column a constant: a filter keeps any constant, and what maps values keeps one that has a row
 abbrev pub KeepsConstant : {A : Type 0} → Column → Command A → Type 0
 KeepsConstant before (Filter mask) = IsConstantForm before
 KeepsConstant before (CompareScalar operator value) = IsConstantWithRows before
@@ -31,7 +31,7 @@ KeepsConstant before (Cast dtype) = IsConstantWithRows before
 KeepsConstant before (FillNull value) = IsConstantWithRows before
 KeepsConstant before command = ⊥
 
--- what a command leaves or answers where constants are kept, and where not, by its kernel, where it has one
+-- what a command leaves or answers: where constants are kept, and where they are not, by its kernel if it has one
 pub record LeavesKept {A : Type 0} (session : SessionForm) (before : ArrayRef A) (command : Command A) (answer : Answer A) (after : ArrayRef A) : Type 0 where
   pub constant : KeepsConstant (column_of before) command → IsConstantForm (column_of after)
   pub by_kernel : ¬ KeepsConstant (column_of before) command → LeavesByKernel session before command answer after

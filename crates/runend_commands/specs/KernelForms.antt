@@ -1,4 +1,4 @@
--- What kernels, registered or not, add to the steps of a run: the forms that they leave, and answers that want no
+-- What kernels, registered or not, add to the steps of a run: the forms that they leave, and answers that need no
 -- memory.
 use Rattle.std.specs.Prelude.{◌≡◌, ◌≢◌, ◌⊎◌, List, true}
 use Rattle.column_base.specs.declared.dtype.DType.{DType}
@@ -58,12 +58,12 @@ pub record ByKernel (session : SessionForm) (kernel : Kernel) (before : Column) 
   pub served : HasKernel session kernel before → OnRuns before Served
   pub otherwise : ¬ HasKernel session kernel before → Otherwise
 
--- the kernel leaves runs, of integers in minimal form and of another type over the visible runs; where it does not
--- serve the column, the rows are flat
+-- the kernel leaves runs: integers in minimal form, other types over the visible runs; where it does not serve the
+-- column, the rows are flat
 abbrev pub KeepsRuns : SessionForm → Kernel → DType → Column → Column → Type 0
 KeepsRuns session kernel dtype before after = ByKernel session kernel before (λ runs. IsRunForm dtype runs after) (IsFlat after)
 
--- an aggregate that reads the rows where they are is never short of memory
+-- an aggregate that reads the rows where they are never runs out of memory
 abbrev pub IsNeverShort : {A : Type 0} → SessionForm → Kernel → Column → Answer A → Type 0
 IsNeverShort session kernel before answer = IsReadInPlace session kernel before → answer ≢ Refused OutOfMemory
 

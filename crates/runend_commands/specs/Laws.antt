@@ -12,8 +12,8 @@ use Rattle.runend_commands.specs.Step.{IsExecution}
 abbrev pub AreNeverShort : {A : Type 0} → List (Answer A) → Type 0
 AreNeverShort answers = All (λ answer. answer ≢ Refused OutOfMemory) answers
 
--- two runs of the same commands, from equal plain columns and never short of memory, have equal answers and end in
--- equal plain columns
+-- two runs of the same commands, from equal plain columns and never out of memory, have equal answers and end in equal
+-- plain columns
 abbrev pub RunsAgree : Type 0 → Type 0
 RunsAgree A = (first second first_after second_after : ArrayRef A) (commands : List (Command A)) (answers others : List (Answer A))
     → plain first ≡ plain second → IsExecution first commands answers first_after → IsExecution second commands others second_after

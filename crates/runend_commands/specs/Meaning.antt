@@ -72,12 +72,12 @@ abbrev pub AreExtremesOf : {A : Type 0} → PlainColumn → Answer A → Type 0
 AreExtremesOf before (MinMaxIs found) = AreExtremesIfAny before found
 AreExtremesOf before answer = ⊥
 
--- whether it is so
+-- whether the fact holds
 abbrev pub IsTruthOf : {A : Type 0} → Type 0 → Answer A → Type 0
 IsTruthOf P (BoolIs truth) = IsTrue truth ↔ P
 IsTruthOf P answer = ⊥
 
--- the answer is one to the command: of a command that is there for the rows that it leaves, that it is done
+-- the answer fits the command: a command whose purpose is the rows that it leaves is answered that it is done
 abbrev pub IsAnswer : {A : Type 0} → PlainColumn → Command A → Answer A → Type 0
 IsAnswer before (At index) answer = IsRowValue before index answer
 IsAnswer before Sum answer = IsSumOf before answer
@@ -93,13 +93,13 @@ IsOneNull (OfConstant constant) = (constant.value ≡ None) × (constant.count �
 IsOneNull (OfLists lists) = ⊥
 IsOneNull (OfRuns ends_type ends values offset count) = ⊥
 
--- ends of the least type that has the last of them, and flat values as a call computes them; where all rows are null
+-- ends of the least type that holds the last of them, and flat values as a call computes them; where all rows are null
 -- there may be one constant null instead, and then the ends are u64
 abbrev pub AreTightParts : PType → List ℕ → Column → List (Option Value) → Type 0
 AreTightParts ends_type ends values rows =
     (IsLeastFor (last_end ends) ends_type × IsComputedFlat values) ⊎ ((ends_type ≡ U64) × IsOneNull values × All (λ row. row ≡ None) rows)
 
--- a run column that is a tight exact cover of the rows, so of as few runs as can be
+-- a run column that is a tight exact cover of the rows, so it has the least number of runs
 abbrev pub IsTightColumn : List (Option Value) → Column → Type 0
 IsTightColumn rows (OfLeaf leaf) = ⊥
 IsTightColumn rows (OfConstant constant) = ⊥
@@ -107,8 +107,8 @@ IsTightColumn rows (OfLists lists) = ⊥
 IsTightColumn rows (OfRuns ends_type ends values offset count) =
     IsTightCover rows ends (column_rows values) × (offset ≡ 0) × (count ≡ length rows) × AreTightParts ends_type ends values rows
 
--- what a command promises of the form that it leaves, whichever kernels there are: one that only answers leaves the
--- array as it is
+-- what a command promises of the form that it leaves, whichever kernels there are: a command that only answers leaves
+-- the array as it is
 abbrev pub LeavesForm : {A : Type 0} → ArrayRef A → Command A → ArrayRef A → Type 0
 LeavesForm before Encode after = IsTightColumn (column_rows (column_of before)) (column_of after)
 LeavesForm before Decode after = IsFlat (column_of after)

@@ -14,7 +14,8 @@ use Rattle.runend_commands.specs.Step.{IsDone}
 use Rattle.runend_commands.specs.KernelForms.{LeavesByKernel}
 use Rattle.runend_commands.specs.Kept.{LeavesKept}
 
--- the command may come to this: to an array in the place of the one before, to an answer beside it, or to a refusal
+-- the command may come to this: to an array in the place of the one before, to an answer while the array stays, or to a
+-- refusal
 abbrev pub IsOutcome : {A : Type 0} → SessionForm → ArrayRef A → Command A → Result (StepResult A) VortexError → Type 0
 IsOutcome session before command (Ok (Becomes after)) = IsDone before command Done after × LeavesByKernel session before command Done after
 IsOutcome session before command (Ok (Answers answer)) = IsDone before command answer before × LeavesByKernel session before command answer before

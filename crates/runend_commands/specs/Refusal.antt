@@ -21,7 +21,7 @@ use Rattle.runend_array.specs.Array.{dtype_of, rows}
 use Rattle.runend_commands.specs.declared.command.Command.{Command}
 use Rattle.runend_commands.specs.declared.command.Command.TheVariants.{Slice, Filter, Take, TakeFrom, CompareScalar, CompareColumn, Cast, FillNull, Encode, Decode, At, Sum, MinMax, IsConstant, IsSorted}
 
--- the rows are no integers
+-- the rows are not integers
 abbrev pub numbers_fault : DType → Option VortexError
 numbers_fault (column.Primitive t n) = None
 numbers_fault t = Some OnlyPrimitive

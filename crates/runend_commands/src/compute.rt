@@ -1,5 +1,5 @@
 //! The operations on arrays of any form, each with the exact rows, type and refusals of its definition on the plain
-//! list of rows. Which kernel of the session serves, if any, decides the form that is left and the cost alone.
+//! list of rows. Which kernel of the session serves, if any, decides only the form that is left and the cost.
 
 mod casts;
 mod codes;

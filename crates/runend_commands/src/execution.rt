@@ -16,8 +16,8 @@ use std::mem::replace;
 /// Rows, types, answers and refusals are those of the definitions on the plain list of rows, whatever
 /// the column's form, and whichever kernels are registered. These decide which form a step leaves.
 ///
-/// The only error is `OutOfMemory`, before the first command, and leaves the column as it is: there is
-/// room for all answers from then on. A command that lacks memory is answered `Refused(OutOfMemory)`.
+/// The only error is `OutOfMemory`, before the first command, and leaves the column as it is: there is room for all
+/// answers from then on. A command that runs out of memory is answered `Refused(OutOfMemory)`.
 pub fn execute<A: Allocator + Copy>(
     column: &mut ArrayRef<A>,
     commands: &[Command<A>],

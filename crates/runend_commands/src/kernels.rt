@@ -5,7 +5,7 @@ ghost use Rattle.runend_array.specs.declared.session.Kernel.{Kernel};
 
 use runend_array::{Kernel, Thresholds, VortexSession};
 
-/// Every kernel, in the order in which they are declared.
+/// Lists every kernel, in the order in which they are declared.
 pub const KERNELS: [Kernel; 12] = [
     Kernel::Slice,
     Kernel::Filter,
@@ -21,35 +21,36 @@ pub const KERNELS: [Kernel; 12] = [
     Kernel::IsSorted,
 ];
 
-/// Writing all rows first, as the majority of runs, is work by the row that only pays where it spares
-/// many runs. From this many runs on a bool decoder does so, and below it appends run by run.
+/// Sets the least number of runs at which a decoder of booleans first fills all rows with what most runs show. That is
+/// work for each row, which only pays where it spares many runs; with fewer runs it appends run by run.
 const PREFILL_RUNS: usize = 32;
 
-/// A filter that keeps runs has costs that do not shrink with the selection: it reads every run, and
-/// filters the values too. With fewer selected rows than this, it takes those rows one by one.
+/// Sets the number of selected rows below which a filter takes rows one by one. A filter that keeps runs has costs that
+/// do not shrink with the selection: it reads every run, and filters the values too.
 const MIN_RUN_FILTER_SELECTED_ROWS: usize = 25;
 
-/// Taking costs by the selected row, keeping runs by the run. Where the runs are more than this many
-/// times the selected rows, a filter takes.
+/// Lets a filter take rows one by one where the runs are more than this many times the selected rows. Taking costs by
+/// the selected row, and keeping runs costs by the run.
 const TAKE_RUNS_PER_SELECTED_ROW: usize = 10;
 
-/// Sorted indices can be merged with the ends, which reads each run once, where a search reads a few
-/// runs for each index. Up to this many runs for each index, the merge is less work.
+/// Sets the greatest number of runs for each index at which sorted indices are merged with the ends. The merge reads
+/// each run once, where a search reads a few runs for each index.
 const SORTED_RUNS_PER_INDEX: usize = 16;
 
-/// A bit for each row, set where a run ends, costs by the word of 64 rows and by the run, and then gives
-/// the run of an index by a count. Up to this many rows for each index, that is less work than a search
-/// for each.
+/// Sets the greatest number of rows for each index at which each row gets a bit, set where a run ends. The bits cost by
+/// the word of 64 rows and by the run, and then give the run of an index by a count, where a search reads a few runs
+/// for each index.
 const TABLE_LEN_PER_INDEX: usize = 8;
 
-/// Ends that stay in the processor's cache are searched faster than indices are sorted. From this many
-/// runs on, 2 to the power of 19, they do not stay there, and sorting for a merge may pay.
+/// Sets the least number of runs, 2 to the power of 19, at which indices may be sorted for a merge. Fewer ends stay in
+/// the processor's cache, and are searched faster than indices are sorted.
 const UNSORTED_MIN_RUNS: usize = 524_288;
 
-/// As `SORTED_RUNS_PER_INDEX`, but smaller, since the indices have to be sorted first.
+/// Sets the greatest number of runs for each index at which indices are sorted and merged: a smaller one than
+/// `SORTED_RUNS_PER_INDEX`, since the indices have to be sorted first.
 const UNSORTED_RUNS_PER_INDEX: usize = 4;
 
-/// Registers every kernel in the session, and sets these thresholds.
+/// Registers every kernel in the session, and sets the thresholds of the Rust crate.
 pub fn initialize(session: &mut VortexSession)
     ensures kernels { (k : Kernel) → is_registered_in session.new k ≡ true }
     ensures thresholds { session.new.thresholds ≡ crate_thresholds }
@@ -60,7 +61,7 @@ pub fn initialize(session: &mut VortexSession)
     session.set_thresholds(default_thresholds());
 }
 
-/// These thresholds, which are those of the Rust crate.
+/// Returns the thresholds of the Rust crate.
 pub fn default_thresholds() -> Thresholds
     ensures { result ≡ crate_thresholds }
 {

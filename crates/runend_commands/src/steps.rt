@@ -17,12 +17,12 @@ use runend_array::{ArrayRef, ExecutionCtx};
 use std::alloc::Allocator;
 use std::ops::Range;
 
-/// What a command that is not refused comes to.
+/// Holds what comes of a command that is not refused.
 #[derive(Drop)]
 pub enum StepResult<A: Allocator> {
-    /// This column takes the place of the one before, and the answer is that the command is done.
+    /// Replaces the column by this one, and answers that the command is done.
     Becomes(ArrayRef<A>),
-    /// The column stays, and this is the answer.
+    /// Leaves the column as it is, and answers this.
     Answers(Answer<A>),
 }
 
@@ -88,8 +88,8 @@ fn written_out<A: Allocator + Copy>(
     none
 }
 
-/// Runs one command, as the calls of `compute` leave it: a filter of a constant, a constant that has a row cast, filled
-/// or compared with a value, and two constants compared leave a constant.
+/// Runs one command, and leaves the form that the calls of `compute` leave: a constant after a filter of a constant,
+/// after a cast, fill or comparison with a value of a constant that has a row, and after a comparison of two constants.
 pub fn kept_outcome_of<A: Allocator + Copy>(
     command: &Command<A>,
     column: &ArrayRef<A>,
@@ -199,7 +199,7 @@ fn fill_column<A: Allocator + Copy>(
     Ok(StepResult::Becomes(filled))
 }
 
-// Whether the operator holds of each row and the row of `right` beside it.
+// Whether the operator holds of each row and the row of `right` at the same place.
 fn compare_column_with_column<A: Allocator + Copy>(
     column: &ArrayRef<A>,
     operator: CompareOperator,

@@ -28,7 +28,7 @@ abbrev pub IsMisfit : ℕ → ℕ → (ℤ → Type 0) → ℤ → Misfit → Ty
 IsMisfit dropped added Has n Inexact = IsInexactBy dropped added n
 IsMisfit dropped added Has n Overflow = IsPastBy dropped added Has n
 
--- the same of a value that may be null
+-- why a decimal that may be null is not held at the other scale
 abbrev pub IsValueMisfit : ℕ → ℕ → (ℤ → Type 0) → Option ℤ → Misfit → Type 0
 IsValueMisfit dropped added Has None misfit = ⊥
 IsValueMisfit dropped added Has (Some n) misfit = IsMisfit dropped added Has n misfit

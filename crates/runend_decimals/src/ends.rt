@@ -39,7 +39,7 @@ fn end_among<A: Allocator>(ends: &PrimitiveValues<A>, run: usize) -> usize
     match_each_unsigned!(ends, items => end_at(items.as_slice(), run))
 }
 
-// The same, of ends of one type.
+// The same for ends of one type.
 #[inline]
 fn end_at<E: UnsignedPType>(ends: &[E], run: usize) -> usize
     requires { run < length ends.now }

@@ -117,7 +117,7 @@ fn scaled_integers<A: Allocator + Copy>(
     rescaled_decimals(alloc, ends, &widened, to)
 }
 
-// Returns integers as decimals without places. Refused as `OutOfMemory` only.
+// Returns integers as decimals without places. Refused only as `OutOfMemory`.
 fn widened<A: Allocator + Copy>(
     alloc: A,
     integers: &PrimitiveArray<A>,
@@ -134,7 +134,7 @@ fn widened<A: Allocator + Copy>(
     Ok(DecimalArray::new_unchecked(items, decimal, validity))
 }
 
-// Returns integers as those of decimals. Refused as `OutOfMemory` only.
+// Returns integers as those of decimals. Refused only as `OutOfMemory`.
 fn widened_numbers<A: Allocator + Copy>(
     alloc: A,
     values: &PrimitiveValues<A>,

@@ -12,7 +12,7 @@ pub(crate) struct PowerOfTen {
 }
 
 impl PowerOfTen {
-    /// Returns 10 to the power of the places that a scale has more than another: 1 where it has none more.
+    /// Returns 10 to the power of the places that a scale has more than another, and 1 where it has none more.
     pub(crate) fn between(scale: i8, other: i8) -> PowerOfTen
         ensures power { IsPowerOfTen result }
         ensures places { result.places ≡ places_more scale other }

@@ -47,8 +47,8 @@ pub(crate) fn rescaled_decimals<A: Allocator + Copy>(
     Ok(DecimalArray::new_unchecked(items, to, validity))
 }
 
-/// Returns the items of these decimals at another scale, that of 0 for null. Refused with the first row whose decimal
-/// has no item, and as `OutOfMemory`.
+/// Returns the items of these decimals at another scale, and the item of 0 for null. Refused with the first row whose
+/// decimal has no item, and as `OutOfMemory`.
 pub(crate) fn rescaled_items<Z: Copy + Drop, L: Limits<Z>, A: Allocator + Copy>(
     alloc: A,
     ends: &PrimitiveArray<A>,

@@ -13,8 +13,8 @@ use runend_array::ArrayRef;
 use runend_builder::row_runs;
 use std::alloc::Allocator;
 
-/// Returns the ends and the values of the encoding of a column of decimals of any form: what is looked at are runs,
-/// where the column is in runs or a constant, and only visible ones. Refused as `OutOfMemory` only.
+/// Returns the ends and the values of the encoding of a column of decimals of any form. Looks only at the visible runs
+/// of a run column or a constant. Refused only as `OutOfMemory`.
 pub(crate) fn decimal_runs<A: Allocator + Copy>(
     alloc: A,
     column: &ArrayRef<A>,
@@ -31,7 +31,7 @@ pub(crate) fn decimal_runs<A: Allocator + Copy>(
     }
 }
 
-/// Returns the same of a column of integers. Refused as `OutOfMemory` only.
+/// Returns the same for a column of integers. Refused only as `OutOfMemory`.
 pub(crate) fn integer_runs<A: Allocator + Copy>(
     alloc: A,
     column: &ArrayRef<A>,

@@ -22,8 +22,8 @@ use std::alloc::Allocator;
 /// Returns the same decimals in another precision and scale, null where the row is: the run column of the only tight
 /// exact cover, with ends of the least unsigned type and flat values. Takes a step for each visible run. A precision
 /// past 38 limits digits to 38. Refused as `Unsupported` where the column is not of decimals, before any memory is
-/// taken; then, with the first row that is not a decimal of the type asked for, as `Inexact` where it has places that
-/// the scale has not, and as `Overflow` where it has more digits than the precision; and else only as `OutOfMemory`.
+/// taken; then, with the first row that is not a decimal of the type asked for, as `Inexact` where it has more places
+/// than the scale, and as `Overflow` where it has more digits than the precision; and else only as `OutOfMemory`.
 pub fn rescale<A: Allocator + Copy>(
     column: &ArrayRef<A>,
     to: DecimalDType,

@@ -71,7 +71,7 @@ impl Rescaling {
         }
     }
 
-    /// Returns the item of a decimal, or that of 0 for null.
+    /// Returns the item of a decimal, or the item of 0 for null.
     #[inline]
     pub(crate) fn item<Z: Copy + Drop, L: Limits<Z>>(
         self,
@@ -132,7 +132,7 @@ pub(crate) struct Digits {
 }
 
 impl Digits {
-    /// Returns the limit of a precision, which is that of 38 digits from a precision of 38 on.
+    /// Returns the limit of a precision; from a precision of 38 on it is the limit of 38 digits.
     pub(crate) fn of(precision: u8) -> Digits
         ensures { result.limit ≡ 10 ^ min precision 38 }
     {

@@ -51,7 +51,7 @@ pub fn sum_decimals<A: Allocator + Copy>(
     sum
 }
 
-// Returns the sum of the rows that these runs show, by one step a run. Refused as `Overflow` only.
+// Returns the sum of the rows that these runs show, by one step a run. Refused only as `Overflow`.
 fn sum_runs<A: Allocator>(
     ends: &PrimitiveArray<A>,
     values: &DecimalArray<A>,

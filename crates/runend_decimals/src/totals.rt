@@ -9,8 +9,8 @@ use crate::sums::DecimalSum;
 // The greatest integer of 38 digits.
 const GREATEST: u128 = 99_999_999_999_999_999_999_999_999_999_999_999_999;
 
-/// Returns a sum with a run more: as many rows as given of one decimal or of nulls. Refused, where it has more digits
-/// than 38, with how many of these rows the sum holds.
+/// Returns a sum after one more run: `rows` rows of one decimal or of nulls. Refused, where it has more digits than 38,
+/// with how many of these rows the sum holds.
 #[inline]
 pub(crate) fn with_rows(
     sum: DecimalSum,

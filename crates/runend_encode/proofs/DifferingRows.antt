@@ -5,7 +5,7 @@ use Rattle.std.specs.Int.{bit_at}
 use Rattle.std.proofs.lemmas.Bool.{cases_eq}
 use Rattle.runend_windows.specs.Starts.{GoesOn}
 
--- a bit that is not left is told, and one that is left is 1
+-- a bit that is not left is known, and one that is left is 1
 pub record AreLeft {B : Type 0} (rows : List B) (start stop rest word : ℕ) : Type 0 where
   pub told : (lane : ℕ) → lane < 64 → start + lane < stop → bit_at rest lane ≡ 0 → ((bit_at word lane ≡ 0) ↔ GoesOn rows (start + lane))
   pub left : (lane : ℕ) → lane < 64 → bit_at rest lane ≡ 1 → bit_at word lane ≡ 1

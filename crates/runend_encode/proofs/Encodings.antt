@@ -37,7 +37,7 @@ IsRowEncoding-of_runs rows dtype wanted ends values runs least = record {
 pub runs-increasing : (rows : List (Option Value)) (dtype : DType) (ends : List ℕ) (values : Leaf) → AreRunValues rows dtype ends values → IsStrictlyIncreasing ends
 runs-increasing rows dtype ends values runs = runs.cover.covers.window.increasing
 
--- and none is behind the last row
+-- and none is after the last row
 pub runs-within : (rows : List (Option Value)) (dtype : DType) (ends : List ℕ) (values : Leaf) (count : ℕ) → length rows ≡ count → AreRunValues rows dtype ends values → All (λ run. run ≤ count) ends
 runs-within rows dtype ends values count counted runs k d within =
     let below = le-last_end ends k d runs.cover.covers.window.increasing within in

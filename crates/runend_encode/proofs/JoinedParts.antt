@@ -24,7 +24,7 @@ option_map-one f one None (Some y) e = cc
 option_map-one f one (Some x) None e = cc
 option_map-one f one (Some x) (Some y) e = let same : f x ≡ f y = cc in ap Some (one x y same)
 
--- a tight cover of the rows that runs show stays one under a function that tells all values apart
+-- a tight cover of the rows that runs show stays one under a function that distinguishes all values
 tight-map : {X Y : Type 0} (f : X → Y) → ((x y : X) → f x ≡ f y → x ≡ y) → (ends : List ℕ) (values : List (Option X)) (offset count : ℕ) (least : List ℕ) (joined : List (Option X))
     → IsWindow ends offset count → length values ≡ length ends → IsTightCover (run_rows ends values offset count) least joined
     → IsTightCover (run_rows ends (map (option_map f) values) offset count) least (map (option_map f) joined)
@@ -58,7 +58,7 @@ AreJoined-made ends values joined_ends joined_values offset count numbers bits w
       computed = record { blanked = rw (marks, plain) zeroed; normal = normal; some = subst (HasRowIfAllNull joined_values.validity) (paired ∙ sym (ap length plain)) some };
     }
 
--- parts of which the ends alone were counted anew
+-- parts of which only the ends were counted anew
 pub AreJoined-moved : (ends values moved : PrimitiveForm) (offset count : ℕ) → IsWindow (ends_of ends) offset count → length (optional_numbers values) ≡ length (ends_of ends)
     → IsTightCover (run_rows (ends_of ends) (optional_numbers values) offset count) (ends_of moved) (optional_numbers values) → primitive_dtype moved ≡ primitive_dtype ends → IsComputed values
     → AreJoined ends values offset count moved values

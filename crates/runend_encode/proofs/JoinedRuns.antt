@@ -1,4 +1,4 @@
--- Runs of runs: where runs stand for stretches of rows, the encoding of their values tells which of them are joined.
+-- Runs of runs: where runs represent stretches of rows, the encoding of their values says which of them are joined.
 use Rattle.std.proofs.Common.{◌≡◌, ◌∙◌, ◌+◌, ◌-◌, ◌<◌, ◌≤◌, ◌^◌, ℕ, zero, suc, List, [], ◌∷◌, length, map, refl, sym, ap, subst, arith, inl, inr}
 use Rattle.std.specs.Prelude.{slice_get}
 use Rattle.std.proofs.lemmas.Bool.{cases_lt}
@@ -7,7 +7,7 @@ use Rattle.runend_windows.proofs.Grow.{IsTightCover-from_Tiles}
 use Rattle.runend_windows.proofs.ShownRuns.{shown_at, shown_at-here, shown_at-past}
 use Rattle.runend_windows.proofs.Tiles.{Tiles, Tiles-from_IsTightCover, Tiles-le, shown-from_IsTightCover}
 
--- `starts` tells where each of so many runs starts, and behind the last run where it ends: no run is empty
+-- `starts` is where each run starts, and after the last run where it ends: no run is empty
 abbrev pub AreFilled : (ℕ → ℕ) → ℕ → Type 0
 AreFilled starts runs = (run : ℕ) → run < runs → starts run < starts (run + 1)
 
@@ -70,7 +70,7 @@ pub record IsInRun {A : Type 0} (starts : ℕ → ℕ) (values : List A) (rows :
   pub to : row < starts (run + 1)
   pub shows : slice_get rows row ≡ slice_get values run
 
--- the tight cover of the values of runs is that of their rows, with the ends told in rows
+-- the tight cover of the values of runs is that of their rows, with the ends counted in rows
 pub IsTightCover-of_runs : {A : Type 0} (starts : ℕ → ℕ) (values rows : List A) (ends : List ℕ) (joined : List A)
     → length rows < 2 ^ 64 → AreFilled starts (length values) → starts 0 ≡ 0 → starts (length values) ≡ length rows
     → ((row : ℕ) → row < length rows → IsInRun starts values rows row)

@@ -51,7 +51,7 @@ pub alike : {S : Type 0} (number : S → ℤ) (items : List S) (marks : List Boo
 alike number items marks j k x y v w first second here there left right same equal =
     marked-read number items marks j x v first here left ∙ ap Some (equal-optionals v w (number x) (number y) same equal) ∙ sym (marked-read number items marks k y w second there right)
 
--- one more run is written: its number, and its flag in the place behind those before it
+-- one more run is written: its number, and its flag in the place after those before it
 pub shown-put : {S : Type 0} (number : S → ℤ) (items : List S) (flags written : List Bool) (x : S) (flag : Bool) → length items ≤ length flags
     → take (length items + 1) written ≡ take (length items) flags ++ flag ∷ []
     → optionals (map number (items ++ x ∷ [])) (take (length (items ++ x ∷ [])) written) ≡ optionals (map number items) (take (length items) flags) ++ optional_of flag (number x) ∷ []
@@ -66,7 +66,7 @@ zeroed-put number items flags written x flag within put blank zeroed =
     let long : length (take (length items) flags) ≡ length (map number items) = length-take-le (length items) flags within ∙ sym (length-map items number) in
     rw (length_push items x, put, optionals-push_mapped number items x) (AreZeroAtNulls-push (map number items) (take (length items) flags) (number x) flag long blank zeroed)
 
--- behind a place from which on all flags are true, they are, and so is the one there
+-- after a place from which on all flags are true, they are, and so is the one there
 pub rest-more : (flags : List Bool) (place : ℕ) → place < length flags → drop place flags ≡ replicate (length flags - place) true
     → drop (place + 1) flags ≡ replicate (length flags - (place + 1)) true
 rest-more flags place within rest =

@@ -82,7 +82,7 @@ last-moved (end ∷ ends) offset count window =
       | inr none ↦ omega arith
     ]
 
--- where each run shows a row, only the last one ends behind the window
+-- where each run shows a row, only the last one ends after the window
 pub windowed-moved : (ends : List ℕ) (offset count : ℕ) → IsWindow ends offset count → AllHaveRows ends offset count
     → set (map (λ end. end - offset) ends) (length ends - 1) count ≡ map (λ end. min (end - offset) count) ends
 windowed-moved ends offset count window shown =

@@ -17,7 +17,7 @@ use Rattle.column_ops.specs.Order.{row_cmp}
 use Rattle.column_ops.proofs.OrderLaws.{row_equal, row_total}
 use Rattle.runend_windows.specs.Starts.{GoesOn}
 
--- what stands as it stands in reverse is level
+-- what compares as it compares in reverse is level
 level_reversed : (order : Ordering) → order ≡ ordering_reverse order → order ≡ Equal
 level_reversed Less h = cc
 level_reversed Equal h = refl
@@ -28,7 +28,7 @@ level_by_test Less h = cc
 level_by_test Equal h = refl
 level_by_test Greater h = cc
 
--- the order tells two rows of flat columns apart exactly where they differ
+-- the order distinguishes two rows of flat columns exactly where they differ
 pub is_same-decides : (order : Ordering) (result : Bool) (s t : Option Value) → order ≡ row_cmp s t → result ≡ is_eq order
     → (a b : Option FlatValue) → option_map Single a ≡ s → option_map Single b ≡ t → (IsTrue result ↔ (a ≡ b))
 is_same-decides order result s t compared told a b left right = (
@@ -72,7 +72,7 @@ differ-from_test result s t a b left right tells told = λ same.
     let wrong = (tells a b left right).1 one in
     cc
 
--- rows that are told apart by what they are seen as
+-- rows that are distinguished by what they are seen as
 pub same-by_views : (rows : List (Option FlatValue)) (left right : ℕ) (s t : Option Value) (result : Bool)
     → slice_get (map (option_map (λ (v : FlatValue). Single v)) rows) left ≡ Some s → slice_get (map (option_map (λ (v : FlatValue). Single v)) rows) right ≡ Some t → TellsSame result s t
     → (IsTrue result ↔ (slice_get (map (option_map (λ (v : FlatValue). Single v)) rows) left ≡ slice_get (map (option_map (λ (v : FlatValue). Single v)) rows) right))
@@ -87,7 +87,7 @@ same-by_views rows left right s t result here there tells =
           tell.1 (single-one a.0 b.0 (a.1 ∙ one ∙ sym b.1))),
     )
 
--- rows of items that are told apart by their flags and their items
+-- rows of items that are distinguished by their flags and their items
 pub same-by_items : {B : Type 0} (value : B → FlatValue) (xs : List B) (form : ValidityForm) (n left right : ℕ) (x y : B) (v w equal result : Bool)
     → ((a b : B) → value a ≡ value b → a ≡ b) → HasLength form n → length xs ≡ n → left < n → right < n → slice_get xs left ≡ Some x → slice_get xs right ≡ Some y
     → v ≡ flag_at form left → w ≡ flag_at form right → (IsTrue equal ↔ (slice_get xs left ≡ slice_get xs right))

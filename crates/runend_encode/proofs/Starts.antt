@@ -68,7 +68,7 @@ starts-positions leaf ends starts cover are =
     (ap (map (λ (place : ℕ). Some place)) (sym are) ∙ sym (optionals-all_valid starts (length starts) refl))
     (subst (ArePositions (map (λ place. Some place) (starts_from 0 ends))) (length-single leaf) (starts-are_positions (single_rows leaf) ends cover))
 
--- a type has its own nullability, also beside positions without null
+-- a type has its own nullability, also with positions without null
 own_type : (t : DType) → with_nullability t (either_nullable (nullability_of t) NonNullable) ≡ t
 own_type (column.Bool NonNullable) = refl
 own_type (column.Bool Nullable) = refl

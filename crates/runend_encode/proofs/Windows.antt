@@ -15,7 +15,7 @@ start_in-next ends offset count run = rw add-one refl
 start_in-first : (ends : List ℕ) (offset count : ℕ) → start_in ends offset count 0 ≡ 0
 start_in-first ends offset count = omega arith
 
--- a run starts at no row behind one of its own
+-- a run starts at no row after one of its own
 start_in-le : (ends : List ℕ) (offset count row run : ℕ) → run ≤ run_at ends (offset + row) → start_in ends offset count run ≤ row
 start_in-le ends offset count row zero before = omega arith
 start_in-le ends offset count row (suc run) before =
@@ -24,7 +24,7 @@ start_in-le ends offset count row (suc run) before =
     let same : run + 1 ≡ suc run = omega arith in
     subst (λ (k : ℕ). start_in ends offset count k ≤ row) same (omega arith)
 
--- and the next one behind it
+-- and the next one after it
 start_in-past : (ends : List ℕ) (offset count row : ℕ) → IsWindow ends offset count → row < count → row < start_in ends offset count (run_at ends (offset + row) + 1)
 start_in-past ends offset count row window within =
     let past = ends_past ends (offset + row) (run_of_row_within ends offset count row window within) in

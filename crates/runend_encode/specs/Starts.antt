@@ -1,4 +1,4 @@
--- Where runs start, and what stands there.
+-- Where runs start, and what is there.
 use Rattle.std.specs.Prelude.{ℕ, List, Option, None}
 use Rattle.column_core.specs.Value.{Value}
 use Rattle.runend_windows.specs.Cover.{IsTightCover}

@@ -8,8 +8,8 @@ use crate::row_changes::RowChanges;
 use column_core::{BitBuffer, BitBufferMut, VortexError, VortexResult};
 use std::alloc::Allocator;
 
-/// Returns a bit for each row: whether it differs from the row before, null being equal to null. That of the first row
-/// is false. Refused only as `OutOfMemory`.
+/// Returns a bit for each row: whether it differs from the row before, null being equal to null. The bit of the first
+/// row is false. Refused only as `OutOfMemory`.
 pub(crate) fn changes_of<R: RowChanges<A>, A: Allocator + Copy>(
     alloc: A,
     column: &R,
@@ -21,7 +21,7 @@ pub(crate) fn changes_of<R: RowChanges<A>, A: Allocator + Copy>(
     Ok(BitBufferMut::from_words(words, column.row_count()).freeze())
 }
 
-// These bits in words of 64, of which the last may have more.
+// These bits in words of 64; the last word may have more.
 fn change_words<R: RowChanges<A>, A: Allocator + Copy>(
     alloc: A,
     column: &R,

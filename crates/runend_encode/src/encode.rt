@@ -18,7 +18,7 @@ use runend_windows::encode_plain;
 use std::alloc::Allocator;
 
 /// Returns the ends and the values of the runs of a flat column, both flat: a run for each longest stretch of equal
-/// rows, null being equal to null. Ends are of the least unsigned type that has the last of them. Values are of the
+/// rows, null being equal to null. Ends are of the least unsigned type that holds the last of them. Values are of the
 /// column's type, with 0, false or the view of nothing stored under null; texts and bytes share the column's buffers.
 /// Refused only as `OutOfMemory`.
 pub fn encode_flat<A: Allocator + Copy>(
@@ -50,8 +50,8 @@ pub fn encode_flat<A: Allocator + Copy>(
 }
 
 /// Returns the ends and the values of the runs of the rows that runs with these ends and values show, `count` of them
-/// from position `offset` on, as `encode_flat` makes them: what is looked at and held are runs, and not rows. Each run
-/// has to show a row, so hidden runs are dropped before. Refused only as `OutOfMemory`.
+/// from position `offset` on, as `encode_flat` makes them. Looks at runs and holds runs, and not rows. Each run has to
+/// show a row, so hidden runs are dropped before. Refused only as `OutOfMemory`.
 pub fn encode_runs<A: Allocator + Copy>(
     alloc: A,
     ends: &PrimitiveArray<A>,
@@ -117,7 +117,7 @@ fn encode_rows<R: RowChanges<A>, A: Allocator + Copy>(
 }
 
 // The encoding of the rows that runs over such a column show. Where neighbours have equal values, the runs of the
-// values tell which runs are joined.
+// values say which runs are joined.
 fn encode_shown<R: RowChanges<A>, A: Allocator + Copy>(
     alloc: A,
     ends: &PrimitiveArray<A>,

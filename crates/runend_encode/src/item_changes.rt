@@ -10,7 +10,7 @@ use runend_windows::changed_items;
 use std::alloc::Allocator;
 
 /// Returns a bit for each of the 64 integers from `index` * 64 on, the first of them lowest: whether it differs from
-/// the integer before. That of the first integer of all is false. Bits after the last integer may be any.
+/// the integer before. The bit of the first integer of all is false. Bits after the last integer may be any.
 #[inline(always)]
 pub(crate) fn changed_integers<A: Allocator>(values: &PrimitiveValues<A>, index: usize) -> u64
     requires { index * 64 < length (numbers values.now) }
@@ -20,8 +20,8 @@ pub(crate) fn changed_integers<A: Allocator>(values: &PrimitiveValues<A>, index:
     match_each_native!(values, items => changed_items(items.as_slice(), index))
 }
 
-/// Returns a bit for each of up to 64 numbers from `start` on: whether it differs from the number before. That of the
-/// first number of all is false.
+/// Returns a bit for each of up to 64 numbers from `start` on: whether it differs from the number before. The bit of
+/// the first number of all is false.
 #[inline(always)]
 pub(crate) fn changed_numbers(numbers: &[i128], start: usize) -> u64
     requires { start < length numbers.now }

@@ -28,10 +28,9 @@ use std::alloc::Allocator;
 /// one at `count`, and the ends count rows from the first. Ends and values keep their types; the number under a null is
 /// 0. Each run has to show a row, so hidden runs are dropped before.
 ///
-/// Where no neighbours show the same, the values are answered as they are, and so are the ends where they are counted
-/// from the first row. Other ends are moved in the memory that they are in, or in a copy where that has another owner.
-/// Else each run is looked at once more.
-/// Refused only as `OutOfMemory`.
+/// Where no neighbours show the same, the values are returned as they are, and so are the ends where they are counted
+/// from the first row. Other ends are moved in their own memory, or in a copy where something else shares it. Else each
+/// run is looked at once more. Refused only as `OutOfMemory`.
 pub fn coalesce_runs<A: Allocator + Copy>(
     alloc: A,
     ends: PrimitiveArray<A>,
@@ -57,8 +56,8 @@ pub fn coalesce_runs<A: Allocator + Copy>(
     joined
 }
 
-// The ends of runs, each of which shows a row, counted from the first row of the window: as they are where they are
-// counted so, else in the memory that they are in where these are its only owner, and else in a copy.
+// The ends of runs, each of which shows a row, counted from the first row of the window: unchanged where they are
+// counted so already, else in their own memory where nothing else shares it, and else in a copy.
 fn ends_in_window<A: Allocator + Copy>(
     alloc: A,
     ends: PrimitiveArray<A>,

@@ -15,14 +15,14 @@ use column_core::{
 };
 use std::alloc::Allocator;
 
-/// The runs that are closed, in order.
+/// Holds the runs that are closed, in order.
 #[derive(Drop)]
 pub(crate) struct JoinedRuns<E: Drop, T: Drop, A: Allocator> {
-    /// The row that each run ends before.
+    /// Holds the row that each run ends before.
     pub(crate) ends: Vec<E, A>,
-    /// The number of each run, 0 for null.
+    /// Holds the number of each run, 0 for null.
     pub(crate) values: Vec<T, A>,
-    /// Whether each run shows a number.
+    /// Says of each run whether it shows a number.
     pub(crate) flags: BitBufferMut<A>,
 }
 
@@ -214,7 +214,7 @@ fn shows_number<T: NativePType, A: Allocator>(items: &[T], marks: &BitBuffer<A>,
     marks.value(run)
 }
 
-// Makes the flag at `place` this one, where it and all behind it are true.
+// Sets the flag at `place`, where it and all flags after it are true.
 #[inline(always)]
 fn put_flag<A: Allocator + Copy>(flags: &mut BitBufferMut<A>, place: usize, flag: bool)
     requires within { place < length flags.old }
@@ -248,8 +248,8 @@ fn end_of<E: UnsignedPType>(rows: u64) -> E
     E::narrow(i128::from(rows)).unwrap()
 }
 
-// So many stored numbers are compared with those before them until the answer is looked at: a loop without a branch
-// compares several at once, and past two equal neighbours at most so many are looked at for nothing.
+// How many stored numbers are compared with those before them until the answer is looked at: a loop without a branch
+// compares several at once, and past two equal neighbours at most this number is looked at for nothing.
 const COMPARED_AT_ONCE: usize = 256;
 
 /// Returns whether each run shows another value than the one before it.

@@ -7,7 +7,7 @@ use column_core::{PrimitiveArray, Validity, VortexError, VortexResult};
 use runend_windows::narrowed;
 use std::alloc::Allocator;
 
-/// Returns the ends as a column of the least unsigned type that has the last of them. Refused only as `OutOfMemory`.
+/// Returns the ends as a column of the least unsigned type that holds the last of them. Refused only as `OutOfMemory`.
 pub fn least_ends<A: Allocator + Copy>(alloc: A, ends: &[u64]) -> VortexResult<PrimitiveArray<A>>
     requires { IsStrictlyIncreasing ends.now }
     ensures only { IsOkUnless result VortexError.OutOfMemory }

@@ -11,11 +11,11 @@ use column_ops::ColumnOps;
 use runend_windows::{changed_bits, changed_optionals};
 use std::alloc::Allocator;
 
-/// A flat column of one kind, whose changes are found 64 rows at a time. What goes over its rows is compiled for that
-/// kind alone.
+/// Finds the changes of a flat column of one kind, 64 rows at a time. Loops over the rows are compiled for each kind by
+/// itself.
 pub(crate) trait RowChanges<A: Allocator + Copy>: ColumnOps<A> + Drop {
     /// Returns a bit for each of the 64 rows from row `index` * 64 on, the first of them lowest: whether it differs
-    /// from the row before, null being equal to null. That of the first row of all is false. Bits behind the last row
+    /// from the row before, null being equal to null. The bit of the first row of all is false. Bits after the last row
     /// may be any.
     fn change_word(&self, index: usize) -> u64
         requires { index * 64 < length (leaf_rows (Self.leaf self.now)) }

@@ -8,8 +8,8 @@ use column_base::match_each_unsigned;
 use column_core::{PrimitiveArray, PrimitiveValues, UnsignedPType, VortexError, VortexResult};
 use std::alloc::Allocator;
 
-/// Returns the row of the window of `count` rows from position `offset` on before which each of these runs starts, and
-/// behind the last run the row before which that one ends. Refused only as `OutOfMemory`.
+/// Returns for each of these runs the row at which it starts, in the window of `count` rows from position `offset` on,
+/// and after them the row before which the last run ends. Refused only as `OutOfMemory`.
 pub(crate) fn row_ends<A: Allocator + Copy>(
     alloc: A,
     ends: &PrimitiveArray<A>,

@@ -11,8 +11,8 @@ use column_core::{BitBuffer, VortexError, VortexResult};
 use std::alloc::Allocator;
 use std::marker::Model;
 
-/// Returns the row that each longest stretch of equal rows ends before, null being equal to null: that of each row that
-/// differs from the row before, and the number of rows. Refused only as `OutOfMemory`.
+/// Returns the row that each longest stretch of equal rows ends before, null being equal to null: each row that differs
+/// from the row before, and at last the number of rows. Refused only as `OutOfMemory`.
 pub(crate) fn run_ends<R: RowChanges<A>, A: Allocator + Copy>(
     alloc: A,
     column: &R,
@@ -29,10 +29,10 @@ pub(crate) fn run_ends<R: RowChanges<A>, A: Allocator + Copy>(
     bounds
 }
 
-/// Where runs start and end, whose first starts at row 0. In contracts it is the list of their ends.
+/// Holds where runs start and end; the first starts at row 0. In contracts it is the list of their ends.
 #[derive(Drop)]
 pub(crate) struct RunBounds<A: Allocator> {
-    /// Row 0, and the row that each run ends before, at which the next one starts.
+    /// Holds row 0, and the row that each run ends before, at which the next one starts.
     rows: Vec<u64, A>,
 }
 
@@ -69,7 +69,7 @@ impl<A: Allocator + Copy> RunBounds<A> {
         Ok(RunBounds { rows })
     }
 
-    // Those of runs of which each but the first starts where a bit is true, and the last ends behind the bits. All
+    // The bounds of runs each of which, except the first, starts where a bit is true; the last ends after the bits. All
     // memory is taken at first.
     fn of_changes(alloc: A, bits: &BitBuffer<A>) -> VortexResult<Self>
         ensures only { IsOkUnless result VortexError.OutOfMemory }

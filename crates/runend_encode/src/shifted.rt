@@ -5,9 +5,9 @@ ghost use Rattle.runend_encode.specs.Joined.{AllHaveRows};
 
 use column_core::UnsignedPType;
 
-/// A type of ends, whose ends are moved without a wider type.
+/// Moves ends of one type without a wider type.
 pub(crate) trait EndsType: UnsignedPType {
-    /// Returns the end that lies so many rows before this one.
+    /// Returns the end that is `rows` rows before this one.
     fn earlier(self, rows: usize) -> Self
         requires { rows ≤ Self.natural self }
         ensures { Self.natural result ≡ Self.natural self - rows };
@@ -37,18 +37,18 @@ impl EndsType for u64 {
     }
 }
 
-/// Counts the ends of runs, each of which shows a row, from the first row of the window.
+/// Counts the ends of runs from the first row of the window; each run has to show a row.
 pub(crate) fn shift_ends<E: EndsType>(ends: &mut [E], offset: usize, count: usize)
     requires window { IsWindow (map E.natural ends.old) offset count }
     requires shown { AllHaveRows (map E.natural ends.old) offset count }
     ensures { map E.natural ends.new ≡ map (λ end. min (end - offset) count) (map E.natural ends.old) }
 {
     move_ends(ends, offset);
-    // Only the last run may go on behind the window.
+    // Only the last run may go on after the window.
     cut_last(ends, count);
 }
 
-// Moves each end so many rows back.
+// Moves each end `rows` rows back.
 fn move_ends<E: EndsType>(ends: &mut [E], rows: usize)
     requires { All (λ end. rows ≤ E.natural end) ends.old }
     ensures { map E.natural ends.new ≡ map (λ end. end - rows) (map E.natural ends.old) }

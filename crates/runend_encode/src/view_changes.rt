@@ -10,8 +10,8 @@ use column_core::{VarBinViewArray, View};
 use column_ops::ColumnOps;
 use std::alloc::Allocator;
 
-/// Returns a bit for each of up to 64 views from `start` on: whether it differs from the view before. That of the first
-/// view of all is false.
+/// Returns a bit for each of up to 64 views from `start` on: whether it differs from the view before. The bit of the
+/// first view of all is false.
 #[inline(always)]
 pub(crate) fn changed_views(views: &[View], start: usize) -> u64
     requires { start < length views.now }
@@ -26,8 +26,8 @@ pub(crate) fn changed_views(views: &[View], start: usize) -> u64
     }
 }
 
-/// Returns the bits of the rows from `start` on that do differ from the row before, of those that may: bits of rows
-/// that are equal to it are cleared.
+/// Returns the bits of rows from `start` on that may differ from the row before, with those cleared whose rows are
+/// equal to it.
 #[inline(always)]
 pub(crate) fn differing_rows<A: Allocator + Copy>(
     column: &VarBinViewArray<A>,

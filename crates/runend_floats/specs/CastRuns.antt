@@ -34,7 +34,7 @@ pub record AreCastRuns (Casts : ℤ → ℤ → Type 0) (rows : List (Option Val
   pub each : AllZip (IsCastRow Casts) rows cast
   pub encoded : IsEncodedRows cast wanted runs
 
--- the same of its ends and values
+-- ends and values are the encoding of the rows that these rows become
 pub record AreCastParts (Casts : ℤ → ℤ → Type 0) (rows : List (Option Value)) (wanted : DType) (ends : PrimitiveForm) (values : Leaf) : Type 0 where
   pub cast : List (Option Value)
   pub each : AllZip (IsCastRow Casts) rows cast

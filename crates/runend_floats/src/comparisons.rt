@@ -50,8 +50,8 @@ pub fn compare_numbers<A: Allocator + Copy>(
 }
 
 /// Compares each float with the one with these bits in the total order of IEEE 754: by sign, exponent and fraction, so
-/// that only equal bits are equal, -0.0 is below 0.0, and NaNs are below and above all numbers, by their signs. What is
-/// returned, what it costs and what is refused are as for `compare_numbers`.
+/// that only equal bits are equal, -0.0 is below 0.0, and NaNs are below and above all numbers, by their signs.
+/// Returns, costs and refuses the same as `compare_numbers`.
 pub fn compare_total<A: Allocator + Copy>(
     column: &ArrayRef<A>,
     operator: CompareOperator,
@@ -71,8 +71,8 @@ pub fn compare_total<A: Allocator + Copy>(
     tested_column(column, &test, ctx)
 }
 
-// Returns whether the key of each row passes the test, null for null, as the encoding of these booleans. Refused as
-// `OutOfMemory` only.
+// Returns whether the key of each row passes the test, null for null, as the encoding of these booleans. Refused only
+// as `OutOfMemory`.
 fn tested_column<T: KeyTest, A: Allocator + Copy>(
     column: &ArrayRef<A>,
     test: &T,

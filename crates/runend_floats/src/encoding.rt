@@ -45,7 +45,7 @@ pub fn encode_floats<A: Allocator + Copy>(
     Ok(RunEnd::new_unchecked(ArrayRef::Primitive(ends), array_of(keys), 0, bits.len()))
 }
 
-// Returns the ends and the keys of that encoding. Refused as `OutOfMemory` only.
+// Returns the ends and the keys of that encoding. Refused only as `OutOfMemory`.
 fn key_runs<A: Allocator + Copy>(
     alloc: A,
     bits: &ArrayRef<A>,
@@ -70,7 +70,7 @@ fn key_runs<A: Allocator + Copy>(
 }
 
 // Returns the ends and the keys of the encoding of the rows that these runs of bits show, each run at least one.
-// Refused as `OutOfMemory` only.
+// Refused only as `OutOfMemory`.
 fn keyed_runs<A: Allocator + Copy>(
     alloc: A,
     ends: &PrimitiveArray<A>,

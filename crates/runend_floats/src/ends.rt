@@ -19,7 +19,7 @@ pub(crate) fn end_of<A: Allocator>(ends: &PrimitiveArray<A>, run: usize) -> usiz
     end_among(ends.values(), run)
 }
 
-// The same, of the numbers that the ends are.
+// The same for the numbers that the ends are.
 #[tactic(auto, using(runend_windows::proofs::Ends::ends_stored))]
 fn end_among<A: Allocator>(ends: &PrimitiveValues<A>, run: usize) -> usize
     requires unsigned { IsUnsigned (ptype_of ends.now) }
@@ -29,7 +29,7 @@ fn end_among<A: Allocator>(ends: &PrimitiveValues<A>, run: usize) -> usize
     match_each_unsigned!(ends, items => end_at(items.as_slice(), run))
 }
 
-// The same, of ends of one type.
+// The same for ends of one type.
 #[inline]
 fn end_at<E: UnsignedPType>(ends: &[E], run: usize) -> usize
     requires { run < length ends.now }

@@ -36,8 +36,8 @@ pub fn min_max_numbers<A: Allocator + Copy>(
 }
 
 /// Returns the bits of the first and of the last float of a column of floats of any form in the total order of IEEE
-/// 754, in which NaNs are below and above all numbers, by their signs, or `None` where each row is null. What it costs
-/// and what is refused are as for `min_max_numbers`.
+/// 754, in which NaNs are below and above all numbers, by their signs, or `None` where each row is null. Costs and
+/// refuses the same as `min_max_numbers`.
 pub fn min_max_total<A: Allocator + Copy>(
     column: &ArrayRef<A>,
     ctx: &mut ExecutionCtx<A>,
@@ -55,8 +55,8 @@ pub fn min_max_total<A: Allocator + Copy>(
     Ok(floats_of_keys(format, found))
 }
 
-// Returns the least and the greatest of the keys that pass the test, or `None` where none does. Refused as
-// `OutOfMemory` only.
+// Returns the least and the greatest of the keys that pass the test, or `None` where none does. Refused only as
+// `OutOfMemory`.
 fn extreme_keys<T: KeyTest, A: Allocator + Copy>(
     column: &ArrayRef<A>,
     test: &T,

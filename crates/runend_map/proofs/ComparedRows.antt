@@ -115,14 +115,14 @@ beside_fault left right right_dtype rights right_type right_rows none =
     ap (λ (t : DType). compare_column_fault (leaf_dtype left) t (length (leaf_rows left)) (length (leaf_rows right))) right_type
     ∙ ap (λ (n : ℕ). compare_column_fault (leaf_dtype left) right_dtype (length (leaf_rows left)) n) right_count ∙ none
 
--- nor have the shown rows one beside what the runs have none beside
+-- nor have the shown rows one with a column with which the runs have none
 pub shown_fault : (r : Runs) (left : Leaf) (right_dtype : DType) (count : ℕ) → leaf_dtype left ≡ column_dtype r.values → single_rows left ≡ column_rows (column_of_runs r)
     → compare_column_fault (column_dtype r.values) right_dtype r.count count ≡ None → compare_column_fault (leaf_dtype left) right_dtype (length (leaf_rows left)) count ≡ None
 shown_fault r left right_dtype count left_type left_rows none =
     let left_count : length (leaf_rows left) ≡ r.count = sym (length-single_rows left) ∙ ap length left_rows ∙ length-run_rows r.ends (column_rows r.values) r.offset r.count in
     ap (λ (t : DType). compare_column_fault t right_dtype (length (leaf_rows left)) count) left_type ∙ ap (λ (n : ℕ). compare_column_fault (column_dtype r.values) right_dtype n count) left_count ∙ none
 
--- runs beside runs have the fault of the two columns
+-- runs and runs have the fault of the two columns
 pub runs_fault : (left : DType) (count : ℕ) (c : Column) (r : Runs) → c ≡ column_of_runs r → compare_column_fault left (column_dtype c) count (length (column_rows c)) ≡ None
     → compare_column_fault left (column_dtype r.values) count r.count ≡ None
 runs_fault left count c r is none =

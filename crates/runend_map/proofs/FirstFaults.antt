@@ -43,7 +43,7 @@ module _ {B : Type 0} (fault : B → Option VortexError) where
       ap (λ (o : Option VortexError). option_or o (first_fault fault xs)) before
       ∙ first_fault-at xs k x (record { within = omega arith; here = fails.here; fails = fails.fails; before = λ j d lt. fails.before (suc j) d (omega arith) })
 
-  -- an item behind one that has none
+  -- an item after one that has none
   later : (y : B) (xs : List B) (k : ℕ) (x : B) → fault y ≡ None → FailsFirst HasNone xs k x → FailsFirst HasNone (y ∷ xs) (suc k) x
   later y xs k x none rest = record {
     within = let within = rest.within in omega arith;

@@ -75,7 +75,7 @@ written_rows {T} {X} value number blank rows items form bits items_are flagged b
     ∙ ap (λ (xs : List X). map (option_map (λ (v : FlatValue). Single v)) (map (option_map value) (optionals xs (map is_some rows)))) each
     ∙ shown_items value number blank rows
 
--- under null stands the item of the blank one
+-- under null is the item of the blank one
 blank_items : {T X : Type 0} (number : T → X) (blank : T) (rows : List (Option T)) → AreBlankAtNulls (number blank) (map (λ (row : Option T). number (unwrap_or row blank)) rows) (map is_some rows)
 blank_items number blank [] = tt
 blank_items number blank (None ∷ rows) = ((λ null. refl), blank_items number blank rows)
@@ -199,7 +199,7 @@ may_ask_rows row_of may (OfRuns ends_type ends values offset count) valid asks =
 pub may_ask : {X : Type 0} (row_of : X → Option Value) (may : X → Type 0) (c : Column) (asked : List (Option Value)) → HasValidRuns c → asked ≡ asked_rows c → MayAsk row_of may (column_rows c) → MayAsk row_of may asked
 may_ask row_of may c asked valid same asks = subst (MayAsk row_of may) (sym same) (may_ask_rows row_of may c valid asks)
 
--- native numbers are no lists
+-- native numbers are not lists
 pub native_single : (ptype : PType) (dtype : DType) → is_native ptype dtype ≡ true → ¬ IsLists dtype
 native_single ptype (column.Bool n) native = λ h. h
 native_single ptype (column.Primitive t n) native = λ h. h

@@ -17,7 +17,7 @@ use Rattle.column_core.specs.Kinds.{is_list, is_numbers, same_kind}
 use Rattle.column_ops.specs.CompareFault.{compare_column_fault, compare_scalar_fault, length_fault}
 use Rattle.column_ops.specs.Comparing.{compare_dtype, either_nullability}
 
--- what can be refused only for memory, where there is no fault
+-- what can be refused only for memory, without a fault
 pub no_fault : {T : Type 0} (fault : Option VortexError) (result : Result T VortexError) → fault ≡ None → IsOkUnless result OutOfMemory → IsRefusedBy fault result
 no_fault fault (Ok value) none only = none
 no_fault fault (Err error) none only = inl only
@@ -31,7 +31,7 @@ no_lists (column.Utf8 n) right none = λ h. h
 no_lists (column.Binary n) right none = λ h. h
 no_lists (column.List e n) right none = cc
 
--- integers are no lists
+-- integers are not lists
 pub numbers_single : (t : DType) → is_numbers t ≡ true → ¬ IsLists t
 numbers_single (column.Bool n) numbers = λ h. h
 numbers_single (column.Primitive t n) numbers = λ h. h
@@ -91,7 +91,7 @@ either_null Nullable n h = refl
 pub null_dtype : (left right : DType) → MayBeNull (nullability_of right) → column.Bool Nullable ≡ compare_dtype left right
 null_dtype left right h = λ i. column.Bool (either_null (nullability_of left) (nullability_of right) h i)
 
--- where there is no fault, memory was wanting
+-- without a fault, memory was refused
 pub only_memory : (fault : Option VortexError) (error : VortexError) → fault ≡ None → IsErrorFor fault error → error ≡ OutOfMemory
 only_memory fault error none why = elim why [ inl short ↦ short | inr has ↦ let never : ◌≡◌ {A = Option VortexError} None (Some error) = sym none ∙ has in absurd (cc) ]
 

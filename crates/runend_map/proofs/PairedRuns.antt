@@ -45,7 +45,7 @@ run_ends ends position end increasing after within is =
     ])
     (λ h. let order = increasing (run_at ends position) h in omega arith)
 
--- the run of the row behind a stretch: the next one where the run stops there
+-- the run of the row after a stretch: the next one where the run stops there
 abbrev pub IsRunAfter : ℕ → ℕ → ℕ → ℕ → Type 0
 IsRunAfter run stop end next = (stop ≡ end → next ≡ run + 1) × ((stop ≡ end → ⊥) → next ≡ run)
 
@@ -78,7 +78,7 @@ module _ (ends : List ℕ) (offset count row run end : ℕ) (window : IsWindow e
         ∙ ap Some (get_or-map-range_with_len _ offset count k (offset + k) None (omega arith) refl
         ∙ ap (λ r. get_or values r None) (one_run k from before) ∙ get_or-read values run value None is)
 
-    -- the run of the row behind it
+    -- the run of the row after it
     pub run_behind : (next : ℕ) → row < end → IsRunAfter run (slice_index ends run - offset) end next → next ≡ run_at ends (offset + end)
     run_behind next later after =
         let inside = run_there in
@@ -93,7 +93,7 @@ module _ (ends : List ℕ) (offset count row run end : ℕ) (window : IsWindow e
               same ∙ ap (λ (k : ℕ). k + 1) here ∙ sym ended
         ]
 
--- copies of an answer are written behind the others
+-- copies of an answer are written after the others
 AreWritten-copies : (nullability : Nullability) (all : List (Option Value)) (row : ℕ) (bits flags : List Bool) (truth : Option Bool) (answer : Option Value) (n : ℕ)
     → ((k : ℕ) → row ≤ k → k < row + n → slice_get all k ≡ Some answer) → option_map truth_value truth ≡ answer → (nullability ≡ NonNullable → IsSome answer)
     → AreWritten nullability (take row all) bits flags

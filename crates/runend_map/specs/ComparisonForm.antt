@@ -11,7 +11,7 @@ IsComparisonForm (OfConstant constant) truths = IsDecodedForm (column_rows truth
 IsComparisonForm (OfLists lists) truths = IsComputedFlat truths
 IsComparisonForm (OfRuns ends_type ends values offset count) truths = IsComputedFlat truths
 
--- null in each row, of which there is one at least
+-- null in each row, and at least one row
 abbrev pub IsNullConstant : Column → Type 0
 IsNullConstant (OfLeaf leaf) = ⊥
 IsNullConstant (OfConstant constant) = (constant.value ≡ None) × (0 < constant.count)

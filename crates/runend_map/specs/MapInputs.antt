@@ -1,5 +1,5 @@
--- The rows that a function is asked for, and where its answers stand: those of the visible runs of a run column, or
--- each row of any other.
+-- The rows that a function is asked for, and where its answers are: those of the visible runs of a run column, or each
+-- row of any other.
 use Rattle.std.specs.Prelude.{◌≡◌, List, Option}
 use Rattle.column_core.specs.Value.{Value}
 use Rattle.runend_windows.specs.Window.{run_rows}

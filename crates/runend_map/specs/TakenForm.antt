@@ -5,8 +5,8 @@ use Rattle.runend_array.specs.Column.{Column, Runs}
 use Rattle.runend_array.specs.Encoding.{IsComputedFlat}
 use Rattle.runend_column.specs.MinimalForm.{IsRunForm}
 
--- of a dictionary of this type the runs of the codes are kept, with ends of the same type and by the dictionary's type
--- in minimal form or not; or the rows are flat
+-- a dictionary of this type keeps the runs of the codes, with ends of the same type, in minimal form or not by the
+-- dictionary's type; or the rows are flat
 abbrev pub TakeFromLeaves : Bool → DType → Runs → Column → Type 0
 TakeFromLeaves true dictionary codes taken = IsRunForm dictionary codes taken
 TakeFromLeaves false dictionary codes taken = IsComputedFlat taken

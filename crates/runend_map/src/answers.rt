@@ -18,7 +18,8 @@ use column_core::{
 use column_ops::item_at;
 use std::alloc::Allocator;
 
-/// Returns what the function answers to each row, in order. It is called once for each. Refused only as `OutOfMemory`.
+/// Returns what the function answers to each row, in order. The function is called once for each row. Refused only as
+/// `OutOfMemory`.
 pub(crate) fn answers<S: Copy + Drop, R: Drop, F: Fn(Option<S>) -> R, A: Allocator + Copy>(
     alloc: A,
     items: &[S],

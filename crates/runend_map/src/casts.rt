@@ -15,9 +15,9 @@ use runend_array::{ArrayRef, ExecutionCtx, RunEndArray, RunEndArrayExt};
 use runend_column::{borrowed_values, over_runs, visible_values};
 use std::alloc::Allocator;
 
-/// Returns the rows in the type: a run column with flat values and ends of the same type. Of integers it is in minimal
-/// form: no run is hidden, neighbours differ (null equal to null), the offset is 0 and the last end the length. Of
-/// other types it has the visible runs. Work is by visible runs, and no hidden run decides.
+/// Returns the rows in the type: a run column with flat values and ends of the same type. Integers are in minimal form:
+/// no run is hidden, neighbours differ (null is equal to null), the offset is 0 and the last end is the length. Columns
+/// of other types keep the visible runs. Takes a step for each visible run, and no hidden run decides.
 ///
 /// Refused as `Unsupported` unless both types are of integers, or both of one kind that is not a list;
 /// then, at the first row that is not a value of the type, as `NullNotAllowed` for null and as

@@ -27,11 +27,11 @@ use runend_array::{ArrayRef, ConstantArray, ExecutionCtx, RunEndArray, RunEndArr
 use runend_column::{flat_rows, visible_values};
 use std::alloc::Allocator;
 
-/// Returns whether the operator holds of each row and the row of `right` beside it. Null where either row is null. The
-/// answer has null where either type has. A right side that is a constant is compared with each visible run once, and
-/// the answer is a constant null where there is a row and all answers are null; else, and with every other right side,
-/// it is flat. Of a right side in runs each visible run is compared once with each visible run beside it. With a
-/// constant null no value is looked at, and no memory is taken where there is a row.
+/// Returns whether the operator holds of each row and the row of `right` at the same place, null where either row is
+/// null. The answer has null where either type has. A constant is compared with each visible run once, and the answer
+/// is a constant null where there are rows and all answers are null; else, and with every other right side, the answer
+/// is flat. A right side in runs is compared once for each stretch of rows in which both columns stay in one run. With
+/// a constant null no value is looked at, and no memory is taken where there is a row.
 ///
 /// Refused as `Unsupported` for lists; then as `TypeMismatch` where the two types differ in more than
 /// nullability; then as `ColumnLength`, with the number of rows of this column and of the right one, where
@@ -73,7 +73,7 @@ fn fault_beside<A: Allocator + Copy>(
     column_fault(array.dtype(), right.dtype(), array.len(), right.len())
 }
 
-// Is it null?
+// Is the scalar null?
 fn is_null<A: Allocator>(scalar: &Scalar<A>) -> bool
     ensures null { IsTrue result ↔ (scalar.now.value ≡ None) }
     ensures typed { IsTrue result → MayBeNull (nullability_of scalar.now.dtype) }
@@ -121,7 +121,7 @@ fn compare_to_scalar<A: Allocator + Copy>(
     shown_truths(array, truths, ctx)
 }
 
-// Each row of a flat column compared with the one beside it. Refused only as `OutOfMemory`.
+// Each row of a flat column compared with the one at the same place. Refused only as `OutOfMemory`.
 fn compare_flat<A: Allocator + Copy>(
     left: &FlatColumn<A>,
     operator: CompareOperator,
@@ -144,8 +144,8 @@ fn compare_flat<A: Allocator + Copy>(
     truths
 }
 
-// Each row compared with the one beside it, which is in no run. The answer has a boolean for each row, so that to
-// write both columns row by row costs no more than to walk runs beside rows.
+// Each row compared with the one at the same place, which is not in a run. The answer has a boolean for each row, so
+// that to write both columns row by row costs no more than to walk along runs and rows.
 fn compare_beside<A: Allocator + Copy>(
     array: &RunEndArray<A>,
     operator: CompareOperator,

@@ -24,10 +24,11 @@ use runend_select::rows_at;
 use std::alloc::Allocator;
 
 /// Returns the dictionary's row for each code, null for null, in a type with null where the dictionary's or the codes'
-/// has. Of a dictionary of integers it is a run column in minimal form: no run is hidden, neighbours differ (null equal
-/// to null), the offset is 0 and the last end the length; of one of booleans it is a run column of the visible runs;
-/// both have flat values and ends of the same type. Of any other it is a flat column. The dictionary may be of any form
-/// and of any kind: one in runs, or of one value, is not written out. Only codes of visible runs are looked at.
+/// has. A dictionary of integers gives a run column in minimal form: no run is hidden, neighbours differ (null is equal
+/// to null), the offset is 0 and the last end is the length. One of booleans gives a run column of the visible runs.
+/// Both have flat values and ends of the same type. Any other dictionary gives a flat column. The dictionary may be of
+/// any form and of any kind: one in runs, or of one value, is not written out. Only codes of visible runs are looked
+/// at.
 ///
 /// Refused as `TypeMismatch` unless the codes are integers, however little memory there is; then as
 /// `OutOfBounds`, with the code and the number of rows of the dictionary, at the first code that is not null

@@ -17,8 +17,9 @@ use runend_column::{borrowed_values, over_runs, visible_values};
 use std::alloc::Allocator;
 
 /// Returns the rows with the scalar's value in place of each null, of the column's kind and without null: a run column
-/// with flat values and ends of the same type. Of integers it is in minimal form: no run is hidden, neighbours differ,
-/// the offset is 0 and the last end the length. Of other types it has the visible runs. Work is by visible runs.
+/// with flat values and ends of the same type. Integers are in minimal form: no run is hidden, neighbours differ, the
+/// offset is 0 and the last end is the length. Columns of other types keep the visible runs. Takes a step for each
+/// visible run.
 ///
 /// Refused as `Unsupported` for lists; then as `TypeMismatch` for a scalar of another kind; then as
 /// `NullFill` for null; else only as `OutOfMemory`.

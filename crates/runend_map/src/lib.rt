@@ -1,6 +1,5 @@
-//! Kernels that work on the values of the visible runs of a column and keep the runs: nulls filled,
-//! values cast and compared. Hidden runs decide nothing, and what a kernel answers over runs is what its
-//! definition answers over rows.
+//! Kernels that work on the values of the visible runs of a column and keep the runs: nulls filled, values cast and
+//! compared. Hidden runs decide nothing, and a kernel answers over runs what its definition answers over rows.
 #![tactic(auto)]
 
 mod answers;

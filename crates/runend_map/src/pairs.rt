@@ -25,9 +25,9 @@ use column_ops::{CompareOperator, compare_views};
 use runend_array::{ArrayRef, ExecutionCtx, RunEndArray, RunEndArrayExt};
 use std::alloc::Allocator;
 
-/// Returns whether the operator holds of each row and the row of `right` beside it. Null where either row is null. The
-/// answer is flat. A pair of values is compared once for all rows in which both columns stay in one run, and the
-/// answers of these rows are written at once. Refused only as `OutOfMemory`.
+/// Returns whether the operator holds of each row and the row of `right` at the same place, null where either row is
+/// null. The answer is flat. A pair of values is compared once for all rows in which both columns stay in one run, and
+/// the answers of these rows are written at once. Refused only as `OutOfMemory`.
 pub(crate) fn compare_runs<A: Allocator + Copy>(
     left: &RunEndArray<A>,
     operator: CompareOperator,

@@ -19,9 +19,9 @@ use runend_array::{ArrayRef, ExecutionCtx, Kernel, array_of};
 use runend_column::{flat_rows, over_visible_runs, visible_values};
 use std::alloc::Allocator;
 
-/// Returns what the function answers to each row, in a type with null: of a run column, where scalar functions are
-/// registered, a run column of the visible runs with flat values, else a flat column. The function is called once for
-/// each visible run, or, of other columns, once for each row, and on no other value.
+/// Returns what the function answers to each row, in a type with null. A run column, where scalar functions are
+/// registered, gives a run column of the visible runs with flat values, and any other column a flat one. The function
+/// is called once for each visible run, or for each row of another column, and on no other value.
 ///
 /// Refused as `TypeMismatch` unless the column has native numbers of the type `S`; else only as `OutOfMemory`.
 pub fn map_rows<S: NativePType, T: NativePType, F: Fn(Option<S>) -> Option<T>, A: Allocator + Copy>(
@@ -48,9 +48,9 @@ pub fn map_rows<S: NativePType, T: NativePType, F: Fn(Option<S>) -> Option<T>, A
     answered(column, FlatColumn::Primitive(mapped), ctx)
 }
 
-/// Returns the boolean that the function answers to each row, in a type with null: of a run column, where scalar
-/// functions are registered, a run column of the visible runs with flat values, else a flat column. The function is
-/// called once for each visible run, or, of other columns, once for each row, and on no other value.
+/// Returns the boolean that the function answers to each row, in a type with null. A run column, where scalar functions
+/// are registered, gives a run column of the visible runs with flat values, and any other column a flat one. The
+/// function is called once for each visible run, or for each row of another column, and on no other value.
 ///
 /// Refused as `TypeMismatch` unless the column has native numbers of the type `S`; else only as `OutOfMemory`.
 pub fn map_rows_bool<S: NativePType, F: Fn(Option<S>) -> Option<bool>, A: Allocator + Copy>(
@@ -77,7 +77,7 @@ pub fn map_rows_bool<S: NativePType, F: Fn(Option<S>) -> Option<bool>, A: Alloca
     answered(column, FlatColumn::Bool(mapped), ctx)
 }
 
-// Is it the type of these native numbers?
+// Is this the type of these native numbers?
 fn is_type_of<S: NativePType>(dtype: DType) -> bool
     ensures { result ≡ is_native S.PTYPE dtype }
 {

@@ -1,4 +1,4 @@
-//! The visible runs of a run column, to be walked along.
+//! The visible runs of a run column, for walks along them.
 ghost use Rattle.std.specs.Prelude.{◌≡◌, ◌<◌, ◌-◌, length, map, slice_index, unsigned_abs, IfOk, IsOkUnless};
 ghost use Rattle.column_base.specs.Numbers.{numbers, ptype_of};
 ghost use Rattle.column_base.specs.Types.{IsUnsigned};
@@ -18,7 +18,7 @@ use runend_array::RunEndArray;
 use runend_column::{ends_of_visible, visible_offset, visible_values};
 use std::alloc::Allocator;
 
-/// The visible runs of a run column: their ends, the position of the first row, and a value for each.
+/// Holds the visible runs of a run column: their ends, the position of the first row, and a value for each.
 #[derive(Drop)]
 pub(crate) struct ShownRuns<A: Allocator> {
     pub(crate) ends: PrimitiveArray<A>,
@@ -27,7 +27,7 @@ pub(crate) struct ShownRuns<A: Allocator> {
 }
 
 impl<A: Allocator + Copy> ShownRuns<A> {
-    /// Returns the visible runs of this column; ends and flat values are shared where those are. Refused only as
+    /// Returns the visible runs of this column; shares ends and flat values if they are shared. Refused only as
     /// `OutOfMemory`.
     pub(crate) fn of(alloc: A, array: &RunEndArray<A>) -> VortexResult<ShownRuns<A>>
         requires single { ¬ IsLists (column_dtype array.now.values) }
@@ -76,7 +76,7 @@ fn stop_in<A: Allocator + Copy>(ends: &PrimitiveArray<A>, run: usize, offset: us
     stop_among(ends.values(), run, offset)
 }
 
-// The same, of the numbers that the ends are.
+// The same for the numbers that the ends are.
 #[tactic(auto, using(runend_windows::proofs::Ends::ends_stored))]
 fn stop_among<A: Allocator + Copy>(ends: &PrimitiveValues<A>, run: usize, offset: usize) -> usize
     requires unsigned { IsUnsigned (ptype_of ends.now) }
@@ -87,7 +87,7 @@ fn stop_among<A: Allocator + Copy>(ends: &PrimitiveValues<A>, run: usize, offset
     match_each_unsigned!(ends, items => stop_at(items.as_slice(), run, offset))
 }
 
-// The same, of ends of one type.
+// The same for ends of one type.
 fn stop_at<E: UnsignedPType>(ends: &[E], run: usize, offset: usize) -> usize
     requires { run < length ends.now }
     ensures stop { result ≡ slice_index (map E.natural ends.now) run - offset }

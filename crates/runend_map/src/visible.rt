@@ -17,8 +17,9 @@ use runend_column::{ends_of_visible, visible_offset};
 use runend_windows::decode_flat;
 use std::alloc::Allocator;
 
-/// Returns the rows that the visible runs show over these values, one for each, as a flat column. Of booleans, the rows
-/// start as the value of most runs from `prefill_runs` runs on; the answer is the same. Refused only as `OutOfMemory`.
+/// Returns the rows that the visible runs show over these values, one for each, as a flat column. From `prefill_runs`
+/// runs on, all rows of booleans are first filled with what most runs show; the answer is the same. Refused only as
+/// `OutOfMemory`.
 pub(crate) fn shown_rows<A: Allocator + Copy>(
     alloc: A,
     array: &RunEndArray<A>,

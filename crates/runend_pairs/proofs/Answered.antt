@@ -131,7 +131,7 @@ module _ (form : PrimitiveForm) (ptype : PType) (numbers : List ℤ) (validity :
         some = λ e. let more = some e in omega arith;
       })
 
--- bits of a type that has null are not told as those of one that has none
+-- bits of a type that has null are not stored as those of one that has none
 pub nullable_bits : (validity : ValidityForm) (bits : List Bool) → flags validity (length bits) ≡ bits → (All (λ (bit : Bool). bit ≡ true) bits → validity ≡ NoneNull) → nullability_in validity ≡ Nullable
 nullable_bits NeverNull bits told none =
     let all : All (λ (bit : Bool). bit ≡ true) bits = subst (All (λ (bit : Bool). bit ≡ true)) told (All-replicate (λ (bit : Bool). bit ≡ true) (length bits) true refl) in

@@ -56,14 +56,14 @@ abbrev pub decimal_in : DType → DecimalDType
 decimal_in (column.Decimal d n) = d
 decimal_in t = record { precision = 0; scale = pos 0 }
 
--- the digits that answers may have, 38 at most: one more than either side for a sum, all of both and one more for a
--- product
+-- the digits that answers may have, 38 at most: for a sum one more than either side has, for a product the sum of both
+-- and one more
 abbrev pub answer_precision : NumericOperator → ℕ → ℕ → ℕ
 answer_precision Add left right = min (max left right + 1) 38
 answer_precision Subtract left right = min (max left right + 1) 38
 answer_precision Multiply left right = min (left + right + 1) 38
 
--- the scale of the answers: that of both sides for a sum, the sum of the two for a product
+-- the scale of the answers: for a sum the one of both sides, for a product the sum of the two
 abbrev pub answer_scale : NumericOperator → ℤ → ℤ → ℤ
 answer_scale Add left right = left
 answer_scale Subtract left right = left

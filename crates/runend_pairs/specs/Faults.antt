@@ -28,7 +28,8 @@ is_truths (column.Utf8 n) = false
 is_truths (column.Binary n) = false
 is_truths (column.List e n) = false
 
--- of two columns of these types and numbers of rows: both are of integers, of one native type, and have as many rows
+-- why two columns of these types and numbers of rows are refused: unless both are of integers, of one native type, and
+-- have as many rows
 abbrev pub numeric_fault : DType → DType → ℕ → ℕ → Option VortexError
 numeric_fault left right left_count right_count =
     if is_numbers left && is_numbers right then (if same_kind left right then length_fault left_count right_count else Some TypeMismatch) else Some Unsupported
@@ -41,7 +42,7 @@ boolean_fault left right left_count right_count = if is_truths left && is_truths
 abbrev pub is_picked : DType → Bool
 is_picked dtype = is_numbers dtype || (is_decimals dtype || is_truths dtype)
 
--- rows can be picked of both, both are of one type but for null, and have as many rows
+-- rows can be picked of both, both are of one type except for nullability, and have as many rows
 abbrev pub pick_fault : DType → DType → ℕ → ℕ → Option VortexError
 pick_fault left right left_count right_count =
     if is_picked left && is_picked right then (if same_kind left right then length_fault left_count right_count else Some TypeMismatch) else Some Unsupported

@@ -37,11 +37,11 @@ float_given Divide f a b = Ieee.div f a b
 abbrev pub float_of_key : FloatFormat → ℤ → Float
 float_of_key f key = Ieee.of_bits (ieee_format f) (bits_of_key f key)
 
--- the key of a float: of every NaN that of the quiet one with a plus and no payload
+-- the key of a float; every NaN has the key of the quiet NaN with a plus and no payload
 abbrev pub key_of_float : FloatFormat → Float → ℤ
 key_of_float f x = total_key f (if is_nan x then quiet_nan f else Ieee.to_bits (ieee_format f) x)
 
--- the key of the float that those with two keys give
+-- the key of the float that the floats with two keys give
 abbrev pub key_given : FloatOperator → FloatFormat → ℤ → ℤ → ℤ
 key_given operator f a b = key_of_float f (float_given operator (ieee_format f) (float_of_key f a) (float_of_key f b))
 
@@ -60,8 +60,8 @@ abbrev pub is_halves : DType → Bool
 is_halves (column.Primitive I16 n) = true
 is_halves t = false
 
--- of two columns of these types and numbers of rows: both are of floats of one format, of 32 or 64 bits, and have as
--- many rows
+-- why two columns of these types and numbers of rows are refused: unless both are of floats of one format, of 32 or 64
+-- bits, and have as many rows
 abbrev pub float_numeric_fault : DType → DType → ℕ → ℕ → Option VortexError
 float_numeric_fault left right left_count right_count =
     if is_floats left && same_kind left right then (if is_halves left then Some Unsupported else length_fault left_count right_count) else Some TypeMismatch

@@ -1,4 +1,4 @@
--- What is answered of the rows of a group.
+-- What is calculated from the rows of a group.
 use Rattle.std.specs.Prelude.{◌≡◌, ℤ, pos, ⊤, Bool, true, List, [], Option, Some, None, length, slice_get, Contains}
 use Rattle.std.specs.List.{filter_map, find, last_or, list_all}
 use Rattle.std.specs.Ordering.{int_cmp, is_ge, is_le}
@@ -65,7 +65,7 @@ abbrev pub number_ptype : DType → PType
 number_ptype (column.Primitive t n) = t
 number_ptype t = I64
 
--- the native type of its answers of a column of integers
+-- the native type of the answers of a fold for a column of integers
 abbrev pub answer_ptype : GroupFold → DType → PType
 answer_ptype Sum t = summed_ptype t
 answer_ptype Rows t = U64
@@ -80,7 +80,7 @@ abbrev pub IsGiven : GroupFold → DType → ℤ → Type 0
 IsGiven Sum t n = HasNumber (summed_ptype t) n
 IsGiven fold t n = ⊤
 
--- a number of the rows that bounds all of them, or nothing where there is no number
+-- a number of the rows that bounds all of them, or nothing without numbers
 abbrev pub IsBound : (ℤ → ℤ → Bool) → List (Option ℤ) → Option ℤ → Type 0
 IsBound bounds rows None = numbers_of rows ≡ []
 IsBound bounds rows (Some n) = Contains (numbers_of rows) n × (list_all (bounds n) (numbers_of rows) ≡ true)

@@ -20,8 +20,8 @@ use Rattle.runend_pairs.specs.declared.group_fault.GroupError.TheVariants.{Refus
 abbrev pub numbers_fault : DType → Option VortexError
 numbers_fault t = if is_numbers t then None else Some Unsupported
 
--- of keys and values of these types, in these numbers of rows: keys are not lists, values are integers, and as many of
--- either
+-- why keys and values of these types and numbers of rows are refused: unless keys are not lists, values are integers,
+-- and there are as many of either
 abbrev pub groups_fault : DType → DType → ℕ → ℕ → Option VortexError
 groups_fault keys values key_count value_count = option_or (list_fault keys) (option_or (numbers_fault values) (length_fault key_count value_count))
 
@@ -36,7 +36,7 @@ abbrev pub IsFoldRefusal : {X : Type 0} → (ℤ → Type 0) → (List X → Opt
 IsFoldRefusal has answer_of ends rows (Refused error) = error ≡ OutOfMemory
 IsFoldRefusal has answer_of ends rows (SumOverflow group) = IsFirstLarge has answer_of ends rows group
 
--- of the groups of equal neighbouring keys, the first whose answer a type does not have
+-- the first group of equal neighbouring keys whose answer a type does not have
 pub record IsFirstLargeGroup (has : ℤ → Type 0) (answer_of : List (Option ℤ) → Option ℤ) (keys : List (Option Value)) (rows : List (Option ℤ)) (group : ℕ) : Type 0 where
   pub ends : List ℕ
   pub group_keys : List (Option Value)
@@ -48,8 +48,8 @@ abbrev pub large_group : GroupFold → DType → List (Option Value) → List (O
 large_group Sum t keys rows group = IsFirstLargeGroup (HasNumber (summed_ptype t)) sum_of keys rows group
 large_group fold t keys rows group = ⊥
 
--- refused by the fault where there is one, else by the first group without an answer where there is one, and else for
--- memory only
+-- refused by the fault where there is one, else by the first group without an answer where there is one, and else only
+-- for memory
 abbrev pub IsGroupRefusal : Option VortexError → (ℕ → Type 0) → GroupError → Type 0
 IsGroupRefusal fault large (Refused error) = (error ≡ OutOfMemory) ⊎ (fault ≡ Some error)
 IsGroupRefusal fault large (SumOverflow group) = (fault ≡ None) × large group

@@ -1,4 +1,4 @@
--- Groups of rows, by the rows before which they end, and what is answered of each.
+-- Groups of rows, by the rows before which they end, and the answer for each.
 use Rattle.std.specs.Prelude.{◌≡◌, ℕ, ℤ, zero, suc, ◌<◌, Bool, List, Option, Some, None, IfSome, length, option_map, slice_get, slice_index, slice_range}
 use Rattle.column_base.specs.ValidityForm.{ValidityForm, HasLength}
 use Rattle.column_core.specs.Optionals.{optionals}
@@ -27,7 +27,7 @@ pub record AreValueRuns (ends : PrimitiveForm) (count : ℕ) (validity : Validit
   pub paired : count ≡ length (ends_of ends)
   pub flagged : HasLength validity count
 
--- an answer for each group: that of exactly its rows
+-- an answer for each group, from exactly its rows
 pub record AreGroupAnswers {X Y : Type 0} (answer_of : List X → Y) (ends : List ℕ) (rows : List X) (answers : List Y) : Type 0 where
   pub counted : length answers ≡ length ends
   pub each : (group : ℕ) → group < length ends → slice_get answers group ≡ Some (answer_of (group_rows ends rows group))
@@ -41,6 +41,6 @@ abbrev pub IsAnswerOf : {S : Type 0} → (S → ℤ) → (ℤ → Type 0) → Op
 IsAnswerOf number has answer None = ¬ IsNumberIn has answer
 IsAnswerOf number has answer (Some found) = IsNumberIn has answer × (option_map number found ≡ answer)
 
--- the rows that runs show from the first on: optional numbers, of which these are stored
+-- the rows that runs show from the first on: optional numbers, stored as these
 abbrev pub shown_numbers : List ℕ → List ℤ → List Bool → List (Option ℤ)
 shown_numbers ends numbers flags = run_rows ends (optionals numbers flags) 0 (last_end ends)

@@ -22,7 +22,7 @@ run_writes [] values = []
 run_writes (end ∷ ends) [] = []
 run_writes (end ∷ ends) (value ∷ values) = fed.u64 end ++ (row_writes value ++ run_writes ends values)
 
--- the hash of the runs of the tight exact cover of rows, of which there is one
+-- the hash of the runs of the tight exact cover of rows, which is the only one
 pub record IsHashOf (rows : List (Option Value)) (hash : ℕ) : Type 0 where
   pub ends : List ℕ
   pub values : List (Option Value)

@@ -1,4 +1,4 @@
--- What operations answer for two rows, of which either may be null.
+-- What operations answer for two rows, either of which may be null.
 use Rattle.std.specs.Prelude.{if◌then◌else◌, List, [], ◌∷◌, ◌+ℤ◌, ◌-ℤ◌, ◌*ℤ◌, ◌≡◌, ℤ, pos, Bool, true, false, not, Option, Some, None, is_some, option_map, IsSome}
 use Rattle.std.specs.Ordering.{is_eq, is_ge, is_le}
 use Rattle.column_base.specs.declared.dtype.Nullability.{Nullability}
@@ -25,7 +25,7 @@ use Rattle.runend_pairs.specs.declared.booleans.BooleanOperator.TheVariants.{And
 abbrev pub IsNeverNull : Nullability → Nullability → (Option Value → Option Value → Option Value) → Type 0
 IsNeverNull left right f = (a b : Option Value) → (left ≡ NonNullable → IsSome a) → (right ≡ NonNullable → IsSome b) → IsSome (f a b)
 
--- two views of rows of two types, of which an operation takes columns
+-- two views of rows of two types, whose columns an operation takes
 pub record AreViewsOf {A B : Type 0} (takes : DType → DType → Type 0) (left : ScalarView A) (right : ScalarView B) : Type 0 where
   pub left_type : DType
   pub right_type : DType
@@ -128,18 +128,18 @@ valid_test row = Some (Single (Truth (is_some row)))
 abbrev pub same_test : Option Value → Option Value → Option Value
 same_test left right = Some (Single (Truth (is_eq (row_cmp left right))))
 
--- the first row, or the second where that is null
+-- the first row, or the second where the first is null
 abbrev pub first_valid : Option Value → Option Value → Option Value
 first_valid None right = right
 first_valid (Some left) right = Some left
 
--- the lesser row, null where either is
+-- the lesser row, null where either is null
 abbrev pub lesser : Option Value → Option Value → Option Value
 lesser None right = None
 lesser (Some left) None = None
 lesser (Some left) (Some right) = if is_le (value_cmp left right) then Some left else Some right
 
--- the greater row, null where either is
+-- the greater row, null where either is null
 abbrev pub greater : Option Value → Option Value → Option Value
 greater None right = None
 greater (Some left) None = None

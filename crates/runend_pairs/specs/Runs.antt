@@ -6,7 +6,7 @@ use Rattle.column_core.specs.Value.{Value}
 use Rattle.runend_windows.specs.Ends.{IsEndsType, ends_of}
 use Rattle.runend_windows.specs.Window.{IsWindow, run_at, run_rows}
 
--- runs that show `count` rows from position `offset` on, of which the first run shows the first; each has a value
+-- runs that show `count` rows from position `offset` on; the first run shows the first row, and each run has a value
 pub record AreColumnRuns (ends : PrimitiveForm) (offset : ℕ) (values : Leaf) (count : ℕ) : Type 0 where
   pub plain : IsEndsType (primitive_dtype ends)
   pub window : IsWindow (ends_of ends) offset count

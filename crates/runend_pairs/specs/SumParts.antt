@@ -1,4 +1,4 @@
--- What rows add to a sum, by three numbers of which those of joined rows are known.
+-- What rows add to a sum, by three numbers; those of joined rows follow from those of the parts.
 use Rattle.std.specs.Prelude.{◌≡◌, ◌-◌, ◌*◌, ◌^◌, ◌≤◌, ◌+ℤ◌, ◌++◌, ℕ, ℤ, pos, unsigned_abs, fold, length, map, List, Option}
 use Rattle.std.specs.Int.{int_max, int_min}
 use Rattle.column_base.specs.declared.dtype.DType.{DType}
@@ -10,7 +10,7 @@ use Rattle.column_sums.specs.SumRange.{SumRange, SignedRange, UnsignedRange, sum
 use Rattle.runend_pairs.specs.declared.parts.SumParts.{SumParts}
 use Rattle.runend_pairs.specs.declared.parts.SumParts.TheVariants.{Signed, Unsigned}
 
--- the total, and the least and the greatest of the sums on the way: that before the first row, which is 0, and that
+-- the total, and the least and the greatest of the partial sums: the one before the first row, which is 0, and those
 -- after each row that is not null
 pub record AreSumParts (rows : List (Option ℤ)) (total least greatest : ℤ) : Type 0 where
   pub last : total ≡ last_after (pos 0) (partial_sums (pos 0) rows)
@@ -41,7 +41,7 @@ abbrev pub ArePartsOf : DType → List (Option Value) → SumParts → Type 0
 ArePartsOf (column.Primitive t n) rows parts = ArePartsIn (sum_range t) (map number_in rows) parts
 ArePartsOf t rows parts = ⊥
 
--- what rows after others add to a sum, by what either add
+-- what joined rows add to a sum, by what the parts add
 abbrev pub JoinsParts : Type 0
 JoinsParts =
     (before after : List (Option ℤ)) (total least greatest more_total more_least more_greatest : ℤ) → AreSumParts before total least greatest → AreSumParts after more_total more_least more_greatest

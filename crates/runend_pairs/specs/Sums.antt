@@ -37,7 +37,7 @@ pub record IsSignedTotal (rows : List (Option ℤ)) (total : ℤ) (some : Bool) 
   pub found : some ≡ not (are_null rows)
   pub bound : unsigned_abs (total_of rows) ≤ 2 ^ 63 * length rows
 
--- the same of unsigned numbers
+-- the same for unsigned numbers
 pub record IsUnsignedTotal (rows : List (Option ℤ)) (total : ℕ) (some : Bool) : Type 0 where
   pub is : pos total ≡ total_of rows
   pub found : some ≡ not (are_null rows)

@@ -1,4 +1,4 @@
--- Running totals: what the rows from the first one up to the end of each run answer.
+-- Running totals: the answers for the rows from the first one up to the end of each run.
 use Rattle.std.specs.Prelude.{◌≡◌, ◌⊎◌, ℕ, ℤ, ◌<◌, List, Option, Some, None, length, map, slice_get, slice_index, take}
 use Rattle.column_base.specs.declared.dtype.DType.{DType}
 use Rattle.column_base.specs.declared.error.VortexError.{VortexError}
@@ -20,7 +20,7 @@ use Rattle.runend_pairs.specs.declared.total_fault.TotalError.TheVariants.{Refus
 abbrev pub rows_through : {X : Type 0} → List ℕ → List X → ℕ → List X
 rows_through ends rows run = take (slice_index ends run) rows
 
--- an answer for each run: that of exactly the rows up to its end
+-- an answer for each run, from exactly the rows up to its end
 pub record AreRunningAnswers {X Y : Type 0} (answer_of : List X → Y) (ends : List ℕ) (rows : List X) (answers : List Y) : Type 0 where
   pub counted : length answers ≡ length ends
   pub each : (run : ℕ) → run < length ends → slice_get answers run ≡ Some (answer_of (rows_through ends rows run))
@@ -41,15 +41,15 @@ abbrev pub IsRunningRefusal : {X : Type 0} → (ℤ → Type 0) → (List X → 
 IsRunningRefusal has answer_of ends rows (Refused error) = error ≡ OutOfMemory
 IsRunningRefusal has answer_of ends rows (Overflow run) = IsFirstLargeRun has answer_of ends rows run
 
--- of the runs of equal neighbouring rows, the first at whose end the total does not fit the type of sums
+-- the first run of equal neighbouring rows at whose end the total does not fit the type of sums
 pub record IsFirstLargeTotal (dtype : DType) (rows : List (Option Value)) (run : ℕ) : Type 0 where
   pub ends : List ℕ
   pub values : List (Option Value)
   pub cover : IsTightCover rows ends values
   pub first : IsFirstLargeRun (HasNumber (summed_ptype dtype)) sum_of ends (map number_in rows) run
 
--- totals of a column of a type are refused as not of integers, else with the first run without one, and else for memory
--- only
+-- totals of a column of a type are refused as not of integers, else with the first run without one, and else only for
+-- memory
 abbrev pub IsTotalRefusal : DType → List (Option Value) → TotalError → Type 0
 IsTotalRefusal dtype rows (Refused error) = (error ≡ OutOfMemory) ⊎ (numbers_fault dtype ≡ Some error)
 IsTotalRefusal dtype rows (Overflow run) = (numbers_fault dtype ≡ None) × IsFirstLargeTotal dtype rows run

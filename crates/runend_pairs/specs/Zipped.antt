@@ -5,7 +5,7 @@ use Rattle.column_core.specs.Value.{Value}
 use Rattle.runend_array.specs.Column.{Column, OfLeaf, OfConstant, OfLists, OfRuns, runs_with, column_dtype, column_rows}
 use Rattle.runend_builder.specs.Encoded.{IsConstantForm, IsEncodedRows}
 
--- the answers of the rows of two lists, pair by pair
+-- the answers for the rows of two lists, pair by pair
 abbrev pub zip_rows : {X : Type 0} → (X → X → X) → List X → List X → List X
 zip_rows f [] rights = []
 zip_rows f (left ∷ lefts) [] = []
@@ -22,7 +22,7 @@ pub record IsFirstWithout (has : Option Value → Type 0) (answers : List (Optio
 abbrev pub AllHave : (Option Value → Type 0) → List (Option Value) → Type 0
 AllHave has answers = (row : ℕ) (answer : Option Value) → slice_get answers row ≡ Some answer → has answer
 
--- there are rows, and all are of one
+-- there are rows, and all are equal
 pub record IsOneRow (count : ℕ) (rows : List (Option Value)) : Type 0 where
   pub some : 0 < count
   pub row : Option Value
@@ -46,7 +46,7 @@ IsEncodedColumn rows dtype (OfConstant constant) = ⊥
 IsEncodedColumn rows dtype (OfLists lists) = ⊥
 IsEncodedColumn rows dtype (OfRuns ends_type ends values offset count) = IsEncodedRows rows dtype (runs_with ends_type ends values offset count)
 
--- the form of answers: a constant where that is asked, else the encoding of the answers
+-- the form of answers: a constant where one is asked for, else the encoding of the answers
 abbrev pub IsAnswerForm : Bool → List (Option Value) → DType → Column → Type 0
 IsAnswerForm true rows dtype column = IsConstantForm column
 IsAnswerForm false rows dtype column = IsEncodedColumn rows dtype column

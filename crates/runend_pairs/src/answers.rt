@@ -1,4 +1,4 @@
-//! Answers as they are made: runs of equal answers, of which the last is open.
+//! Answers as they are made: runs of equal answers; the last run is open.
 ghost use Rattle.std.specs.Prelude.{◌≡◌, ◌↔◌, ◌⊎◌, ◌++◌, [], ◌∷◌, false, is_some, length, map, IfOk, IsOkUnless, IsTrue, OnOk};
 ghost use Rattle.column_core.specs.Optionals.{AreBlankAtNulls};
 ghost use Rattle.runend_pairs.specs.Answers.{row_of, rows_of_items};
@@ -23,7 +23,7 @@ pub(crate) struct AnswerRuns<Z: Drop, A: Allocator> {
 }
 
 impl<Z: Copy + Drop, A: Allocator + Copy> AnswerRuns<Z, A> {
-    /// Returns no runs. Refused as `OutOfMemory` only.
+    /// Returns no runs. Refused only as `OutOfMemory`.
     pub(crate) fn new(alloc: A) -> VortexResult<Self>
         ensures only { IsOkUnless result VortexError.OutOfMemory }
         ensures ends { IfOk result (λ runs. runs.ends.items ≡ []) }
@@ -47,7 +47,7 @@ impl<Z: Copy + Drop, A: Allocator + Copy> AnswerRuns<Z, A> {
         self.reached == 0 || is_same_answer::<Z, K>(self.last, answer)
     }
 
-    /// Puts the rows up to `stop`, which show the same, to the open run, or opens the first run for them.
+    /// Adds the rows up to `stop`, which show the same, to the open run, or opens the first run for them.
     pub(crate) fn go_on(&mut self, answer: Option<Z>, stop: usize)
         ensures ends { self.new.ends.items ≡ self.old.ends.items }
         ensures items { self.new.items.items ≡ self.old.items.items }
@@ -59,7 +59,7 @@ impl<Z: Copy + Drop, A: Allocator + Copy> AnswerRuns<Z, A> {
         self.reached = stop;
     }
 
-    /// Closes the open run, and opens one for the rows up to `stop`. Refused as `OutOfMemory` only.
+    /// Closes the open run, and opens one for the rows up to `stop`. Refused only as `OutOfMemory`.
     pub(crate) fn turn_to<K: Stored<Z>>(
         &mut self,
         answer: Option<Z>,
@@ -83,7 +83,7 @@ impl<Z: Copy + Drop, A: Allocator + Copy> AnswerRuns<Z, A> {
         Ok(())
     }
 
-    /// Closes the open run at the last row that is answered. Refused as `OutOfMemory` only.
+    /// Closes the open run at the last row that is answered. Refused only as `OutOfMemory`.
     pub(crate) fn close<K: Stored<Z>>(&mut self) -> VortexResult<()>
         requires { length self.old.flags ≡ length self.old.items.items }
         ensures only { IsOkUnless result VortexError.OutOfMemory }
@@ -104,7 +104,7 @@ impl<Z: Copy + Drop, A: Allocator + Copy> AnswerRuns<Z, A> {
     }
 }
 
-// What is stored for an answer.
+// The item that is stored for an answer.
 #[inline]
 fn item_of<Z: Copy + Drop, K: Stored<Z>>(answer: Option<Z>) -> Z
     ensures item { (found : Z) → answer ≡ Some found → result ≡ found }

@@ -1,4 +1,4 @@
-//! An operation on two rows, of which it is counted how often it is asked.
+//! An operation on two rows that counts how often it is asked.
 ghost use Rattle.std.specs.Prelude.{◌≡◌, ◌+◌, ◌<◌};
 ghost use Rattle.column_core.specs.ScalarView.{sees};
 ghost use Rattle.runend_pairs.specs.Answers.{IsFound};
@@ -10,9 +10,9 @@ use column_core::ScalarView;
 use std::alloc::Allocator;
 use std::marker::Model;
 
-/// Holds an operation that nothing but `ask` asks, and counts how often that is. The count begins at 0 and grows by one
-/// with each answer; nothing else changes it, as this module has nothing else. So a contract on it bounds the answers
-/// that a walk asks for.
+/// Holds an operation that only `ask` asks, and counts how often. The count begins at 0 and grows by one with each
+/// answer; nothing else changes it, as this module has nothing else. So a contract on it bounds the answers that a walk
+/// asks for.
 #[derive(Drop)]
 pub(crate) struct Asked<'a, O> {
     operation: &'a O,

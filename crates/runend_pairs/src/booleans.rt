@@ -23,10 +23,12 @@ pub enum BooleanOperator {
     Or,
 }
 
-/// Returns whether the two rows at each place are both true, or either is, where null is unknown: `false and null` is
-/// false, `true or null` is true. The answer is a constant where both columns are constants that have a row, else
-/// the run column of the only tight exact cover of the answers. Takes a step for each run of either column; a constant
-/// is one run. Refused as `Unsupported` where either is not of booleans, then as `ColumnLength` where they differ in
+/// Returns whether both rows at each place are true, or whether either is. Null is unknown: `false and null` is false,
+/// `true or null` is true. Where both columns are constants and have a row, the answer is a constant, else the run
+/// column of the only tight exact cover of the answers. Takes a step for each run of either column; a constant is one
+/// run.
+///
+/// Refused as `Unsupported` where either column is not of booleans, then as `ColumnLength` where the columns differ in
 /// rows, and else only as `OutOfMemory`.
 pub fn boolean<A: Allocator + Copy>(
     left: &ArrayRef<A>,
@@ -72,7 +74,7 @@ impl Pairwise<bool, Truths> for Connection {
 }
 
 impl BooleanOperator {
-    // The answer for two booleans, of which null is unknown.
+    // The answer for two booleans; null is unknown.
     fn connect(self, left: Option<bool>, right: Option<bool>) -> Option<bool>
         ensures { result ≡ connected self left right }
     {

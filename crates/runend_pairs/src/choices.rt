@@ -1,4 +1,4 @@
-//! One of the two rows at each place picked: the first that is not null, the lesser, the greater.
+//! One of the two rows at each place: the first that is not null, the lesser, or the greater.
 ghost use Rattle.std.specs.Prelude.{◌≡◌, if◌then◌else◌, None, Some, length, IfOk, IsErrOf, IsOkUnless};
 ghost use Rattle.column_base.specs.declared.dtype.Nullability.{Nullability};
 ghost use Rattle.column_base.specs.declared.dtype.Nullability.TheVariants.{NonNullable};
@@ -21,11 +21,13 @@ use column_ops::compare_views;
 use runend_array::{ArrayRef, ExecutionCtx};
 use std::alloc::Allocator;
 
-/// Returns the left row at each place, or the right one where that is null. The type has null where both types have it.
-/// The answer is a constant where both columns are constants that have a row, else the run column of the only tight
-/// exact cover of the answers. Takes a step for each run of either column. Refused as `Unsupported` where either is not
-/// of integers, of decimals or of booleans, then as `TypeMismatch` where they are of two types (decimals of two scales
-/// or precisions are), then as `ColumnLength` where they differ in rows, and else only as `OutOfMemory`.
+/// Returns the left row at each place, or the right one where the left one is null. The type has null where both types
+/// have it. Where both columns are constants and have a row, the answer is a constant, else the run column of the only
+/// tight exact cover of the answers. Takes a step for each run of either column; a constant is one run.
+///
+/// Refused as `Unsupported` where either column is not of integers, decimals or booleans, then as `TypeMismatch` where
+/// their types differ (as those of decimals of two scales or precisions do), then as `ColumnLength` where they differ
+/// in rows, and else only as `OutOfMemory`.
 pub fn coalesce<A: Allocator + Copy>(
     left: &ArrayRef<A>,
     right: &ArrayRef<A>,
@@ -53,8 +55,8 @@ pub fn coalesce<A: Allocator + Copy>(
     )
 }
 
-/// Returns the lesser of the two rows at each place, null where either is null. The type has null where either type
-/// has it. Answers in the form, at the cost and with the refusals of `coalesce`.
+/// Returns the lesser of the two rows at each place, null where either is null. The type has null where either type has
+/// it. Has the forms of answers, the cost and the refusals of `coalesce`.
 pub fn least_of<A: Allocator + Copy>(
     left: &ArrayRef<A>,
     right: &ArrayRef<A>,
@@ -76,7 +78,7 @@ pub fn least_of<A: Allocator + Copy>(
     pick(*ctx.allocator(), left, PickRule::Lesser, right, nullability)
 }
 
-/// Returns the greater of the two rows at each place, null where either is null. Answers as `least_of` does.
+/// Returns the greater of the two rows at each place, null where either is null, as `least_of` returns the lesser one.
 pub fn greatest_of<A: Allocator + Copy>(
     left: &ArrayRef<A>,
     right: &ArrayRef<A>,
@@ -107,11 +109,11 @@ pub fn greatest_of<A: Allocator + Copy>(
 /// Says which of two rows is picked.
 #[derive(Clone, Copy, Drop)]
 pub(crate) enum PickRule {
-    /// Picks the left row, or the right one where that is null.
+    /// Picks the left row, or the right one where the left one is null.
     FirstValid,
-    /// Picks the lesser row, null where either is.
+    /// Picks the lesser row, null where either is null.
     Lesser,
-    /// Picks the greater row, null where either is.
+    /// Picks the greater row, null where either is null.
     Greater,
     /// Picks the right row where the left one is true, else null.
     WhereTrue,
@@ -119,8 +121,8 @@ pub(crate) enum PickRule {
     WhereFalse,
 }
 
-/// Returns the row that a rule picks at each place, in the type of the right column, with null or without. Refused as
-/// `OutOfMemory` only.
+/// Returns the row that a rule picks at each place, in the type of the right column, with null or without. Refused only
+/// as `OutOfMemory`.
 pub(crate) fn pick<A: Allocator + Copy>(
     alloc: A,
     left: &ArrayRef<A>,
@@ -152,7 +154,7 @@ pub(crate) fn pick<A: Allocator + Copy>(
     }
 }
 
-// The same, of integers of a native type.
+// The same for integers of a native type.
 fn pick_integers<A: Allocator + Copy>(
     alloc: A,
     ptype: PType,
@@ -182,7 +184,7 @@ fn pick_integers<A: Allocator + Copy>(
     }
 }
 
-// The same, of rows that are stored as items of a native type.
+// The same for rows that are stored as items of a native type.
 fn pick_as<Z: Copy + Drop, K: Stored<Z>, A: Allocator + Copy>(
     alloc: A,
     left: &ArrayRef<A>,
@@ -263,7 +265,7 @@ impl<Z: Copy + Drop, K: Stored<Z>> Pairwise<Z, K> for Picking<'_, K> {
     }
 }
 
-// Whether the left of two rows is the lesser one, or null, or the same as the right one.
+// Whether the left of two rows is the lesser one, or null, or equal to the right one.
 fn is_lesser<A: Allocator>(left: &ScalarView<'_, A>, right: &ScalarView<'_, A>) -> bool
     ensures { (if result then sees left.now else sees right.now) ≡ lesser (sees left.now) (sees right.now) }
 {
@@ -274,7 +276,7 @@ fn is_lesser<A: Allocator>(left: &ScalarView<'_, A>, right: &ScalarView<'_, A>) 
     }
 }
 
-// Whether the left of two rows is the greater one or null, or the same as the right one, which is not null then.
+// Whether the left of two rows is the greater one, or null, or equal to a right one that is not null.
 fn is_greater<A: Allocator>(left: &ScalarView<'_, A>, right: &ScalarView<'_, A>) -> bool
     ensures { (if result then sees left.now else sees right.now) ≡ greater (sees left.now) (sees right.now) }
 {

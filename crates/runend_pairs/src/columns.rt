@@ -1,4 +1,4 @@
-//! Two columns of any form worked by an operation, and the column of the answers.
+//! Two columns of any form that an operation works row by row, and the column of the answers.
 ghost use Rattle.std.specs.Prelude.{◌≡◌, All, IfErr, IfOk, IsOkUnless, IsSome, List, Option, length, map, true};
 ghost use Rattle.std.specs.List.Sorted.{IsStrictlyIncreasing};
 ghost use Rattle.column_base.specs.declared.dtype.Nullability.TheVariants.{NonNullable};
@@ -40,9 +40,9 @@ pub(crate) struct AnswerForm {
     pub(crate) is_constant: bool,
 }
 
-/// Returns the answers of an operation for the two rows at each place: a constant where both columns are constants that
-/// have a row, else the run column of the encoding of the answers. Refused with the first row whose answer the type
-/// does not have, and as `OutOfMemory`.
+/// Returns the answers of an operation for the two rows at each place. Where both columns are constants and have a row,
+/// the answer is a constant, else the run column of the encoding of the answers. Refused with the first row whose
+/// answer does not fit the type of the answers, and as `OutOfMemory`.
 pub(crate) fn zip_columns<Z: Copy + Drop, K: Stored<Z>, O: Pairwise<Z, K>, A: Allocator + Copy>(
     alloc: A,
     left: &ArrayRef<A>,
@@ -86,8 +86,9 @@ pub(crate) fn zip_columns<Z: Copy + Drop, K: Stored<Z>, O: Pairwise<Z, K>, A: Al
     answers
 }
 
-/// Returns the answers of an operation for each row of a column, given to it twice: a constant where the column is one
-/// that has a row, else the run column of the encoding of the answers. Refused as `zip_columns` is.
+/// Returns the answers of an operation for each row of a column, given to it twice. Where the column is a constant and
+/// has a row, the answer is a constant, else the run column of the encoding of the answers. Refused as `zip_columns`
+/// is.
 pub(crate) fn map_column<Z: Copy + Drop, K: Stored<Z>, O: Pairwise<Z, K>, A: Allocator + Copy>(
     alloc: A,
     column: &ArrayRef<A>,
@@ -118,8 +119,8 @@ pub(crate) fn map_column<Z: Copy + Drop, K: Stored<Z>, O: Pairwise<Z, K>, A: All
     answers
 }
 
-/// Returns the answers of an operation that has one for any two rows, which are booleans and null only where a row is.
-/// Refused as `OutOfMemory` only.
+/// Returns the answers of an operation that answers any two rows with a boolean, or with null only where a row is null.
+/// Refused only as `OutOfMemory`.
 pub(crate) fn zip_truths<O: Pairwise<bool, Truths>, A: Allocator + Copy>(
     alloc: A,
     left: &ArrayRef<A>,
@@ -148,8 +149,8 @@ pub(crate) fn zip_truths<O: Pairwise<bool, Truths>, A: Allocator + Copy>(
     only_refused(made)
 }
 
-/// Returns the answers of an operation that has one for any row, given to it twice, which are booleans of a type with
-/// null or without. Refused as `OutOfMemory` only.
+/// Returns the answers of an operation that answers any row, given to it twice, with a boolean of a type with null or
+/// without. Refused only as `OutOfMemory`.
 pub(crate) fn map_truths<O: Pairwise<bool, Truths>, A: Allocator + Copy>(
     alloc: A,
     column: &ArrayRef<A>,
@@ -170,7 +171,7 @@ pub(crate) fn map_truths<O: Pairwise<bool, Truths>, A: Allocator + Copy>(
     only_refused(made)
 }
 
-// The answers of an operation for the two rows at each place, of rows that runs show.
+// The answers of an operation for the two rows at each place, for rows in runs.
 fn zip_shown<Z: Copy + Drop, K: Stored<Z>, O: Pairwise<Z, K>, A: Allocator + Copy>(
     alloc: A,
     left: &ColumnRuns<A>,
@@ -206,7 +207,7 @@ fn zip_shown<Z: Copy + Drop, K: Stored<Z>, O: Pairwise<Z, K>, A: Allocator + Cop
     Ok(answers)
 }
 
-/// Returns whether answers have null where they have it wherever either column has.
+/// Returns the nullability of answers that have null where either column has it.
 pub(crate) fn either_null(left: DType, right: DType) -> Nullability
     ensures { result ≡ either_nullability (nullability_of left) (nullability_of right) }
 {
@@ -216,7 +217,7 @@ pub(crate) fn either_null(left: DType, right: DType) -> Nullability
     }
 }
 
-/// Returns whether answers have null where they have it only where both columns have.
+/// Returns the nullability of answers that have null only where both columns have it.
 pub(crate) fn both_null(left: DType, right: DType) -> Nullability
     ensures { result ≡ both_nullability (nullability_of left) (nullability_of right) }
 {
@@ -243,7 +244,7 @@ fn is_filled_constant<A: Allocator + Copy>(array: &ArrayRef<A>) -> bool
     }
 }
 
-// The ends and the values of the encoding that these runs are. Refused as `OutOfMemory` only.
+// The ends and the values of the encoding that these runs are. Refused only as `OutOfMemory`.
 fn encoding_of<Z: Copy + Drop, K: Stored<Z>, A: Allocator + Copy>(
     alloc: A,
     runs: AnswerRuns<Z, A>,
@@ -286,8 +287,8 @@ fn encoding_of<Z: Copy + Drop, K: Stored<Z>, A: Allocator + Copy>(
     Ok((ends, values))
 }
 
-// The column of the rows of which these are the ends and the values of the encoding: a constant where they are of one
-// row and that is asked, else the run column. Refused as `OutOfMemory` only.
+// The column that these ends and values encode: a constant if `constant` asks for it, which needs a row and all rows
+// equal, else the run column. Refused only as `OutOfMemory`.
 fn column_over<A: Allocator + Copy>(
     alloc: A,
     ends: PrimitiveArray<A>,

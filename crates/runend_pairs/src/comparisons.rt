@@ -1,4 +1,4 @@
-//! The rows of two columns compared.
+//! Comparisons of the rows of two columns.
 ghost use Rattle.std.specs.Prelude.{◌≡◌, None, Some, length, IfOk, IsErrOf};
 ghost use Rattle.column_core.specs.Refusal.{IsRefusedBy};
 ghost use Rattle.column_ops.specs.CompareFault.{compare_column_fault};
@@ -14,11 +14,12 @@ use column_ops::{CompareOperator, column_fault, compare_views};
 use runend_array::{ArrayRef, ExecutionCtx};
 use std::alloc::Allocator;
 
-/// Returns whether the operator holds of the two rows at each place, null where either is null. The answer is a
-/// constant where both columns are constants that have a row, else the run column of the only tight exact cover of the
-/// answers. Takes a step for each run of either column; a constant is one run. Refused as `Unsupported` for lists, then
-/// as `TypeMismatch` where the columns are of two kinds, then as `ColumnLength` where they differ in rows, and else
-/// only as `OutOfMemory`.
+/// Returns whether the operator holds of the two rows at each place, null where either is null. Where both columns are
+/// constants and have a row, the answer is a constant, else the run column of the only tight exact cover of the
+/// answers. Takes a step for each run of either column; a constant is one run.
+///
+/// Refused as `Unsupported` for lists, then as `TypeMismatch` where the columns are of two kinds, then as
+/// `ColumnLength` where they differ in rows, and else only as `OutOfMemory`.
 pub fn compare<A: Allocator + Copy>(
     left: &ArrayRef<A>,
     operator: CompareOperator,

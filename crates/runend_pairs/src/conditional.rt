@@ -1,4 +1,4 @@
-//! Rows chosen of two columns by a mask.
+//! Rows that a mask chooses from two columns.
 ghost use Rattle.std.specs.Prelude.{◌≡◌, ◌&&◌, None, Some, length, IfOk, IsErrOf, IsOkUnless};
 ghost use Rattle.column_base.specs.declared.dtype.Nullability.TheVariants.{Nullable};
 ghost use Rattle.column_base.specs.Types.{with_nullability};
@@ -14,12 +14,13 @@ use column_core::{Nullability, VortexError, VortexResult};
 use runend_array::{ArrayRef, ExecutionCtx};
 use std::alloc::Allocator;
 
-/// Returns the left row at each place where the mask is true, the right one where it is false, null where it is null.
-/// The type is that of the columns, with null. The answer is a constant where all three columns are constants that have
-/// a row, else the run column of the only tight exact cover of the answers. Takes three walks, each with a step for
-/// each run of the two columns that it walks along. Refused as `Unsupported` where the mask is not of booleans, then as
-/// `coalesce` refuses the two columns, then as `ColumnLength` where the mask and the left column differ in rows, and
-/// else only as `OutOfMemory`.
+/// Returns the left row at each place where the mask is true, the right one where it is false, and null where it is
+/// null. The type is the type of the columns, with null. Where all three columns are constants and have a row, the
+/// answer is a constant, else the run column of the only tight exact cover of the answers. Takes three walks along two
+/// columns, each with a step for each run of either.
+///
+/// Refused as `Unsupported` where the mask is not of booleans, then as `coalesce` refuses the two columns, then as
+/// `ColumnLength` where the mask and the left column differ in rows, and else only as `OutOfMemory`.
 pub fn if_else<A: Allocator + Copy>(
     mask: &ArrayRef<A>,
     left: &ArrayRef<A>,
@@ -44,8 +45,8 @@ pub fn if_else<A: Allocator + Copy>(
     choose(*ctx.allocator(), mask, left, right)
 }
 
-// The same, of a mask and two columns without a fault: the first row that is not null of those that the mask keeps of
-// either column.
+// The same for a mask and two columns without a fault: of the rows that the mask keeps of either column, the first that
+// is not null.
 fn choose<A: Allocator + Copy>(
     alloc: A,
     mask: &ArrayRef<A>,

@@ -1,4 +1,4 @@
-//! Decimals added, subtracted and multiplied.
+//! Sums, differences and products of decimals.
 ghost use Rattle.std.specs.Prelude.{◌≡◌, ◌≤◌, Err, None, Some, SomeIff, length, option_map, IfErr, IfOk, true};
 ghost use Rattle.std.specs.Ordering.{int_eq};
 ghost use Rattle.column_base.specs.declared.dtype.DType.TheVariants as types;
@@ -23,14 +23,18 @@ use runend_array::{ArrayRef, ExecutionCtx};
 use std::alloc::Allocator;
 
 /// Returns the exact sum, difference or product of the two decimals at each place, null where either is null. Sums and
-/// differences want one scale on both sides and have it; a product has the sum of the two scales. The precision is what
-/// Arrow's kernels give: one digit more than the greater one for sums and differences, the sum of both and one more for
-/// products, and 38 at most. The answer is a constant where both columns are constants that have a row, else the run
-/// column of the only tight exact cover of the answers. Takes a step for each run of either column; a constant is one
-/// run. Refused as `Unsupported` where either is not of decimals, then as `TypeMismatch` where the scales do not go
-/// together: two scales of a sum, or scales of a product whose sum an `i8` does not have; then as `ColumnLength` where
-/// the columns differ in rows; then as `Overflow` with the first row whose answer has more digits than the precision of
-/// the answers, and else only as `OutOfMemory`. Rows may have more digits than the precision of their own column.
+/// differences need the same scale on both sides, and have it; a product has the sum of the two scales. The precision
+/// is the one that Arrow's kernels give: for sums and differences one digit more than the greater precision, for
+/// products the sum of both and one more, and 38 at most. Rows may have more digits than the precision of their own
+/// column.
+///
+/// Where both columns are constants and have a row, the answer is a constant, else the run column of the only tight
+/// exact cover of the answers. Takes a step for each run of either column; a constant is one run.
+///
+/// Refused as `Unsupported` where either column is not of decimals, then as `TypeMismatch` where the scales of a sum or
+/// difference differ, or the sum of the scales of a product does not fit an `i8`; then as `ColumnLength` where the
+/// columns differ in rows; then as `Overflow` with the first row whose answer has more digits than the precision of the
+/// answers, and else only as `OutOfMemory`.
 pub fn decimal_numeric<A: Allocator + Copy>(
     left: &ArrayRef<A>,
     operator: NumericOperator,
@@ -63,7 +67,7 @@ pub fn decimal_numeric<A: Allocator + Copy>(
     }
 }
 
-// Returns the precision and the scale of the answers of two columns of these types and numbers of rows. Refused as
+// Returns the precision and the scale of the answers for two columns of these types and numbers of rows. Refused as
 // `Unsupported` where either is not of decimals, as `TypeMismatch` where their scales do not go together, then as
 // `ColumnLength` where they differ in rows.
 fn answer_type(
@@ -126,7 +130,7 @@ fn same_scale(left: i8, right: i8) -> Option<i8>
     if left == right { Some(left) } else { None }
 }
 
-// The answers of two columns of decimals that have as many rows, in a precision of 38 digits at most.
+// The answers for two columns of decimals of the same number of rows, in a precision of 38 digits at most.
 #[tactic(auto, using(crate::proofs::DecimalAnswers::power_fits))]
 fn decimals_of<A: Allocator + Copy>(
     alloc: A,
@@ -164,7 +168,7 @@ fn decimals_of<A: Allocator + Copy>(
     )
 }
 
-/// Gives a decimal for two.
+/// Calculates a decimal from two.
 #[derive(Drop)]
 struct DecimalCalculation {
     operator: NumericOperator,
@@ -194,7 +198,7 @@ impl Pairwise<i128, Decimals> for DecimalCalculation {
 }
 
 impl DecimalCalculation {
-    // The integer that two give, where it has no more digits than an answer may have.
+    // The integer that two give, unless it has more digits than an answer may have.
     #[tactic(auto, using(crate::proofs::DecimalAnswers::fits_digits))]
     fn item(&self, left: i128, right: i128) -> Option<Option<i128>>
         requires { IsDigitLimit self.now.digits self.now.limit }

@@ -1,4 +1,4 @@
-//! Single ends of a flat column of them.
+//! Single ends of a flat column of ends.
 ghost use Rattle.std.specs.Prelude.{◌≡◌, ◌≢◌, ◌+◌, ◌<◌, length, map, slice_index, unsigned_abs};
 ghost use Rattle.column_base.specs.Numbers.{numbers, ptype_of};
 ghost use Rattle.column_base.specs.Types.{IsUnsigned};
@@ -20,7 +20,7 @@ pub(crate) fn end_of<A: Allocator>(ends: &PrimitiveArray<A>, run: usize) -> usiz
     end_among(ends.values(), run)
 }
 
-// The same, of the numbers that the ends are.
+// The same for the numbers that the ends are.
 #[tactic(auto, using(runend_windows::proofs::Ends::ends_stored))]
 fn end_among<A: Allocator>(ends: &PrimitiveValues<A>, run: usize) -> usize
     requires unsigned { IsUnsigned (ptype_of ends.now) }
@@ -31,7 +31,7 @@ fn end_among<A: Allocator>(ends: &PrimitiveValues<A>, run: usize) -> usize
     match_each_unsigned!(ends, items => end_at(items.as_slice(), run))
 }
 
-// The same, of ends of one type.
+// The same for ends of one type.
 #[inline]
 fn end_at<E: UnsignedPType>(ends: &[E], run: usize) -> usize
     requires { run < length ends.now }
@@ -41,8 +41,8 @@ fn end_at<E: UnsignedPType>(ends: &[E], run: usize) -> usize
     ends[run].to_u64() as usize
 }
 
-/// Returns the run of the row `row`, where `run` is that of the row before it, and ends before row `end`: the next one
-/// where it ends there, by a sum in place of a branch.
+/// Returns the run of the row `row`, where `run` is the run of the row before it, and ends before row `end`: the next
+/// run where `run` ends there, by a sum in place of a branch.
 #[inline(always)]
 pub(crate) fn run_after(run: usize, end: usize, row: usize) -> usize
     requires { run < usize.MAX }

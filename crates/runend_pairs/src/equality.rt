@@ -16,10 +16,9 @@ use column_ops::compare_views;
 use runend_array::{ArrayRef, ExecutionCtx};
 use std::alloc::Allocator;
 
-/// Returns whether two columns of any form are of one type, but for null, and have the same rows, null being equal to
-/// null. Takes a step for each run of either column up to the first row that differs, and writes no row; a column that
-/// is flat is encoded first. Refused as `Unsupported` where both are lists of one type, and else only as
-/// `OutOfMemory`.
+/// Returns whether two columns of any form have the same rows, null being equal to null, and are of one type except for
+/// nullability. Takes a step for each run of either column up to the first row that differs, and writes no row; a flat
+/// column is encoded first. Refused as `Unsupported` where both are lists of one type, and else only as `OutOfMemory`.
 pub fn equals<A: Allocator + Copy>(
     left: &ArrayRef<A>,
     right: &ArrayRef<A>,
@@ -44,7 +43,7 @@ pub fn equals<A: Allocator + Copy>(
     have_same_rows(*ctx.allocator(), left, right)
 }
 
-// Whether two columns of any kind but lists, with as many rows, have the same rows.
+// Whether two columns of the same number of rows, of any kind but lists, have the same rows.
 fn have_same_rows<A: Allocator + Copy>(
     alloc: A,
     left: &ArrayRef<A>,
@@ -76,7 +75,7 @@ fn have_same_rows<A: Allocator + Copy>(
     }
 }
 
-/// Answers true for two rows that are the same, and has no answer for others.
+/// Answers true for two equal rows, and has no answer for others.
 #[derive(Drop)]
 struct SameTest {}
 

@@ -13,7 +13,7 @@ pub enum ZipError {
     /// Says that the columns do not go together, or that a growth of memory was refused.
     #[error("refused")]
     Refused(VortexError),
-    /// Has the first row whose answer the type of the answers does not have.
+    /// Has the first row whose answer does not fit the type of the answers.
     #[error("Overflow")]
     Overflow { row: usize },
 }
@@ -62,8 +62,8 @@ pub(crate) fn fault_of_boolean(
     fault_of_lengths(left_count, right_count)
 }
 
-/// Returns why rows are not picked of two columns of these types and numbers of rows: `Unsupported` where either is not
-/// of integers, of decimals or of booleans, `TypeMismatch` where they are of two types, then `ColumnLength` where they
+/// Returns why rows are not picked from two columns of these types and numbers of rows: `Unsupported` where either is
+/// not of integers, decimals or booleans, `TypeMismatch` where their types differ, then `ColumnLength` where they
 /// differ in rows.
 pub(crate) fn fault_of_pick(
     left: DType,
@@ -82,9 +82,9 @@ pub(crate) fn fault_of_pick(
     fault_of_lengths(left_count, right_count)
 }
 
-/// Returns why rows of two columns are not chosen by a mask, given the types and the numbers of rows of the mask, the
-/// left and the right column: `Unsupported` where the mask is not of booleans, then what `fault_of_pick` says of the
-/// columns, then `ColumnLength` where the mask and the left column differ in rows.
+/// Returns why a mask does not choose rows of two columns, given the types and the numbers of rows of the mask, the
+/// left and the right column: `Unsupported` where the mask is not of booleans, then what `fault_of_pick` returns for
+/// the columns, then `ColumnLength` where the mask and the left column differ in rows.
 pub(crate) fn fault_of_choice(
     types: (DType, DType, DType),
     counts: (usize, usize, usize),
@@ -100,7 +100,7 @@ pub(crate) fn fault_of_choice(
     fault_of_lengths(counts.0, counts.1)
 }
 
-// Whether the type is one of integers, of decimals or of booleans.
+// Whether it is a type of integers, decimals or booleans.
 fn is_picked_type(dtype: DType) -> bool
     ensures { result ≡ is_picked dtype }
 {
@@ -121,7 +121,7 @@ pub(crate) fn fault_of_truths(dtype: DType) -> Option<VortexError>
     }
 }
 
-// Whether the type is one of booleans.
+// Whether it is the type of booleans.
 fn is_truth_type(dtype: DType) -> bool
     ensures { result ≡ is_truths dtype }
 {
@@ -142,7 +142,7 @@ pub(crate) fn fault_of_lengths(left: usize, right: usize) -> Option<VortexError>
     }
 }
 
-/// Returns an answer that no row refuses.
+/// Returns an answer that is not refused for a row.
 pub(crate) fn only_refused<T: Drop>(answer: Result<T, ZipError>) -> VortexResult<T>
     requires { IfErr answer (λ error. error ≡ Refused VortexError.OutOfMemory) }
     ensures only { IsOkUnless result VortexError.OutOfMemory }

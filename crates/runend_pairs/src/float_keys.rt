@@ -1,4 +1,4 @@
-//! Floats by their keys, calculated with as IEEE 754 says.
+//! Floats by their keys: calculations as IEEE 754 defines them.
 ghost use Rattle.std.specs.Prelude.{◌≡◌};
 ghost use Rattle.std.specs.Float.{binary32, binary64};
 ghost use Rattle.float_bits.specs.declared.formats.FloatFormat.{FloatFormat};
@@ -12,12 +12,12 @@ use std::num::{
     f32_from_bits_with_nan, f32_to_bits_with_nan, f64_from_bits_with_nan, f64_to_bits_with_nan,
 };
 
-/// Works floats of one format by their keys.
+/// Calculates with floats of one format by their keys.
 pub(crate) trait FloatKey: NativePType {
     // The format.
     ghost format: { FloatFormat };
 
-    /// Returns the key of the float that those with two keys give.
+    /// Returns the key of the float that an operator gives for the floats of two keys.
     fn combine(operator: FloatOperator, left: Self, right: Self) -> Self
         ensures { Self.number result ≡ key_given operator format (Self.number left) (Self.number right) };
 }
@@ -72,7 +72,7 @@ fn f32_of_key(key: i32) -> f32
     f32_from_bits_with_nan(bits as u32)
 }
 
-// The key of a float, and of every NaN that of the quiet one with a plus and without payload.
+// The key of a float; every NaN has the key of the quiet NaN with a plus and without payload.
 fn key_of_f32(float: f32) -> i32
     ensures { result ≡ key_of_float F32 float }
 {
@@ -87,7 +87,7 @@ fn f64_of_key(key: i64) -> f64
     f64_from_bits_with_nan(from_total_key(FloatFormat::F64, key))
 }
 
-// The key of a float, and of every NaN that of the quiet one with a plus and without payload.
+// The key of a float; every NaN has the key of the quiet NaN with a plus and without payload.
 fn key_of_f64(float: f64) -> i64
     ensures { result ≡ key_of_float F64 float }
 {

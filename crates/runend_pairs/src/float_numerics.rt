@@ -1,4 +1,4 @@
-//! Floats added, subtracted, multiplied and divided.
+//! Sums, differences, products and quotients of floats.
 ghost use Rattle.std.specs.Prelude.{◌≡◌, Some, length, IfOk, IsErrOf, IsOkUnless};
 ghost use Rattle.column_base.specs.declared.dtype.DType.TheVariants as column;
 ghost use Rattle.column_core.specs.Refusal.{IsRefusedBy};
@@ -31,14 +31,17 @@ pub enum FloatOperator {
     Divide,
 }
 
-/// Returns the sum, difference, product or quotient of the two rows at each place, of columns of floats that are stored
-/// by their keys: what IEEE 754 says in their format, rounded once, at a tie to the even one, and null where either row
-/// is null. No row is refused: an answer past the finite floats is an infinity, and so is one divided by zero. Each NaN
-/// is the quiet one with a plus and without payload. The answer is a constant where both columns are constants that
-/// have a row, else the run column of the only tight exact cover of the answers. Takes a step for each run of either
-/// column; a constant is one run. Refused as `TypeMismatch` where the left column is not of `i16`, `i32` or `i64`, or
-/// the right one is of another type, then as `Unsupported` for `i16`, then as `ColumnLength` where they differ in rows,
-/// all before any memory is taken, and else only as `OutOfMemory`.
+/// Returns the sum, difference, product or quotient of the two rows at each place, for columns of floats that are
+/// stored by their keys; null where either row is null. The answer is the one of IEEE 754 in their format, rounded
+/// once, at a tie to the even one. No row is refused: an answer past the finite floats is an infinity, and so is a
+/// number other than 0 that is divided by 0. Each NaN is the quiet one with a plus and without payload.
+///
+/// Where both columns are constants and have a row, the answer is a constant, else the run column of the only tight
+/// exact cover of the answers. Takes a step for each run of either column; a constant is one run.
+///
+/// Refused as `TypeMismatch` where the left column is not of `i16`, `i32` or `i64`, or the right one is of another
+/// type, then as `Unsupported` for `i16`, then as `ColumnLength` where they differ in rows, all before any memory is
+/// taken, and else only as `OutOfMemory`.
 pub fn float_numeric<A: Allocator + Copy>(
     left: &ArrayRef<A>,
     operator: FloatOperator,
@@ -85,7 +88,7 @@ fn fault_of_floats(
     fault_of_lengths(left_count, right_count)
 }
 
-// Whether the type is one of floats of 16 bits.
+// Whether it is a type of floats of 16 bits.
 fn is_of_halves(dtype: DType) -> bool
     ensures { result ≡ is_halves dtype }
 {
@@ -95,7 +98,7 @@ fn is_of_halves(dtype: DType) -> bool
     }
 }
 
-// The same, of columns of keys of this type that have as many rows. Refused as `OutOfMemory` only.
+// The same for columns of keys of this type, of the same number of rows. Refused only as `OutOfMemory`.
 fn calculate<T: FloatKey, A: Allocator + Copy>(
     alloc: A,
     left: &ArrayRef<A>,
@@ -122,7 +125,7 @@ fn calculate<T: FloatKey, A: Allocator + Copy>(
     only_refused(made)
 }
 
-/// Gives a float for two.
+/// Calculates a float from two.
 #[derive(Drop)]
 struct FloatCalculation {
     operator: FloatOperator,

@@ -18,35 +18,35 @@ use crate::values::ValueRuns;
 use column_core::{BitBufferMut, NativePType, PrimitiveArray, Validity, VortexError, VortexResult};
 use std::alloc::Allocator;
 
-/// Keeps what an answer needs of the rows of a group that were looked at, and gives the answer.
+/// Keeps what an answer needs to know of the rows of a group, and gives the answer.
 pub(crate) trait Fold<T: NativePType, N: NativePType>: Drop {
     // This is kept of these rows.
     ghost keeps: { List (Option ℤ) → Self → Type 0 };
 
-    // The answer of a group of these rows.
+    // The answer for a group of these rows.
     ghost answer_of: { List (Option ℤ) → Option ℤ };
 
-    // The numbers that are given as answers. A group whose answer is another one is refused.
+    // The numbers that are given as answers. A group with another answer is refused.
     ghost gives: { ℤ → Type 0 };
 
     /// Returns what is kept of no rows.
     fn start() -> Self
         ensures { keeps [] result };
 
-    /// Looks at as many rows as given, each of this value.
+    /// Adds `rows` rows, each of this value.
     fn add(&mut self, value: Option<T>, rows: usize)
         ensures { (before : List (Option ℤ)) → 0 < rows → length before + rows < 2 ^ 64 →
             keeps before self.old → keeps (before ++ replicate rows (option_map T.number value)) self.new };
 
-    /// Returns the answer, or `None` where it is a number that is not given.
+    /// Returns the answer, or `None` where it is a number that is not given as an answer.
     fn finish(&self) -> Option<Option<N>>
         ensures { (rows : List (Option ℤ)) → keeps rows self.now →
             IsAnswerOf N.number gives (answer_of rows) result };
 }
 
-/// Returns the answer of each group, as a column that has null. Groups end before these rows, and the last one at the
-/// last row. Takes a step for each group and for each run. Refused with the first group whose answer is not given, and
-/// as `OutOfMemory`.
+/// Returns the answer for each group, as a column that has null. Each group ends before one of these rows, and the last
+/// one at the last row. Takes a step for each group and for each run. Refused with the first group whose answer is not
+/// given, and as `OutOfMemory`.
 pub(crate) fn fold_groups<T: NativePType, N: NativePType, S: Fold<T, N>, A: Allocator + Copy>(
     alloc: A,
     groups: &PrimitiveArray<A>,
@@ -83,7 +83,7 @@ pub(crate) fn fold_groups<T: NativePType, N: NativePType, S: Fold<T, N>, A: Allo
     Ok(answer_column(items, flags))
 }
 
-/// Returns no items, and room for as many as given. Refused as `OutOfMemory` only.
+/// Returns no items, and room for `count` items. Refused only as `OutOfMemory`.
 pub(crate) fn room_for<N: NativePType, A: Allocator>(
     alloc: A,
     count: usize,
@@ -95,7 +95,7 @@ pub(crate) fn room_for<N: NativePType, A: Allocator>(
     Ok(Vec::with_capacity(alloc, count)?)
 }
 
-/// Returns what a column stores for an answer: 0 for null.
+/// Returns the item that a column stores for an answer: 0 for null.
 #[inline]
 pub(crate) fn stored_for<N: NativePType>(answer: Option<N>) -> N
     ensures shown { (if is_some answer then Some (N.number result) else None) ≡ option_map N.number answer }
@@ -122,8 +122,8 @@ pub(crate) fn answer_column<N: NativePType, A: Allocator + Copy>(
     PrimitiveArray::new_unchecked(N::wrap(items), validity)
 }
 
-// What is kept of the rows from `start` to before `stop`, of which the first is in the run `first`, and the run of the
-// row `stop`.
+// What is kept of the rows from `start` to before `stop`, where the row `start` is in the run `first`; and the run of
+// the row `stop`.
 fn fold_between<T: NativePType, N: NativePType, S: Fold<T, N>, A: Allocator>(
     values: &ValueRuns<'_, T, A>,
     first: usize,

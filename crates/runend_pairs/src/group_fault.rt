@@ -7,13 +7,13 @@ use crate::total_fault::fault_of_numbers;
 use column_core::{DType, VortexError, fault_of_lists};
 use thiserror::Error;
 
-/// Says why there are no answers. Groups are counted from 0.
+/// Says why groups are refused. Groups are counted from 0.
 #[derive(Clone, Copy, Debug, Drop, PartialEq, Eq, Error)]
 pub enum GroupError {
-    /// The columns do not go together, or a growth of memory was refused.
+    /// Says that the columns do not go together, or that a growth of memory was refused.
     #[error("refused")]
     Refused(VortexError),
-    /// The sum of this group does not fit 64 bits, and those of all groups before it do.
+    /// Says that the sum of this group does not fit 64 bits, and those of all groups before it do.
     #[error("SumOverflow")]
     SumOverflow { group: usize },
 }
@@ -27,7 +27,7 @@ impl From<VortexError> for GroupError {
 }
 
 /// Returns why values of a type are not grouped by keys of a type: `Unsupported` for keys that are lists, and for
-/// values that are not integers; then `ColumnLength` where there are not as many values as keys.
+/// values that are not integers; then `ColumnLength` where the numbers of values and of keys differ.
 pub(crate) fn fault_of_groups(
     keys: DType,
     values: DType,

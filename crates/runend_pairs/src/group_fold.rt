@@ -1,20 +1,21 @@
-//! What is answered of the values in each group.
+//! What is calculated from the values in each group.
 
-/// Names what is answered of the values in a group. Each answer but `Rows` looks only at the values that are not null.
+/// Names what is calculated from the values in a group. Each answer but `Rows` looks only at the values that are not
+/// null.
 #[derive(Clone, Copy, Debug, Drop, PartialEq, Eq)]
 pub enum GroupFold {
-    /// Their sum as a number, in `i64` for signed values and in `u64` for unsigned ones; null where all are null.
+    /// Adds the values, in `i64` for signed ones and in `u64` for unsigned ones; null where all are null.
     Sum,
-    /// The number of rows, in `u64`: null values count.
+    /// Counts the rows, in `u64`: null values count.
     Rows,
-    /// The number of values that are not null, in `u64`: 0 where all are null.
+    /// Counts the values that are not null, in `u64`: 0 where all are null.
     Count,
-    /// The least of them; null where all are null.
+    /// Finds the least value; null where all are null.
     Least,
-    /// The greatest of them; null where all are null.
+    /// Finds the greatest value; null where all are null.
     Greatest,
-    /// The first that is not null, in the order of the rows; null where all are null.
+    /// Finds the first value that is not null, in the order of the rows; null where all are null.
     First,
-    /// The last that is not null, in the order of the rows; null where all are null.
+    /// Finds the last value that is not null, in the order of the rows; null where all are null.
     Last,
 }

@@ -1,4 +1,4 @@
-//! Groups of rows by runs of equal keys, and what is answered of each.
+//! Groups of rows by runs of equal keys, and an answer for each.
 ghost use Rattle.std.specs.Prelude.{◌≡◌, Err, Some, length, map, true, IfErr, IfOk};
 ghost use Rattle.column_base.specs.declared.dtype.DType.TheVariants as column;
 ghost use Rattle.column_base.specs.declared.dtype.Nullability.TheVariants.{Nullable};
@@ -33,15 +33,17 @@ pub struct Groups<A: Allocator> {
     pub ends: PrimitiveArray<A>,
     /// Holds the key of each group.
     pub keys: FlatColumn<A>,
-    /// Holds what is answered of the values in each group.
+    /// Holds the answer for the values in each group.
     pub answers: PrimitiveArray<A>,
 }
 
-/// Returns the groups of rows with equal neighbouring keys, null being equal to null, and what is asked of the values
-/// in each, as a column that has null. `GroupFold` says what each answer is, and its type. Keys are of any type but
-/// lists. Takes a step for each run of either column; a constant is one run. Refused as `Unsupported` where keys are
-/// lists or values are not integers, then as `ColumnLength` where there are not as many values as keys, then, for sums
-/// only, as `SumOverflow` with the first group whose sum does not fit 64 bits, and else only as `OutOfMemory`.
+/// Returns the groups of rows with equal neighbouring keys, null being equal to null, and the answer for the values in
+/// each, as a column that has null. `GroupFold` says what each answer is, and its type. Keys are of any type but lists.
+/// Takes a step for each run of either column; a constant is one run.
+///
+/// Refused as `Unsupported` where keys are lists or values are not integers, then as `ColumnLength` where the numbers
+/// of values and of keys differ, then, for sums only, as `SumOverflow` with the first group whose sum does not fit 64
+/// bits, and else only as `OutOfMemory`.
 pub fn fold_by<A: Allocator + Copy>(
     keys: &ArrayRef<A>,
     values: &ArrayRef<A>,
@@ -83,9 +85,11 @@ pub fn fold_by<A: Allocator + Copy>(
 }
 
 /// Returns the groups of rows with equal neighbouring keys, null being equal to null, and the sum of the values in
-/// each: `fold_by` with `GroupFold::Sum`. It is the sum as a number, in whatever order. Refused as `Unsupported` where
-/// keys are lists or values are not integers, then as `ColumnLength` where there are not as many values as keys, then
-/// as `SumOverflow` with the first group whose sum does not fit 64 bits, and else only as `OutOfMemory`.
+/// each: `fold_by` with `GroupFold::Sum`. It is the exact sum, whatever the order of the rows.
+///
+/// Refused as `Unsupported` where keys are lists or values are not integers, then as `ColumnLength` where the numbers
+/// of values and of keys differ, then as `SumOverflow` with the first group whose sum does not fit 64 bits, and else
+/// only as `OutOfMemory`.
 pub fn sum_by<A: Allocator + Copy>(
     keys: &ArrayRef<A>,
     values: &ArrayRef<A>,
@@ -109,7 +113,7 @@ pub fn sum_by<A: Allocator + Copy>(
     fold_by(keys, values, GroupFold::Sum, ctx)
 }
 
-// What is asked of the values in each of the groups that end before these rows, the last of them at the last row.
+// The answers for the values in the groups that end before these rows, the last of them at the last row.
 fn fold_in<A: Allocator + Copy>(
     alloc: A,
     groups: &PrimitiveArray<A>,

@@ -17,9 +17,10 @@ use runend_builder::row_runs;
 use std::alloc::Allocator;
 use std::hash::{DefaultHasher, Hash, Hasher};
 
-/// Returns a hash of the rows of a column of any form, the same for all columns with these rows: the SipHash-1-3, with
-/// keys 0, of the ends and the values of the only tight exact cover of the rows. Takes a step for each run; a column
-/// that is flat is encoded first. Refused as `Unsupported` exactly for lists, and else only as `OutOfMemory`.
+/// Returns a hash of the rows of a column of any form; all columns with these rows have the same. It is the
+/// SipHash-1-3, with keys 0, of the ends and the values of the only tight exact cover of the rows. Takes a step for
+/// each run; a flat column is encoded first. Refused as `Unsupported` exactly for lists, and else only as
+/// `OutOfMemory`.
 pub fn hash<A: Allocator + Copy>(
     column: &ArrayRef<A>,
     ctx: &mut ExecutionCtx<A>,
@@ -38,7 +39,7 @@ pub fn hash<A: Allocator + Copy>(
     Ok(hash)
 }
 
-/// States that rows have one hash: columns that show the same rows, in whatever forms, have the same. For caches and
+/// Proves that rows have one hash: columns that show the same rows, in whatever forms, have the same. For caches and
 /// joins: a look-up by the hash misses no equal column.
 pub fn equal_rows_equal_hashes()
     ensures { EqualRowsEqualHashes }

@@ -15,9 +15,9 @@ use column_core::{ScalarView, VortexError, VortexResult};
 use runend_array::{ArrayRef, ExecutionCtx};
 use std::alloc::Allocator;
 
-/// Returns the opposite of each row, null where it is null, in the type of the column. The answer is a constant where
-/// the column is one that has a row, else the run column of the only tight exact cover of the answers. Takes a step for
-/// each run. Refused as `Unsupported` where the column is not of booleans, and else only as `OutOfMemory`.
+/// Returns the opposite of each row, null where it is null, in the type of the column. Where the column is a constant
+/// and has a row, the answer is a constant, else the run column of the only tight exact cover of the answers. Takes a
+/// step for each run. Refused as `Unsupported` where the column is not of booleans, and else only as `OutOfMemory`.
 pub fn not<A: Allocator + Copy>(
     column: &ArrayRef<A>,
     ctx: &mut ExecutionCtx<A>,

@@ -56,7 +56,7 @@ fn stop_of_run<A: Allocator + Copy>(runs: &RunEndArray<A>, run: usize) -> usize
     }
 }
 
-// As many rows as given where this row is null, and else none.
+// `count` where this row is null, else 0.
 fn where_null<A: Allocator + Copy>(values: &ArrayRef<A>, index: usize, count: usize) -> usize
     requires { index < length (rows values.now) }
     ensures { result ≡ cond (is_none (slice_index_or (rows values.now) index None)) count 0 }
@@ -88,7 +88,7 @@ fn nulls_of_constant<A: Allocator>(constant: &ConstantArray<A>) -> usize
     }
 }
 
-// How many rows of a flat column are null, where there are as many rows as given.
+// How many of the `count` rows of a flat column are null.
 fn nulls_of_flat<A: Allocator>(flat: FlatView<'_, A>, count: usize) -> usize
     requires counted { count ≡ length (leaf_rows (leaf_in flat)) }
     ensures nulls { result ≡ null_rows (single_rows (leaf_in flat.entry)) }

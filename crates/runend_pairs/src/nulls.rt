@@ -1,4 +1,4 @@
-//! Rows tested for null.
+//! Tests of rows for null.
 ghost use Rattle.std.specs.Prelude.{◌≡◌, Some, map, IfOk, IsErrOf};
 ghost use Rattle.column_core.specs.Kinds.{list_fault};
 ghost use Rattle.column_core.specs.Refusal.{IsRefusedBy};
@@ -13,9 +13,9 @@ use column_core::{DType, Nullability, ScalarView, VortexError, VortexResult, fau
 use runend_array::{ArrayRef, ExecutionCtx};
 use std::alloc::Allocator;
 
-/// Returns whether each row is null, in booleans without null. The answer is a constant where the column is one that
-/// has a row, else the run column of the only tight exact cover of the answers. Takes a step for each run. Refused as
-/// `Unsupported` exactly for lists, and else only as `OutOfMemory`.
+/// Returns whether each row is null, in booleans without null. Where the column is a constant and has a row, the answer
+/// is a constant, else the run column of the only tight exact cover of the answers. Takes a step for each run. Refused
+/// as `Unsupported` exactly for lists, and else only as `OutOfMemory`.
 pub fn is_null<A: Allocator + Copy>(
     column: &ArrayRef<A>,
     ctx: &mut ExecutionCtx<A>,

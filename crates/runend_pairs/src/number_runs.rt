@@ -11,7 +11,7 @@ use runend_builder::row_runs;
 use std::alloc::Allocator;
 
 /// Returns the runs of equal neighbouring rows of a column of integers: the row that each ends before, and the number
-/// of each. Refused as `OutOfMemory` only.
+/// of each. Refused only as `OutOfMemory`.
 pub(crate) fn number_runs<A: Allocator + Copy>(
     alloc: A,
     array: &ArrayRef<A>,

@@ -1,4 +1,4 @@
-//! Groups of integers of any type, folded as is asked.
+//! Groups of integers of any type, and the answer for each.
 ghost use Rattle.std.specs.Prelude.{◌≡◌, ◌≢◌, length, map, IfErr, IfOk};
 ghost use Rattle.column_base.specs.declared.dtype.DType.TheVariants as column;
 ghost use Rattle.column_base.specs.declared.dtype.Nullability.TheVariants.{Nullable};
@@ -25,8 +25,8 @@ use column_core::{NativePType, PrimitiveArray, PrimitiveValues as Values, Unsign
 use column_sums::SignedPType;
 use std::alloc::Allocator;
 
-/// Returns what is asked of each group of the rows of these runs. Groups end before these rows. Refused with the first
-/// group whose sum does not fit 64 bits, where sums are asked, and as `OutOfMemory`.
+/// Returns the answer for each group of the rows of these runs. Each group ends before one of these rows. Refused, if
+/// sums are asked for, with the first group whose sum does not fit 64 bits, and as `OutOfMemory`.
 pub(crate) fn fold_numbers<A: Allocator + Copy>(
     alloc: A,
     groups: &PrimitiveArray<A>,
@@ -60,7 +60,7 @@ pub(crate) fn fold_numbers<A: Allocator + Copy>(
     }
 }
 
-// The same, of items of a signed type, null where the numbers are.
+// The same for items of a signed type, null where the numbers are.
 fn fold_signed<T: SignedPType, A: Allocator + Copy>(
     alloc: A,
     groups: &PrimitiveArray<A>,
@@ -92,7 +92,7 @@ fn fold_signed<T: SignedPType, A: Allocator + Copy>(
     }
 }
 
-// The same, of items of an unsigned type.
+// The same for items of an unsigned type.
 fn fold_unsigned<T: UnsignedPType, A: Allocator + Copy>(
     alloc: A,
     groups: &PrimitiveArray<A>,
@@ -126,7 +126,7 @@ fn fold_unsigned<T: UnsignedPType, A: Allocator + Copy>(
     }
 }
 
-// The same, of items of any type, for an answer that does not depend on a sign.
+// The same for items of any type, for an answer that does not depend on a sign.
 fn fold_native<T: NativePType, A: Allocator + Copy>(
     alloc: A,
     groups: &PrimitiveArray<A>,
@@ -167,7 +167,7 @@ fn fold_native<T: NativePType, A: Allocator + Copy>(
     }
 }
 
-// What is kept by `S`, of items that are null where the numbers are.
+// The answers of the fold `S`, for items that are null where the numbers are.
 fn fold_items<T: NativePType, N: NativePType, S: Fold<T, N>, A: Allocator + Copy>(
     alloc: A,
     groups: &PrimitiveArray<A>,

@@ -1,4 +1,4 @@
-//! Integers added, subtracted and multiplied.
+//! Sums, differences and products of integers.
 ghost use Rattle.std.specs.Prelude.{◌≡◌, Err, Some, length, option_map, IfErr, IfOk, FitsSigned, IfSome, IfNone};
 ghost use Rattle.std.specs.Int.{w128};
 ghost use Rattle.column_core.specs.ScalarView.{sees};
@@ -25,12 +25,13 @@ pub enum NumericOperator {
     Multiply,
 }
 
-/// Returns the sum, difference or product of the two rows at each place, of the native type of both, null where either
-/// is null. The answer is a constant where both columns are constants that have a row, else the run column of
-/// the only tight exact cover of the answers. Takes a step for each run of either column; a constant is one run.
-/// Refused as `Unsupported` where either is not of integers, then as `TypeMismatch` where they are of two native types,
-/// then as `ColumnLength` where they differ in rows; then as `Overflow` with the first row whose answer the type does
-/// not have, and else only as `OutOfMemory`.
+/// Returns the sum, difference or product of the two rows at each place, in the native type of both columns, null where
+/// either row is null. Where both columns are constants and have a row, the answer is a constant, else the run column
+/// of the only tight exact cover of the answers. Takes a step for each run of either column; a constant is one run.
+///
+/// Refused as `Unsupported` where either column is not of integers, then as `TypeMismatch` where they are of two native
+/// types, then as `ColumnLength` where they differ in rows; then as `Overflow` with the first row whose answer does not
+/// fit the type, and else only as `OutOfMemory`.
 pub fn numeric<A: Allocator + Copy>(
     left: &ArrayRef<A>,
     operator: NumericOperator,
@@ -57,7 +58,7 @@ pub fn numeric<A: Allocator + Copy>(
     }
 }
 
-// The same, of columns of this native type that have as many rows.
+// The same for columns of this native type, of the same number of rows.
 fn numeric_in<A: Allocator + Copy>(
     alloc: A,
     ptype: PType,
@@ -85,7 +86,7 @@ fn numeric_in<A: Allocator + Copy>(
     }
 }
 
-// The same, by the native type.
+// The same by the native type.
 fn numeric_as<T: NativePType, A: Allocator + Copy>(
     alloc: A,
     left: &ArrayRef<A>,
@@ -111,7 +112,7 @@ fn numeric_as<T: NativePType, A: Allocator + Copy>(
     )
 }
 
-/// Gives an integer for two.
+/// Calculates an integer from two.
 #[derive(Drop)]
 struct Calculation {
     operator: NumericOperator,
@@ -137,7 +138,7 @@ impl<T: NativePType> Pairwise<T, Integers> for Calculation {
 }
 
 impl NumericOperator {
-    // The item of the integer that two give, where its type has that.
+    // The item of the integer that two give, where the type has it.
     fn item<T: NativePType>(self, left: i128, right: i128) -> Option<Option<T>>
         ensures { IsFound (λ item. Number (T.number item)) (IsNumberOrNull T.PTYPE)
             (number_row (Some (calculated self left right))) result }
@@ -151,7 +152,7 @@ impl NumericOperator {
         }
     }
 
-    /// Returns the integer that two give, where 128 bits have it.
+    /// Returns the integer that two give, where it fits 128 bits.
     pub(crate) fn calculate(self, left: i128, right: i128) -> Option<i128>
         ensures some { IfSome result (λ number. number ≡ calculated self left right) }
         ensures none { IfNone result (¬ FitsSigned w128 (calculated self left right)) }

@@ -1,4 +1,5 @@
-//! Two columns walked along their runs, each stretch of rows in which both stay in one run answered once.
+//! A walk along the runs of two columns, which asks for one answer for each stretch of rows in which both stay in one
+//! run.
 ghost use Rattle.std.specs.Prelude.{◌≡◌, ◌≤◌, ◌+◌, ◌-◌, All, Option, length, map, true, IfErr, IfOk};
 ghost use Rattle.column_base.specs.declared.dtype.DType.{DType};
 ghost use Rattle.column_base.specs.Types.{nullability_of};
@@ -23,18 +24,18 @@ use crate::stored::Stored;
 use column_core::ScalarView;
 use std::alloc::Allocator;
 
-/// Answers two rows, of which either may be null, by an item or null.
+/// Answers two rows, either of which may be null, by an item or null.
 pub(crate) trait Pairwise<Z: Copy + Drop, K: Stored<Z>> {
-    // The types of columns whose rows are answered.
+    // The types of columns that it serves.
     ghost takes: { Self → DType → DType → Type 0 };
 
     // The answer of two rows.
     ghost answer_of: { Self → Option Value → Option Value → Option Value };
 
-    // Whether the type of the answers has this one.
+    // Whether the type of the answers has this answer.
     ghost has: { Self → Option Value → Type 0 };
 
-    /// Returns the answer of two rows, or `None` where its type does not have it.
+    /// Returns the answer for two rows, or `None` where the type of the answers does not have it.
     fn answer<A: Allocator>(
         &self,
         left: &ScalarView<'_, A>,
@@ -44,9 +45,9 @@ pub(crate) trait Pairwise<Z: Copy + Drop, K: Stored<Z>> {
         ensures { IsFound K.shown (has self.now) (answer_of self.now (sees left.now) (sees right.now)) result };
 }
 
-/// Returns the runs of the answers of `count` rows, all closed. The operation is asked once for each stretch of rows in
-/// which both columns stay in one run. Refused with the first row whose answer the type does not have, and as
-/// `OutOfMemory`.
+/// Returns the runs of the answers for `count` rows, all closed. Asks the operation once for each stretch of rows in
+/// which both columns stay in one run. Refused with the first row whose answer does not fit the type of the answers,
+/// and as `OutOfMemory`.
 pub(crate) fn zip_runs<Z: Copy + Drop, K: Stored<Z>, O: Pairwise<Z, K>, A: Allocator + Copy>(
     alloc: A,
     left: &ColumnRuns<A>,
@@ -78,7 +79,7 @@ pub(crate) fn zip_runs<Z: Copy + Drop, K: Stored<Z>, O: Pairwise<Z, K>, A: Alloc
     walk_runs::<Z, K, O, A>(alloc, left, &mut asked, right, count)
 }
 
-// The same, of an operation that was not asked yet: it is asked at most m + n - 1 times for m and n runs.
+// The same for an operation that was not asked yet. For m and n runs it is asked at most m + n - 1 times.
 fn walk_runs<Z: Copy + Drop, K: Stored<Z>, O: Pairwise<Z, K>, A: Allocator + Copy>(
     alloc: A,
     left: &ColumnRuns<A>,

@@ -13,19 +13,19 @@ use column_core::{NativePType, UnsignedPType};
 use column_sums::SignedPType;
 use std::alloc::Allocator;
 
-/// Holds what rows of signed numbers add to a sum: their total, and the least and the greatest of the sums on the way,
+/// Holds what rows of signed numbers add to a sum: their total, and the least and the greatest of their partial sums,
 /// one of which is the 0 before the first row.
 #[derive(Debug, Clone, Copy, Drop, PartialEq, Eq)]
 pub struct SignedParts {
     /// Holds the sum of all rows that are not null.
     pub total: i128,
-    /// Holds the least sum on the way: 0 or less.
+    /// Holds the least partial sum: 0 or less.
     pub least: i128,
-    /// Holds the greatest sum on the way: 0 or more.
+    /// Holds the greatest partial sum: 0 or more.
     pub greatest: i128,
 }
 
-/// Holds what rows of unsigned numbers add to a sum: their total, which is the greatest of the sums on the way. The
+/// Holds what rows of unsigned numbers add to a sum: their total, which is also the greatest of their partial sums. The
 /// least is the 0 before the first row.
 #[derive(Debug, Clone, Copy, Drop, PartialEq, Eq)]
 pub struct UnsignedParts {
@@ -42,7 +42,7 @@ pub(crate) trait PartSum<T: NativePType>: Drop {
     fn start() -> Self
         ensures { keeps [] result };
 
-    /// Adds as many rows as given, each of this value.
+    /// Adds `rows` rows, each of this value.
     fn add(&mut self, value: Option<T>, rows: usize)
         ensures { (before : List (Option ℤ)) → length before + rows < 2 ^ 64 → keeps before self.old →
             keeps (before ++ replicate rows (option_map T.number value)) self.new };

@@ -22,17 +22,17 @@ use column_sums::SignedPType;
 use runend_array::ArrayRef;
 use std::alloc::Allocator;
 
-/// Says what rows add to a sum. No sum of as many rows as there can be leaves its type: fewer than 2^64 rows of at most
-/// 2^63 above or below 0 stay within 2^127, and those of less than 2^64 below 2^128.
+/// Says what rows add to a sum. These sums never leave their types: fewer than 2^64 rows, each of at most 2^63 in
+/// absolute value, add up to less than 2^127, and rows below 2^64 to less than 2^128.
 #[derive(Debug, Clone, Copy, Drop, PartialEq, Eq)]
 pub enum SumParts {
     Signed(SignedParts),
     Unsigned(UnsignedParts),
 }
 
-/// Returns what the rows of a column of any form add to a sum: their total, and the least and the greatest of the sums
-/// on the way from row to row, one of which is the 0 before the first row. By these numbers of each part the sum of
-/// joined rows is known, also where a sum on the way overflows (`joined_parts`). Takes a step for each run, and 8 bytes
+/// Returns what the rows of a column of any form add to a sum: their total, and the least and the greatest of the
+/// partial sums from row to row, one of which is the 0 before the first row. From these numbers of each part follows
+/// the sum of joined rows, also where a partial sum overflows (`joined_parts`). Takes a step for each run, and 8 bytes
 /// and a value for it; a constant is one run. Refused as `Unsupported` exactly where the rows are not integers, before
 /// any memory is taken, and else only as `OutOfMemory`.
 pub fn sum_parts<A: Allocator + Copy>(alloc: A, array: &ArrayRef<A>) -> VortexResult<SumParts>
@@ -50,8 +50,9 @@ pub fn sum_parts<A: Allocator + Copy>(alloc: A, array: &ArrayRef<A>) -> VortexRe
     Ok(parts)
 }
 
-/// States what rows after others add to a sum, by what either add: the totals are added, and the least and the greatest
-/// sums on the way are those of the first rows, and those of the others raised by the total of the first.
+/// Proves what joined rows add to a sum, by what the parts add: the totals are added; the least and the greatest
+/// partial sums are the least and the greatest among those of the first part and those of the second raised by the
+/// total of the first.
 pub fn joined_parts()
     ensures { JoinsParts }
 {}
@@ -78,7 +79,7 @@ fn parts_of_numbers<A: Allocator + Copy>(
     }
 }
 
-// The same, of items of a signed type.
+// The same for items of a signed type.
 fn signed_parts<T: SignedPType, A: Allocator + Copy>(
     ends: &PrimitiveArray<A>,
     items: &[T],
@@ -95,7 +96,7 @@ fn signed_parts<T: SignedPType, A: Allocator + Copy>(
     SumParts::Signed(parts)
 }
 
-// The same, of items of an unsigned type.
+// The same for items of an unsigned type.
 fn unsigned_parts<T: UnsignedPType, A: Allocator + Copy>(
     ends: &PrimitiveArray<A>,
     items: &[T],
@@ -112,7 +113,7 @@ fn unsigned_parts<T: UnsignedPType, A: Allocator + Copy>(
     SumParts::Unsigned(parts)
 }
 
-// What is kept by `P`, of items that are null where the numbers are.
+// What `P` keeps of items that are null where the numbers are.
 fn parts_of_items<T: NativePType, P: PartSum<T>, A: Allocator + Copy>(
     ends: &PrimitiveArray<A>,
     items: &[T],

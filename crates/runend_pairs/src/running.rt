@@ -1,4 +1,4 @@
-//! What the rows from the first one up to the end of each run answer, along the runs of a column.
+//! The answers for the rows from the first one up to the end of each run, along the runs of a column.
 ghost use Rattle.std.specs.Prelude.{◌≡◌, length, map, IfErr, IfOk};
 ghost use Rattle.column_base.specs.declared.dtype.DType.TheVariants as column;
 ghost use Rattle.column_base.specs.declared.dtype.Nullability.TheVariants.{Nullable};
@@ -16,7 +16,7 @@ use crate::values::ValueRuns;
 use column_core::{BitBufferMut, NativePType, PrimitiveArray};
 use std::alloc::Allocator;
 
-/// Returns for each run the answer of the rows up to its end, as a column that has null. Takes a step for each run.
+/// Returns for each run the answer for the rows up to its end, as a column that has null. Takes a step for each run.
 /// Refused with the first run whose answer is not given, and as `OutOfMemory`.
 pub(crate) fn fold_running<T: NativePType, N: NativePType, S: Fold<T, N>, A: Allocator + Copy>(
     alloc: A,

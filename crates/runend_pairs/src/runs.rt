@@ -1,4 +1,4 @@
-//! The runs of a column of any form, to be walked along.
+//! The runs of a column of any form, for walks along them.
 ghost use Rattle.std.specs.Prelude.{◌≡◌, ◌≢◌, ◌+◌, ◌<◌, length, IfOk, IsOkUnless};
 ghost use Rattle.column_core.specs.FlatColumn.{leaf_of};
 ghost use Rattle.column_core.specs.Leaf.{leaf_dtype};
@@ -25,9 +25,9 @@ pub(crate) struct ColumnRuns<A: Allocator> {
 }
 
 impl<A: Allocator + Copy> ColumnRuns<A> {
-    /// Returns the runs of a column of any form: the visible runs of a run column, with ends and flat values shared
-    /// where those are; the one run of a constant; the runs of equal rows of a flat column. Refused as `OutOfMemory`
-    /// only.
+    /// Returns the runs of a column of any form: the visible runs of a run column, whose ends and flat values it shares
+    /// if they are shared; the one run of a constant; the runs of equal rows of a flat column. Refused only as
+    /// `OutOfMemory`.
     pub(crate) fn of(alloc: A, array: &ArrayRef<A>) -> VortexResult<ColumnRuns<A>>
         requires single { ¬ IsLists (dtype_of array.now) }
         ensures only { IsOkUnless result VortexError.OutOfMemory }
@@ -98,8 +98,8 @@ impl<A: Allocator + Copy> ColumnRuns<A> {
     }
 }
 
-/// Returns the run of the row `row`, where `run` is that of the row before it, and stops before row `stop`: the next
-/// one where it stops there, by a sum in place of a branch.
+/// Returns the run of the row `row`, where `run` is the run of the row before it, and stops before row `stop`: the next
+/// run where `run` stops there, by a sum in place of a branch.
 #[inline(always)]
 pub(crate) fn run_after(run: usize, stop: usize, row: usize) -> usize
     requires { run < usize.MAX }

@@ -1,4 +1,4 @@
-//! What answers are stored as, and the flat columns of them.
+//! How answers are stored, in flat columns.
 ghost use Rattle.std.specs.Prelude.{◌≡◌, ◌↔◌, All, false, IfOk, IsOkUnless, IsTrue, length, map, pos, true};
 ghost use Rattle.column_base.specs.declared.dtype.DType.{DType};
 ghost use Rattle.column_base.specs.declared.dtype.DType.TheVariants as column;
@@ -31,7 +31,7 @@ pub(crate) trait Stored<Z: Copy + Drop> {
     // The type of a column of items, with null or without.
     ghost dtype_in: { Self → Nullability → DType };
 
-    /// Returns what is stored under null.
+    /// Returns the item that is stored under null.
     fn blank() -> Z
         ensures { shown result ≡ blank_value };
 
@@ -44,7 +44,7 @@ pub(crate) trait Stored<Z: Copy + Drop> {
         requires { IsViewIn (dtype_in self.now) view.now }
         ensures { row_of shown result ≡ sees view.now };
 
-    /// Returns the flat column of items, null where the flag is false. Refused as `OutOfMemory` only.
+    /// Returns the flat column of items, null where the flag is false. Refused only as `OutOfMemory`.
     fn column<A: Allocator + Copy>(
         &self,
         alloc: A,

@@ -9,8 +9,8 @@ use crate::folds::Fold;
 use column_core::{NativePType, UnsignedPType};
 use column_sums::SignedPType;
 
-// The sum of the signed numbers so far, in a type that has the sum of as many as there can be, and whether there is
-// one.
+// The sum of the signed numbers so far, in a type that holds the sum of any number of rows, and whether there is a
+// number.
 #[derive(Drop)]
 pub(crate) struct SignedTotal {
     total: i128,
@@ -54,7 +54,7 @@ impl<T: SignedPType> Fold<T, i64> for SignedTotal {
     }
 }
 
-/// Returns the total with as many rows of a number as given, where that is a number of 128 bits.
+/// Returns the total after `rows` more rows of a number, where it fits 128 bits.
 #[inline(always)]
 pub(crate) fn signed_more(total: i128, number: i64, rows: usize) -> i128
     ensures { FitsSigned w128 (total +ℤ number *ℤ pos rows) → result ≡ total +ℤ number *ℤ pos rows }
@@ -65,7 +65,7 @@ pub(crate) fn signed_more(total: i128, number: i64, rows: usize) -> i128
     }
 }
 
-// What as many rows of a number add.
+// The sum of `rows` rows of a number.
 #[inline(always)]
 fn signed_rows(number: i64, rows: usize) -> i128
     ensures { result ≡ number *ℤ pos rows }
@@ -73,7 +73,7 @@ fn signed_rows(number: i64, rows: usize) -> i128
     i128::from(number) * i128::from(rows as u64)
 }
 
-// The same of unsigned numbers.
+// The same for unsigned numbers.
 #[derive(Drop)]
 pub(crate) struct UnsignedTotal {
     total: u128,
@@ -117,7 +117,7 @@ impl<T: UnsignedPType> Fold<T, u64> for UnsignedTotal {
     }
 }
 
-/// Returns the total with as many rows of a number as given, where that is a number of 128 bits.
+/// Returns the total after `rows` more rows of a number, where it fits 128 bits.
 #[inline(always)]
 pub(crate) fn unsigned_more(total: u128, number: u64, rows: usize) -> u128
     ensures { total + number * rows < 2 ^ 128 → result ≡ total + number * rows }
@@ -128,7 +128,7 @@ pub(crate) fn unsigned_more(total: u128, number: u64, rows: usize) -> u128
     }
 }
 
-// What as many rows of a number add.
+// The sum of `rows` rows of a number.
 #[inline(always)]
 fn unsigned_rows(number: u64, rows: usize) -> u128
     ensures { result ≡ number * rows }

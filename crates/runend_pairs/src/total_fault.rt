@@ -12,7 +12,7 @@ pub enum TotalError {
     /// Says that the column is not of integers, or that a growth of memory was refused.
     #[error("refused")]
     Refused(VortexError),
-    /// Says that the total at the end of this run does not fit 64 bits, and that those of all runs before it do.
+    /// Says that the total at the end of this run does not fit 64 bits, and that the totals of all runs before it do.
     #[error("Overflow")]
     Overflow { run: usize },
 }

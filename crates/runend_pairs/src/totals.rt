@@ -39,9 +39,11 @@ pub struct RunningTotals<A: Allocator> {
 
 /// Returns where each run of equal neighbouring rows ends, null being equal to null, and the sum of all rows before its
 /// end, in `i64` for signed rows and in `u64` for unsigned ones. Null rows are skipped: a total is null only where all
-/// rows so far are. It is the sum as a number, in whatever order. Takes a step and 8 bytes for each run; a constant is
-/// one run. Refused as `Unsupported` where the column is not of integers, then as `Overflow` with the first run whose
-/// total does not fit 64 bits, and else only as `OutOfMemory`.
+/// rows so far are null. A total is the exact sum, whatever the order of the rows. Takes a step and 8 bytes for each
+/// run; a constant is one run.
+///
+/// Refused as `Unsupported` where the column is not of integers, then as `Overflow` with the first run whose total does
+/// not fit 64 bits, and else only as `OutOfMemory`.
 pub fn running_totals<A: Allocator + Copy>(
     array: &ArrayRef<A>,
     ctx: &mut ExecutionCtx<A>,
@@ -104,7 +106,7 @@ fn total_numbers<A: Allocator + Copy>(
     }
 }
 
-// The same, of items of a signed type.
+// The same for items of a signed type.
 fn total_signed<T: SignedPType, A: Allocator + Copy>(
     alloc: A,
     ends: &PrimitiveArray<A>,
@@ -128,7 +130,7 @@ fn total_signed<T: SignedPType, A: Allocator + Copy>(
     total_items::<T, i64, SignedTotal, A>(alloc, ends, items, numbers)
 }
 
-// The same, of items of an unsigned type.
+// The same for items of an unsigned type.
 fn total_unsigned<T: UnsignedPType, A: Allocator + Copy>(
     alloc: A,
     ends: &PrimitiveArray<A>,
@@ -152,7 +154,7 @@ fn total_unsigned<T: UnsignedPType, A: Allocator + Copy>(
     total_items::<T, u64, UnsignedTotal, A>(alloc, ends, items, numbers)
 }
 
-// What is kept by `S`, of items that are null where the numbers are.
+// The answers of the fold `S`, for items that are null where the numbers are.
 fn total_items<T: NativePType, N: NativePType, S: Fold<T, N>, A: Allocator + Copy>(
     alloc: A,
     ends: &PrimitiveArray<A>,

@@ -1,4 +1,4 @@
-//! Runs of integers of one type, to be walked along.
+//! Runs of integers of one type, for walks along them.
 ghost use Rattle.std.specs.Prelude.{◌≡◌, ◌<◌, Some, length, map, option_map, slice_get, slice_index};
 ghost use Rattle.column_base.specs.Validity.{form_of, validity_flags};
 ghost use Rattle.column_core.specs.Optionals.{optionals};

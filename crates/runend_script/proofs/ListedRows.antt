@@ -1,4 +1,4 @@
--- Rows that words stand for, one pushed behind the other.
+-- Rows that words mean, one pushed after the other.
 use Rattle.std.proofs.Common.{◌≡◌, ℕ, ℤ, ◌<◌, List, [], ◌∷◌, ◌++◌, Bool, true, false, Option, Some, None, length, map, get_or, inl, inr, refl, sym, ap, subst, ◌∙◌, append_assoc}
 use Rattle.std.specs.Prelude.{◌⊎◌, All, is_some, replicate, if◌then◌else◌}
 use Rattle.std.specs.List.{AllZip}
@@ -14,7 +14,7 @@ use Rattle.column_core.proofs.OptionalRows.{optionals-push}
 use Rattle.runend_script.specs.declared.command.RowWords.{RowWords}
 use Rattle.runend_script.specs.Rows.{IsRowOf, IsRowWord, PushesRows, ReadsValue}
 
--- a row for each word that was taken stands behind the rows before
+-- a row for each word that was taken comes after the rows before
 abbrev pub AreTaken : {S W : Type 0} → (S → ℤ) → (W → List ℕ) → RowWords → Nullability → List W → List (Option ℤ) → List S → List Bool → Type 0
 AreTaken number text reading nullability taken before items valid =
     (rows : List (Option ℤ)) × AllZip (IsRowOf reading nullability) (map text taken) rows × (optionals (map number items) valid ≡ before ++ rows)
@@ -58,7 +58,7 @@ pub all_taken : {S W : Type 0} (number : S → ℤ) (text : W → List ℕ) (rea
     → AreTaken number text reading nullability taken before items valid → map text taken ≡ words → PushesRows reading nullability words before true (optionals (map number items) valid)
 all_taken number text reading nullability taken words before items valid kept all = (kept.0, subst (λ ws. AllZip (IsRowOf reading nullability) ws kept.0) all kept.1, kept.2)
 
--- rows that are put behind none
+-- rows that are appended to none
 pub behind_none : (reading : RowWords) (nullability : Nullability) (words : List (List ℕ)) (before after : List (Option ℤ)) → PushesRows reading nullability words before true after → before ≡ []
     → AllZip (IsRowOf reading nullability) words after
 behind_none reading nullability words before after pushed none =
@@ -69,7 +69,7 @@ no_row : {S : Type 0} (number : S → ℤ) (reading : RowWords) (nullability : N
 no_row number reading nullability word none (None, null) = none.0 null
 no_row number reading nullability word none (Some z, is) = none.1 z is
 
--- a word that stands for no row is one of the words
+-- a word that does not mean a row is one of the words
 pub not_each : {S : Type 0} (number : S → ℤ) (reading : RowWords) (nullability : Nullability) (words : List (List ℕ)) (k : ℕ) (word : List ℕ) → (k < length words) × (word ≡ get_or words k word)
     → ReadsValue number reading nullability word None → ¬ (All (IsRowWord reading nullability) words)
 not_each number reading nullability words k word found none every =

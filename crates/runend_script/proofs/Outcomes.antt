@@ -1,4 +1,4 @@
--- What comes of lines that neither put rows behind the column's nor put its rows in another order.
+-- What comes of lines that neither append rows to the column's nor put its rows in another order.
 use Rattle.std.proofs.Common.{ℕ, refl}
 use Rattle.std.specs.Prelude.{◌≢◌, IfOk, Result}
 use Rattle.column_base.specs.declared.error.VortexError.{VortexError}

@@ -1,4 +1,4 @@
--- Columns that get rows behind their own.
+-- Columns to which rows are appended.
 use Rattle.std.proofs.Common.{◌≡◌, ◌∙◌, ◌+◌, ◌<◌, ◌^◌, ℕ, List, [], Option, Some, None, length, map, replicate, inl, inr, refl, sym, ap, subst}
 use Rattle.std.specs.Prelude.{◌≢◌, IfOk, IsErrAnd, IsOkUnless, Result, Ok, Err, option_map}
 use Rattle.std.specs.Option.{option_or}
@@ -30,11 +30,11 @@ pub first_error : (own fault : Option VortexError) (error : VortexError) → IsE
 first_error own fault error (inl short) = inl short
 first_error own fault error (inr is) = inr (rw is refl)
 
--- and that of the second, where there is no first
+-- and that of the second, without a first
 pub next_error : (own fault : Option VortexError) (error : VortexError) → own ≡ None → IsErrorFor fault error → IsErrorFor (option_or own fault) error
 next_error own fault error none for = subst (λ first. IsErrorFor (option_or first fault) error) (sym none) for
 
--- where there is neither, want of memory alone refuses
+-- where there is neither, only memory refuses
 pub by_memory : {T : Type 0} (own fault : Option VortexError) (result : Result T VortexError) → own ≡ None → fault ≡ None → IsOkUnless result OutOfMemory → IsRefusedBy (option_or own fault) result
 by_memory own fault (Ok value) none fits only = rw none fits
 by_memory own fault (Err error) none fits only = inl only
@@ -44,7 +44,7 @@ pub passed_on : {T : Type 0} (P : Result T VortexError → Type 0) (error : Vort
 passed_on P error (Ok value) passed for = absurd passed
 passed_on P error (Err other) passed for = subst (λ e. P (Err e)) (sym passed) for
 
--- a builder without rows takes fewer than 2^64 rows of its type, so that want of memory alone refuses them
+-- a builder without rows takes fewer than 2^64 rows of its type, so that only memory refuses them
 takes_own : (dtype : DType) (count : ℕ) → 0 + count < 2 ^ 64 → append_fault dtype dtype 0 count ≡ None
 takes_own dtype count small = rw ((same_dtype-decides dtype dtype).1 refl, (Decides-ltb (0 + count) (2 ^ 64)).1 small) refl
 
@@ -71,7 +71,7 @@ encoding_of_built built all dtype result shown typed encoded =
 no_list : (dtype : DType) (ptype : PType) (nullability : Nullability) → dtype ≡ column.Primitive ptype nullability → list_fault dtype ≡ None
 no_list dtype ptype nullability is = rw is refl
 
--- nor is the type of a scalar that a word stands for
+-- nor is the type of a scalar that a word means
 no_list-of_scalar : (dtype : DType) (word : List ℕ) (value : ScalarForm) → ReadsScalar dtype word (Some value) → list_fault dtype ≡ None
 no_list-of_scalar (column.Bool n) word value reads = refl
 no_list-of_scalar (column.Primitive ptype n) word value reads = refl
@@ -80,7 +80,7 @@ no_list-of_scalar (column.Utf8 n) word value reads = refl
 no_list-of_scalar (column.Binary n) word value reads = refl
 no_list-of_scalar (column.List e n) word value reads = absurd reads
 
--- a type of no integers has no row that a word stands for
+-- a type that is not of integers has no row that a word means
 pub lists_none : (dtype : DType) (words : List (List ℕ)) → ((ptype : PType) (nullability : Nullability) → dtype ≢ column.Primitive ptype nullability) → ListsRows dtype words None
 lists_none (column.Bool n) words other = tt
 lists_none (column.Primitive ptype n) words other = absurd (other ptype n refl)
@@ -89,7 +89,7 @@ lists_none (column.Utf8 n) words other = tt
 lists_none (column.Binary n) words other = tt
 lists_none (column.List e n) words other = tt
 
--- a builder's fault at the rows that words stand for
+-- a builder's fault at the rows that words mean
 listed_fault : {A : Type 0} (before batch : ArrayRef A) (ptype : PType) (nullability : Nullability) (words : List (List ℕ)) (fault : Option VortexError) → dtype_of before ≡ column.Primitive ptype nullability
     → dtype_of batch ≡ column.Primitive ptype nullability → (listed : ListsArray (Integers ptype) nullability words (Some batch))
     → option_or (list_fault (dtype_of before)) (lengthening_fault before (dtype_of batch) (length (rows batch))) ≡ fault → lengthening_fault before (dtype_of before) (length listed.0) ≡ fault

@@ -12,7 +12,7 @@ pub left_by_others : {X : Type 0} (command : ScriptCommand) (column : Option X) 
 left_by_others (Set setting) column before after other same = absurd (other setting refl)
 left_by_others command column before after other same = same
 
--- a line that sets something, where no column stands
+-- a line that sets something, without a column
 pub unset_without_column : {X : Type 0} (setting : Setting) (column : Option X) (before after : SessionForm) → column ≡ None → after ≡ before → IsSessionAfter (Set setting) column before after
 unset_without_column setting None before after none same = same
 unset_without_column setting (Some array) before after none same = absurd (cc)

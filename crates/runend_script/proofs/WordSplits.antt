@@ -9,7 +9,7 @@ use Rattle.runend_script.specs.Words.{words_of}
 abbrev pub is_space : ℕ → Bool
 is_space byte = byte == 32
 
--- what stands before the first space is a word, unless it is empty
+-- what comes before the first space is a word, unless it is empty
 pub word_at_space : (line word rest : List ℕ) → position_or_len is_space line < length line → word ≡ before_first is_space line → rest ≡ after_first is_space line → (length word == 0) ≡ false → words_of line ≡ word ∷ words_of rest
 word_at_space line word rest found before after some =
     let cut : slice_split is_space line ≡ word ∷ slice_split is_space rest = rw (before, after) (slice_split_first is_space line 0 found) in

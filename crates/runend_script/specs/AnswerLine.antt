@@ -27,7 +27,7 @@ abbrev pub truth_word : Bool → List ℕ
 truth_word true = codes "true"
 truth_word false = codes "false"
 
--- the name of what is asked whether it is true
+-- the name of the question that a command asks
 abbrev pub question_text : {A : Type 0} → Command A → List ℕ
 question_text IsConstant = codes "constant"
 question_text (IsSorted true) = codes "strict"
@@ -48,7 +48,8 @@ IsQuestion IsConstant = Unit {0}
 IsQuestion (IsSorted strict) = Unit {0}
 IsQuestion command = ⊥
 
--- the answers that have a line: of integers, of truths that the command asks for, and of refusals for other reasons than want of memory
+-- the answers that have a line: of integers, of truths that the command asks for, and of refusals for other reasons
+-- than memory
 abbrev pub HasLine : {A : Type 0} → Command A → Answer A → Type 0
 HasLine command (answer.Value scalar) = IsNullOrNumber (shown scalar)
 HasLine command (answer.MinMax None) = Unit {0}

@@ -5,6 +5,6 @@ use Rattle.std.specs.Prelude.{◌≡◌, ◌⊎◌, ◌++◌, [], ◌∷◌, ℕ
 abbrev pub AreLines : List ℕ → Type 0
 AreLines bytes = (bytes ≡ []) ⊎ ((front : List ℕ) × (bytes ≡ front ++ 10 ∷ []))
 
--- lines are put behind what there was
+-- lines are appended to what there was
 abbrev pub AddsLines : List ℕ → List ℕ → Type 0
 AddsLines before after = (more : List ℕ) × (after ≡ before ++ more) × AreLines more

@@ -1,4 +1,4 @@
--- The lines of what a column of floats is asked.
+-- The lines of the answers to questions about a column of floats.
 use Rattle.std.specs.Prelude.{◌≡◌, ◌≢◌, ◌++◌, [], ◌∷◌, ℕ, List, Option, Some, None, Result, Ok, Err, MatchOption, codes, length, map, slice_get}
 use Rattle.std.specs.List.{AllZip}
 use Rattle.std.specs.Option.{option_or}
@@ -47,8 +47,8 @@ abbrev pub IsLineOfEnds : FloatFormat → Option (ℕ × ℕ) → List ℕ → T
 IsLineOfEnds f None line = line ≡ codes "minmax none"
 IsLineOfEnds f (Some ends) line = IsLineOfFloats f (codes "minmax") (Some ends.0 ∷ Some ends.1 ∷ []) line
 
--- the line answers what the column is asked: all rows; one row; the exact sum, rounded once to 64 bits; or the least and the
--- greatest number, where neither null nor a NaN is one
+-- the line answers the question about the column: all rows; one row; the exact sum, rounded once to 64 bits; or the
+-- least and the greatest number, where neither null nor a NaN is one
 abbrev pub IsFloatAnswer : {A : Type 0} → FloatQuestion → ArrayRef A → List ℕ → Type 0
 IsFloatAnswer Rows column line = IsLineOfFloats (format_of (dtype_of column)) (codes "rows") (floats_of (dtype_of column) (rows column)) line
 IsFloatAnswer (At index) column line = IsLineOfRow (format_of (dtype_of column)) (slice_get (floats_of (dtype_of column) (rows column)) index) line

@@ -1,4 +1,4 @@
--- What comes of a command on the column that stands.
+-- What comes of a command on the column that is there.
 use Rattle.std.specs.Prelude.{◌≡◌, ◌≢◌, ◌⊎◌, ℕ, List, Result, Ok, Err}
 use Rattle.std.specs.String.{string_bytes}
 use Rattle.column_base.specs.declared.error.VortexError.{VortexError}
@@ -17,7 +17,7 @@ use Rattle.runend_script.specs.declared.scripts.Reply.TheVariants.{Line, Done}
 abbrev pub IsLineOf : {A : Type 0} → Command A → Answer A → List ℕ → Type 0
 IsLineOf command given text = (given ≢ answer.Refused OutOfMemory) × (text ≡ answer_text command given)
 
--- the reply tells the answer: that the command is done, or by its line
+-- the reply says the answer: that the command is done, or by its line
 abbrev pub Tells : {A : Type 0} → Command A → Answer A → Reply A → Type 0
 Tells command given (Line text) = IsLineOf command given (string_bytes text)
 Tells command given Done = given ≡ answer.Done
@@ -29,7 +29,7 @@ IsReplyTo {A} before command after (Line text) = (reply : Answer A) × IsStep be
 IsReplyTo before command after Done = IsStep before command answer.Done after
 IsReplyTo before command after reply = ⊥
 
--- the reply is the line of a refusal, for another reason than want of memory
+-- the reply is the line of a refusal, for another reason than memory
 abbrev pub TellsRefusal : {A : Type 0} → VortexError → Reply A → Type 0
 TellsRefusal error (Line text) = (error ≢ OutOfMemory) × (string_bytes text ≡ refusal_text error)
 TellsRefusal error reply = ⊥

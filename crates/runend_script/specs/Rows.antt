@@ -1,4 +1,4 @@
--- The numbers and rows that words stand for.
+-- The numbers and rows that words mean.
 use Rattle.std.specs.Prelude.{◌≡◌, ◌⊎◌, ◌++◌, ℕ, ℤ, Bool, true, false, List, Option, Some, None, All, codes}
 use Rattle.std.specs.List.{AllZip}
 use Rattle.column_base.specs.Types.{HasNumber}
@@ -16,11 +16,11 @@ use Rattle.runend_script.specs.declared.command.RowWords.{RowWords}
 use Rattle.runend_script.specs.declared.command.RowWords.TheVariants.{Floats, Integers}
 use Rattle.runend_script.specs.declared.values.ParsedRows.{ParsedRows}
 
--- the word stands for a number that the type has
+-- the word means a number that the type has
 abbrev pub IsNumberOf : PType → List ℕ → Type 0
 IsNumberOf ptype word = IsWholeNumber word × HasNumber ptype (whole_number word)
 
--- the type in which the rows that the words stand for are stored
+-- the type in which the rows that the words mean are stored
 abbrev pub stored_ptype : RowWords → PType
 stored_ptype (Integers ptype) = ptype
 stored_ptype (Floats f) = keys_of_format f
@@ -39,13 +39,13 @@ ReadsNumber number reading word (Some x) = StandsFor reading word (number x)
 abbrev pub IsNullWord : Nullability → List ℕ → Type 0
 IsNullWord nullability word = (nullability ≡ Nullable) × (word ≡ codes "null")
 
--- the row that the word stands for: null by that word where rows may be null, and otherwise its number
+-- the row that the word means: null by that word where rows may be null, and otherwise its number
 abbrev pub ReadsValue : {S : Type 0} → (S → ℤ) → RowWords → Nullability → List ℕ → Option (Option S) → Type 0
 ReadsValue number reading nullability word None = ¬ (IsNullWord nullability word) × ((z : ℤ) → ¬ (StandsFor reading word z))
 ReadsValue number reading nullability word (Some None) = IsNullWord nullability word
 ReadsValue number reading nullability word (Some (Some x)) = StandsFor reading word (number x)
 
--- the row that the word stands for
+-- the row that the word means
 abbrev pub IsRowOf : RowWords → Nullability → List ℕ → Option ℤ → Type 0
 IsRowOf reading nullability word None = IsNullWord nullability word
 IsRowOf reading nullability word (Some number) = StandsFor reading word number
@@ -54,7 +54,7 @@ IsRowOf reading nullability word (Some number) = StandsFor reading word number
 abbrev pub IsRowWord : RowWords → Nullability → List ℕ → Type 0
 IsRowWord reading nullability word = (row : Option ℤ) × IsRowOf reading nullability word row
 
--- the rows that the words stand for, one for one, or none exactly where a word stands for no row
+-- the rows that the words mean, one for one, or none exactly where a word does not mean a row
 abbrev pub ReadsRows : RowWords → Nullability → List (List ℕ) → Option (List (Option ℤ)) → Type 0
 ReadsRows reading nullability words None = ¬ (All (IsRowWord reading nullability) words)
 ReadsRows reading nullability words (Some rows) = AllZip (IsRowOf reading nullability) words rows
@@ -63,7 +63,7 @@ ReadsRows reading nullability words (Some rows) = AllZip (IsRowOf reading nullab
 abbrev pub parsed_rows : {A : Type 0} → ParsedRows A → List (Option ℤ)
 parsed_rows listed = optional_numbers (primitive_with (ptype_of listed.numbers) (numbers listed.numbers) (form_of listed.validity))
 
--- the rows that the words stand for are put behind the rows before, or a word stands for no row
+-- the rows that the words mean are appended to the rows before, or a word does not mean a row
 abbrev pub PushesRows : RowWords → Nullability → List (List ℕ) → List (Option ℤ) → Bool → List (Option ℤ) → Type 0
 PushesRows reading nullability words before true after = (rows : List (Option ℤ)) × AllZip (IsRowOf reading nullability) words rows × (after ≡ before ++ rows)
 PushesRows reading nullability words before false after = ¬ (All (IsRowWord reading nullability) words)

@@ -1,4 +1,4 @@
--- The scalars that words stand for.
+-- The scalars that words mean.
 use Rattle.std.specs.Prelude.{◌≡◌, ◌≢◌, ◌⊎◌, ℕ, List, Option, Some, None, codes, pos}
 use Rattle.column_base.specs.declared.dtype.PType.{PType}
 use Rattle.column_base.specs.declared.dtype.Nullability.TheVariants.{Nullable}
@@ -19,7 +19,8 @@ ReadsOwned ptype word (Some (owned.Unsigned k)) = IsUnsigned ptype × IsWholeNum
 ReadsOwned ptype word (Some (owned.Signed z)) = (¬ IsUnsigned ptype) × IsWholeNumber word × (z ≡ whole_number word)
 ReadsOwned ptype word (Some value) = ⊥
 
--- the scalar that a word stands for beside rows of the type: null of the nullable type by the word `null`, and otherwise the word's number in the type itself
+-- the scalar that a word means next to rows of the type: null of the nullable type by the word `null`, and otherwise
+-- the word's number in the type itself
 abbrev pub ReadsScalar : DType → List ℕ → Option ScalarForm → Type 0
 ReadsScalar (column.Primitive ptype n) word None = (word ≢ codes "null") × ¬ (IsNumberOf ptype word)
 ReadsScalar (column.Primitive ptype n) word (Some scalar) =

@@ -25,7 +25,8 @@ IsSetTo NoKernels before after = AreKernelsSet false before after
 IsSetTo CrateThresholds before after = AreThresholdsSet crate_thresholds before after
 IsSetTo ZeroThresholds before after = AreThresholdsSet no_thresholds before after
 
--- the session after a command: it is set by a line that says so, where a column stands, and any other leaves it as it is
+-- the session after a command: it is set by a line that says so, where there is a column, and any other leaves it as it
+-- is
 abbrev pub IsSessionAfter : {X : Type 0} → ScriptCommand → Option X → SessionForm → SessionForm → Type 0
 IsSessionAfter (Set setting) (Some column) before after = IsSetTo setting before after
 IsSessionAfter command column before after = after ≡ before

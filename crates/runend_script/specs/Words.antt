@@ -2,6 +2,6 @@
 use Rattle.std.specs.Prelude.{◌==◌, ℕ, List, filter, length, not}
 use Rattle.std.specs.List.{slice_split}
 
--- what stands between the spaces of the line, where that is not empty
+-- what is between the spaces of the line, where that is not empty
 abbrev pub words_of : List ℕ → List (List ℕ)
 words_of line = filter (λ word. not (length word == 0)) (slice_split (λ byte. byte == 32) line)

@@ -29,10 +29,10 @@ pub fn has_answer_line<A: Allocator>(command: &Command<A>, answer: &Answer<A>) -
     }
 }
 
-/// Returns the line of what the command was answered, which has to have one: `ok`; `value V`; `sum N`, or `sum
-/// overflow` where the sum left its range, or `sum 0 empty` where all rows are null; `minmax V V`, or `minmax none`
-/// where all rows are null; `constant`, `sorted` or `strict`, and `true` or `false`; or `refused`, with the error's
-/// number and its fields in order. Refused only as `OutOfMemory`.
+/// Returns the line of the answer to a command, which has to have one: `ok`; `value V`; `sum N`, or `sum overflow`
+/// where the sum left its range, or `sum 0 empty` where all rows are null; `minmax V V`, or `minmax none` where all
+/// rows are null; `constant`, `sorted` or `strict`, and `true` or `false`; or `refused`, with the error's number and
+/// its fields in order. Refused only as `OutOfMemory`.
 pub fn answer_line<A: Allocator + Copy>(
     command: &Command<A>,
     answer: &Answer<A>,

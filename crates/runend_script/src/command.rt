@@ -7,30 +7,30 @@ use column_base::{Nullability, PType};
 use column_floats::{FloatFormat, key_type};
 use column_words::{parse_count, parse_format, parse_ptype, parse_type, split_mark};
 
-/// The word between the ends and the values of a `runs` line.
+/// Separates the ends from the values of a `runs` line.
 pub const SLASH: &str = "/";
 
-/// What a line of the script says.
+/// Holds what a line of the script says.
 #[derive(Clone, Copy)]
 pub enum Line<'a> {
-    /// It has no words.
+    /// Has no words.
     Blank,
-    /// It is a command.
+    /// Has the words of this command.
     Command(ScriptCommand<'a>),
-    /// It has words, and they are no command.
+    /// Has words that are not a command.
     Bad,
 }
 
-/// What a line sets of the session.
+/// Says what a line sets of the session.
 #[derive(Clone, Copy)]
 pub enum Setting {
-    /// Every kernel is registered.
+    /// Registers every kernel.
     AllKernels,
-    /// No kernel is registered.
+    /// Registers no kernel.
     NoKernels,
-    /// The thresholds are those of the crate.
+    /// Sets the thresholds of the crate.
     CrateThresholds,
-    /// The thresholds are all 0.
+    /// Sets all thresholds to 0.
     ZeroThresholds,
 }
 
@@ -43,7 +43,7 @@ pub enum RowOrder {
     Reversed,
 }
 
-/// Says what the words of rows that are not null stand for.
+/// Says what the words of rows that are not null mean.
 #[derive(Clone, Copy)]
 pub enum RowWords {
     /// Has words of integers of this type.
@@ -64,7 +64,7 @@ impl RowWords {
     }
 }
 
-/// Says what a column of floats is asked.
+/// Names what a column of floats is asked for.
 #[derive(Clone, Copy)]
 pub enum FloatQuestion {
     /// Asks for all rows.
@@ -77,84 +77,83 @@ pub enum FloatQuestion {
     MinMax,
 }
 
-/// A command on the column.
+/// Says what is done to the column.
 #[derive(Clone, Copy)]
 pub enum ScriptCommand<'a> {
-    /// A flat column of the listed rows replaces the column. The words are yet to be read.
+    /// Replaces the column by a flat one of the listed rows. The words are not read yet.
     Col(RowWords, Nullability, Words<'a>),
-    /// A run column of the listed runs replaces the column. The words are yet to be read.
+    /// Replaces the column by one of the listed runs. The words are not read yet.
     Runs(RunsLine<'a>),
-    /// The column is written as runs.
+    /// Writes the column as runs.
     Encode,
-    /// The column is written row by row.
+    /// Writes the column row by row.
     Decode,
-    /// The form of the column is shown.
+    /// Shows the form of the column.
     Show,
-    /// The rows of the column are shown.
+    /// Shows the rows of the column.
     Rows,
-    /// The row of this number, counted from 0, is shown.
+    /// Shows the row of this number, counted from 0.
     At(usize),
-    /// The rows from the first number to before the second, counted from 0, replace the column.
+    /// Keeps the rows from the first number to before the second, counted from 0.
     Slice(usize, usize),
-    /// The rows that a word of bits selects replace the column. The word is yet to be read, and is empty
-    /// where the line has none.
+    /// Keeps the rows that a word of bits selects. The word is not read yet, and is empty where the line has none.
     Filter(&'a str),
-    /// The rows at the listed indices replace the column. The words are yet to be read.
+    /// Takes the rows at the listed indices. The words are not read yet.
     Take(Words<'a>),
-    /// The listed rows are put behind the rows, and the column is written as runs. The words are yet to be read.
+    /// Appends the listed rows, and writes the column as runs. The words are not read yet.
     Append(Words<'a>),
-    /// So many rows of a value are put behind the rows, and the column is written as runs. The word is yet to be read.
+    /// Appends this number of rows of a value, and writes the column as runs. The word is not read yet.
     Repeat(&'a str, usize),
     /// Puts the rows in this order.
     Reorder(RowOrder),
     /// Shows the distinct rows, and how many rows are equal to each.
     Counts,
-    /// The rows are cast to this type.
+    /// Casts the rows to this type.
     Cast(PType, Nullability),
-    /// Each null is filled. The word is yet to be read, since the column's type says what it may be.
+    /// Fills each null. The word is not read yet, since the column's type says what it may be.
     Fill(&'a str),
-    /// The sum of the rows is shown.
+    /// Shows the sum of the rows.
     Sum,
-    /// The least and the greatest row are shown.
+    /// Shows the least and the greatest row.
     MinMax,
-    /// Whether the rows are constant is shown.
+    /// Shows whether all rows are equal.
     Constant,
-    /// Whether the rows are sorted is shown.
+    /// Shows whether the rows are sorted.
     Sorted,
-    /// Whether the rows are strictly sorted is shown.
+    /// Shows whether the rows are strictly sorted.
     Strict,
-    /// Shows what the column is asked as one of floats.
+    /// Shows what the column is asked for as one of floats.
     Floats(FloatQuestion),
-    /// The session is set, and the column stays.
+    /// Changes the session, and leaves the column as it is.
     Set(Setting),
-    /// The bytes of the column's metadata record are shown.
+    /// Shows the bytes of the column's metadata record.
     Meta,
-    /// The bytes of the column's message are shown.
+    /// Shows the bytes of the column's message.
     Bytes,
-    /// What a metadata record of these bytes says is shown. The words are yet to be read.
+    /// Shows what a metadata record of these bytes says. The words are not read yet.
     Read(Words<'a>),
 }
 
-/// What a `runs` line says of the run column.
+/// Holds what a `runs` line says of the run column.
 #[derive(Clone, Copy)]
 pub struct RunsLine<'a> {
-    /// The type of the rows: of what numbers, and whether null is among them.
+    /// Names the type of the numbers of the rows; `nullability` says whether null is among them.
     pub ptype: PType,
     pub nullability: Nullability,
-    /// Of what numbers the ends are.
+    /// Names the type of the ends.
     pub ends_ptype: PType,
-    /// How many rows of the runs lie before the window.
+    /// Counts the rows of the runs that lie before the window.
     pub offset: usize,
-    /// How many rows the window has.
+    /// Counts the rows of the window.
     pub length: usize,
-    /// The words from the first end on. The ends stop before the first slash.
+    /// Holds the words from the first end on. The ends stop before the first slash.
     pub ends: Words<'a>,
-    /// The words behind that slash, the values.
+    /// Holds the words after that slash, the values.
     pub values: Words<'a>,
 }
 
-/// Returns what the line says. The words behind the type of a `col` or `floats` line are not looked at, nor are the
-/// ends and values of a `runs` line, the bits of a `filter` line, the indices of a `take` line, the rows of an `append`
+/// Returns what the line says. The words after the type of a `col` or `floats` line are not looked at, nor are the ends
+/// and values of a `runs` line, the bits of a `filter` line, the indices of a `take` line, the rows of an `append`
 /// line, the value of a `fill` or `repeat` line and the bytes of a `read` line.
 pub fn read_line(line: &str) -> Line<'_> {
     let mut words = Words::new(line);
@@ -175,7 +174,7 @@ fn read_command<'a>(name: &str, words: Words<'a>) -> Option<ScriptCommand<'a>> {
     }
 }
 
-// The command that is its name alone.
+// The command that is only a name.
 fn read_name<'a>(name: &str) -> Option<ScriptCommand<'a>> {
     match name {
         "encode" => Some(ScriptCommand::Encode),
@@ -217,7 +216,7 @@ fn read_longer<'a>(name: &str, words: Words<'a>) -> Option<ScriptCommand<'a>> {
     }
 }
 
-// The command of a `col` line. The words behind its type are its rows.
+// The command of a `col` line. The words after its type are its rows.
 fn read_col(mut words: Words<'_>) -> Option<ScriptCommand<'_>> {
     let (ptype, nullability) = parse_type(words.next()?)?;
     Some(ScriptCommand::Col(RowWords::Integers(ptype), nullability, words))

@@ -14,9 +14,9 @@ use runend_floats::{float_at, min_max_numbers, sum_floats};
 use std::alloc::{AllocError, Allocator};
 use vortex_runend::{ArrayRef, ExecutionCtx};
 
-/// Returns the line of what the column is asked as one of floats, which are stored by their keys: `rows F ..`, `value
-/// F`, `sum F` of the exact sum, rounded once to 64 bits, or `minmax F F` of the least and the greatest number, or
-/// `minmax none`. Refused as `TypeMismatch` where the column is not of `i16`, `i32` or `i64`, then for a row as
+/// Returns the line of what the column is asked for as one of floats, which are stored by their keys: `rows F ..`,
+/// `value F`, `sum F` of the exact sum, rounded once to 64 bits, or `minmax F F` of the least and the greatest number,
+/// or `minmax none`. Refused as `TypeMismatch` where the column is not of `i16`, `i32` or `i64`, then for a row as
 /// `OutOfBounds`, with its index and the number of rows; else only as `OutOfMemory`.
 pub fn float_line<A: Allocator + Copy>(
     question: FloatQuestion,

@@ -9,13 +9,13 @@ use std::alloc::{AllocError, Allocator};
 use std::io::Read;
 use thiserror::Error;
 
-/// Why there is no answer. The text is what the program prints.
+/// Says why a script has no answer. The text is what the program prints.
 #[derive(Clone, Copy, Debug, PartialEq, Eq, Error)]
 pub enum Failure {
-    /// A growth of memory was refused.
+    /// Says that a growth of memory was refused.
     #[error("out of memory")]
     OutOfMemory,
-    /// A read failed, or the input did not end.
+    /// Says that a read failed, or that the input did not end.
     #[error("cannot read input")]
     CannotRead,
 }

@@ -1,4 +1,4 @@
-//! Columns that get rows behind their own.
+//! Columns to which rows are appended.
 ghost use Rattle.std.specs.Prelude.{◌≡◌, IfOk, IsOkUnless, length, replicate};
 ghost use Rattle.std.specs.Option.{option_or};
 ghost use Rattle.column_core.specs.Kinds.{list_fault};
@@ -13,9 +13,9 @@ use runend_builder::RunBuilder;
 use std::alloc::Allocator;
 use vortex_runend::{ArrayRef, ExecutionCtx};
 
-/// Returns the encoding of the rows of a column and of those of a batch behind them. Refused as `Unsupported` for a
-/// column of lists, then as a builder of the column's type and rows refuses the batch: as `TypeMismatch` for a batch of
-/// another type, then as `WindowOverflow` where there were 2^64 rows or more.
+/// Returns the encoding of the rows of a column followed by those of a batch. Refused as `Unsupported` for a column of
+/// lists, then as a builder of the column's type and rows refuses the batch: as `TypeMismatch` for a batch of another
+/// type, then as `WindowOverflow` where there were 2^64 rows or more.
 #[tactic(auto, using(crate::proofs::RowsBehind::first_error, crate::proofs::RowsBehind::next_error, crate::proofs::RowsBehind::by_memory, crate::proofs::RowsBehind::encoding_of_built))]
 pub fn with_batch<A: Allocator + Copy>(
     column: &ArrayRef<A>,
@@ -37,8 +37,8 @@ pub fn with_batch<A: Allocator + Copy>(
     }
 }
 
-/// Returns the encoding of the rows of a column and of so many rows of a value behind them. Refused as `with_batch`
-/// refuses that many rows of the value's type.
+/// Returns the encoding of the rows of a column followed by `count` rows of a value. Refused as `with_batch` refuses as
+/// many rows of the value's type.
 #[tactic(auto, using(crate::proofs::RowsBehind::first_error, crate::proofs::RowsBehind::next_error, crate::proofs::RowsBehind::by_memory, crate::proofs::RowsBehind::encoding_of_built))]
 pub fn with_value<A: Allocator + Copy>(
     column: &ArrayRef<A>,
@@ -61,8 +61,7 @@ pub fn with_value<A: Allocator + Copy>(
     }
 }
 
-// A builder of the column's type with its rows. Refused as `Unsupported` exactly for lists, else as `OutOfMemory`
-// alone.
+// A builder of the column's type with its rows. Refused as `Unsupported` exactly for lists, else only as `OutOfMemory`.
 fn builder_of<A: Allocator + Copy>(
     column: &ArrayRef<A>,
     ctx: &mut ExecutionCtx<A>,

@@ -14,7 +14,7 @@ use column_base::{DType, Nullability, VortexError, VortexResult};
 use std::alloc::Allocator;
 use vortex_runend::{ArrayRef, ExecutionCtx, PrimitiveArray, RunEnd};
 
-/// Returns the flat column of the rows that the words stand for, or `None` exactly where a word stands for none.
+/// Returns the flat column of the rows that the words mean, or `None` exactly where a word does not mean a row.
 pub fn plain_of<'a, I: Iterator<Item = &'a str> + Drop, A: Allocator + Copy>(
     alloc: A,
     reading: RowWords,
@@ -37,7 +37,7 @@ pub fn plain_of<'a, I: Iterator<Item = &'a str> + Drop, A: Allocator + Copy>(
     Ok(Some(ArrayRef::Primitive(array)))
 }
 
-/// Returns the run column of the line, or `None` where a word of it stands for no end or no row. Refused as
+/// Returns the run column of the line, or `None` where a word of it does not mean an end or a row. Refused as
 /// `try_new_offset_length` is, and as `OutOfMemory`.
 pub fn runs_of_line<A: Allocator + Copy>(
     line: RunsLine<'_>,

@@ -6,18 +6,18 @@ use crate::input::Failure;
 use std::io;
 use std::io::Write;
 
-/// How the program ends. The number is its exit status.
+/// Says how the program ends. The number is its exit status.
 #[derive(Clone, Copy, Debug, PartialEq, Eq)]
 pub enum Status {
-    /// Each line was answered.
+    /// Says that each line was answered.
     Done = 0,
-    /// A line was no command, or the input was no text.
+    /// Says that a line was not a command, or the input was not a text.
     BadInput = 2,
-    /// There was no answer, or it could not be written.
+    /// Says that the script has no answer, or that the answer could not be written.
     Failed = 3,
 }
 
-/// Writes the text, and answers the status, or `Failed` where the text cannot be written.
+/// Writes the text, and returns the status, or `Failed` where the text cannot be written.
 pub fn print<W: Write>(out: &mut W, text: &str, status: Status) -> Status
     ensures status { (result ≡ status) ⊎ (result ≡ Status.Failed) }
     ensures written { result ≢ Status.Failed → Appends (W.contents out.old) (W.contents out.new) text.now }
@@ -35,7 +35,7 @@ fn write_text<W: Write>(out: &mut W, text: &str) -> io::Result<()>
     out.flush()
 }
 
-/// Writes the failure as a line, where that can be done, and answers `Failed`.
+/// Writes the failure as a line, where that can be done, and returns `Failed`.
 pub fn report<E: Write>(err: &mut E, failure: Failure) -> Status
     ensures { result ≡ Status.Failed }
 {

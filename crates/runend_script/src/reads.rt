@@ -1,4 +1,4 @@
-//! A reader that is read at most so many times.
+//! A reader that is read a limited number of times.
 ghost use Rattle.std.specs.Prelude.{◌≡◌, ◌+◌, ◌<◌, length};
 ghost use Rattle.std.specs.Io.{ReadsAtMost};
 ghost use Rattle.std.specs.Io.KnownBytes.{ReadConsumes};
@@ -6,13 +6,13 @@ ghost use Rattle.std.specs.Io.KnownBytes.{ReadConsumes};
 use std::io;
 use std::io::Read;
 
-/// How often a reader is read at most.
+/// Limits how often a reader is read.
 pub const MAX_READS: u64 = 1 << 20;
 
-/// How many bytes are asked for at a time.
+/// Sets how many bytes are asked for at a time.
 pub const BLOCK_BYTES: usize = 1 << 16;
 
-/// A reader that is lent, and how many reads of it are left. It is read by `read` alone.
+/// Lends a reader, and counts how many reads of it are left. It is read only by `read`.
 #[derive(Drop)]
 pub struct LimitedReads<'a, R: Read> {
     reader: &'a mut R,

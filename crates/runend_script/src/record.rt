@@ -10,8 +10,8 @@ use column_words::{name_of, parse_bytes, push_bytes};
 use std::alloc::{AllocError, Allocator};
 use vortex_runend::{ArrayRef, ExecutionCtx, RunEndMetadata, serialize};
 
-/// Returns the line of a run column's record, or `not runs` for a column of another form. Refused as `OutOfMemory`
-/// alone.
+/// Returns the line of a run column's record, or `not runs` for a column of another form. Refused only as
+/// `OutOfMemory`.
 pub fn meta_line<A: Allocator + Copy>(
     array: &ArrayRef<A>,
     ctx: &mut ExecutionCtx<A>,

@@ -12,7 +12,7 @@ use std::alloc::Allocator;
 use std::mem::replace;
 use vortex_runend::{ArrayRef, ExecutionCtx};
 
-/// Puts the rows of the column in this order. Refused as `Unsupported` exactly for lists, else as `OutOfMemory` only.
+/// Puts the rows of the column in this order. Refused as `Unsupported` exactly for lists, else only as `OutOfMemory`.
 #[tactic(auto, using(crate::proofs::NewOrders::rising, crate::proofs::NewOrders::reversed))]
 pub fn reorder<A: Allocator + Copy>(
     order: RowOrder,

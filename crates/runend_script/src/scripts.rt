@@ -32,8 +32,8 @@ use std::alloc::{AllocError, Allocator};
 use std::mem::replace;
 use vortex_runend::{ArrayRef, ExecutionCtx};
 
-/// What a script prints: its answer lines, each with a line feed, and whether the last of them says
-/// that a line was no command, which ended the script.
+/// Holds what a script prints: its answer lines, each with a line feed, and whether the last of them says that a line
+/// was not a command, which ended the script.
 #[derive(Drop)]
 pub struct ScriptAnswer<A: Allocator> {
     pub text: String<A>,
@@ -71,8 +71,8 @@ pub fn script<A: Allocator + Copy>(
     }
 }
 
-/// Runs the script as `script` does, and puts its answer lines behind the answers. Does the last of them say that a
-/// line was no command? Refused only as `OutOfMemory`, and then the lines that were answered before stand there.
+/// Runs the script as `script` does, and appends its answer lines to the answers. Does the last of them say that a line
+/// was not a command? Refused only as `OutOfMemory`, and then the lines that were answered before are there.
 pub(crate) fn answer_script<A: Allocator + Copy>(
     text: &str,
     answers: &mut String<A>,
@@ -87,7 +87,7 @@ pub(crate) fn answer_script<A: Allocator + Copy>(
     ended
 }
 
-// Puts the answer lines of the script behind the answers, up to the first line that is not a command. Is there one?
+// Appends the answer lines of the script to the answers, up to the first line that is not a command. Is there one?
 #[tactic(auto, using(crate::proofs::AnswerLines::no_lines, crate::proofs::AnswerLines::more_lines))]
 fn answer_lines<A: Allocator + Copy>(
     text: &str,
@@ -111,8 +111,8 @@ fn answer_lines<A: Allocator + Copy>(
     Ok(false)
 }
 
-// Puts the line of the reply behind the answers, where it has one: all of it, or nothing of it where memory is refused.
-// Was the line, which so many stand before, no command?
+// Appends the line of the reply to the answers, where it has one: all of it, or nothing of it where memory is refused.
+// Was the line, which has `before` lines before it, not a command?
 #[tactic(auto, using(crate::proofs::AnswerLines::no_lines, crate::proofs::AnswerLines::one_line, crate::proofs::AnswerLines::done_line))]
 fn push_reply<A: Allocator + Copy>(
     alloc: A,
@@ -153,7 +153,7 @@ fn reply_to<A: Allocator + Copy>(
     refusal_as_reply(*ctx.allocator(), outcome)
 }
 
-// What comes of a line, with a refusal as its line; refused memory alone stays refused.
+// What comes of a line, with a refusal as its line; only refused memory stays refused.
 fn refusal_as_reply<A: Allocator + Copy>(
     alloc: A,
     outcome: VortexResult<Reply<A>>,
@@ -171,8 +171,8 @@ fn refusal_as_reply<A: Allocator + Copy>(
     }
 }
 
-// Does the command. It is bad where it asks for rows that are none of their type, or for a column
-// where none stands yet.
+// Does the command. It is bad where it asks for rows that are not of their type, or for a column where there is none
+// yet.
 #[tactic(auto, using(crate::proofs::Sessions::left_by_others))]
 fn perform<A: Allocator + Copy>(
     command: ScriptCommand<'_>,
@@ -202,7 +202,7 @@ fn perform<A: Allocator + Copy>(
     Ok(Reply::Done)
 }
 
-// Sets the session beside the column that stands. It is bad where none stands yet.
+// Sets the session, and leaves the column as it is. It is bad where there is none yet.
 #[tactic(auto, using(crate::proofs::Sessions::unset_without_column, crate::proofs::Sessions::set_beside_column))]
 fn set_beside<A: Allocator + Copy>(
     setting: Setting,
@@ -218,7 +218,7 @@ fn set_beside<A: Allocator + Copy>(
     Reply::Done
 }
 
-// Does the command on the column that stands.
+// Runs the command on the column.
 #[tactic(auto, using(crate::proofs::Outcomes::of_others))]
 fn perform_on<A: Allocator + Copy>(
     command: ScriptCommand<'_>,
@@ -243,7 +243,7 @@ fn perform_on<A: Allocator + Copy>(
     }
 }
 
-// Puts the rows that the words stand for behind the column's. It is bad where a word stands for none of its type.
+// Appends the rows that the words mean to those of the column. It is bad where a word does not mean a row of its type.
 #[tactic(auto, using(crate::proofs::RowsBehind::lists_none, crate::proofs::RowsBehind::appended_done, crate::proofs::RowsBehind::appended_refused))]
 fn append_reply<A: Allocator + Copy>(
     words: Words<'_>,
@@ -267,8 +267,8 @@ fn append_reply<A: Allocator + Copy>(
     Ok(Reply::Done)
 }
 
-// Puts so many rows of the value that the word stands for behind the column's. It is bad where the word stands for none
-// of its type, null aside.
+// Appends `count` rows of the value that the word means to those of the column. It is bad where the word does not mean
+// a value of its type, or null.
 #[tactic(auto, using(crate::proofs::RowsBehind::repeated_done, crate::proofs::RowsBehind::repeated_refused))]
 fn repeat_reply<A: Allocator + Copy>(
     word: &str,
@@ -289,7 +289,7 @@ fn repeat_reply<A: Allocator + Copy>(
     Ok(Reply::Done)
 }
 
-// Does a command that puts no rows behind the column's.
+// Runs a command that appends no rows.
 #[tactic(auto, using(crate::proofs::Replies::step_of_reply))]
 fn perform_step<A: Allocator + Copy>(
     command: ScriptCommand<'_>,
@@ -350,8 +350,8 @@ fn float_reply<A: Allocator + Copy>(
     Ok(Reply::Line(line))
 }
 
-// The command that is executed on a column of the type, or `None` where the line is no such command or
-// a word of it is none that the type has.
+// The command that is executed on a column of the type, or `None` where the line is not such a command, or a word of it
+// does not mean a value of the type.
 fn column_command<A: Allocator>(
     command: ScriptCommand<'_>,
     dtype: DType,
@@ -406,8 +406,8 @@ fn reply_by<A: Allocator + Copy>(
     reply
 }
 
-// What tells the answer. A command that is done needs no line, so that want of memory for one leaves the column as it
-// was. `Unsupported` where there is no line, as there is none of what is not an integer.
+// What says the answer. A command that is done needs no line, so that memory that is refused for one leaves the column
+// as it was. `Unsupported` for an answer without a line: only integers have one.
 #[tactic(auto, using(crate::proofs::Replies::not_short))]
 fn reply_that<A: Allocator + Copy>(
     command: &ColumnCommand<A>,

@@ -11,10 +11,10 @@ use std::io::{Read, Write};
 use std::str;
 use vortex_runend::ExecutionCtx;
 
-/// Reads a script by at most 1,048,576 reads of 65,536 bytes, runs it, and writes its answers. The status
-/// is 0 where each line was answered; 2 after a line that is not a command, or where the input is not UTF-8;
-/// 3 where memory was refused, a read failed, a write failed or the input did not end within the reads. Where memory
-/// is refused to a line, the answers of the lines before it are written first.
+/// Reads a script by at most 1,048,576 reads of 65,536 bytes, runs it, and writes its answers. Returns a status: 0
+/// where each line was answered; 2 after a line that is not a command, or where the input is not UTF-8; 3 where memory
+/// was refused, a read failed, a write failed or the input did not end within the reads. Where memory is refused to a
+/// line, the answers of the lines before it are written first.
 pub fn serve<R: Read, W: Write, E: Write, A: Allocator + Copy>(
     input: &mut R,
     out: &mut W,

@@ -5,8 +5,7 @@ use crate::command::Setting;
 use std::alloc::Allocator;
 use vortex_runend::{ExecutionCtx, Thresholds, VortexSession, default_thresholds, initialize};
 
-/// Sets the session: which kernels are registered, and the thresholds stay; or the thresholds, and each
-/// kernel stays registered or not.
+/// Sets either which kernels are registered, or the thresholds; the other of the two stays as it is.
 pub fn set_session<A: Allocator + Copy>(setting: Setting, ctx: &mut ExecutionCtx<A>)
     ensures { IsSetTo setting ctx.old ctx.new }
 {

@@ -1,4 +1,4 @@
-//! The lines of rows, of their counts and of forms, without their line feeds, and how a line is put behind others.
+//! The lines of rows, of their counts and of forms, without their line feeds, and how a line is appended to others.
 ghost use Rattle.std.specs.Prelude.{◌≡◌, ◌++◌, ◌∷◌, [], OnErr, OnOk};
 ghost use Rattle.std.specs.String.{string_bytes};
 
@@ -37,7 +37,7 @@ pub fn counts_line<A: Allocator + Copy>(
 }
 
 /// Returns the line of the form of a column: `flat TYPE V ..`, `const TYPE V length N`, or `runs TYPE ETYPE offset N
-/// length N ends e .. values V ..`. Refused as `Unsupported` where rows are no integers, and as `OutOfMemory`.
+/// length N ends e .. values V ..`. Refused as `Unsupported` unless the rows are integers, and as `OutOfMemory`.
 pub fn form_line<A: Allocator + Copy>(alloc: A, array: &ArrayRef<A>) -> VortexResult<String<A>> {
     let mut line = String::new(alloc);
     match array {
@@ -52,7 +52,7 @@ pub fn form_line<A: Allocator + Copy>(alloc: A, array: &ArrayRef<A>) -> VortexRe
     Ok(line)
 }
 
-/// Puts a line and its line feed behind the answers, or nothing where memory is refused.
+/// Appends a line and its line feed to the answers, or nothing where memory is refused.
 pub fn push_line<A: Allocator + Copy>(
     answers: &mut String<A>,
     mut line: String<A>,
@@ -69,7 +69,7 @@ pub fn push_line<A: Allocator + Copy>(
     pushed
 }
 
-// The type as a word, behind a space.
+// The type as a word, after a space.
 fn push_type<A: Allocator + Copy>(line: &mut String<A>, dtype: DType) -> VortexResult<()> {
     let DType::Primitive(ptype, nullability) = dtype else {
         return Err(VortexError::Unsupported);
@@ -79,7 +79,7 @@ fn push_type<A: Allocator + Copy>(line: &mut String<A>, dtype: DType) -> VortexR
     Ok(())
 }
 
-// The row as a word, behind a space. Refused as `Unsupported` where it is neither null nor an integer.
+// The row as a word, after a space. Refused as `Unsupported` where it is neither null nor an integer.
 fn push_row<A: Allocator + Copy>(line: &mut String<A>, row: ScalarView<'_, A>) -> VortexResult<()> {
     if !is_null_or_number(row) {
         return Err(VortexError::Unsupported);
@@ -88,7 +88,7 @@ fn push_row<A: Allocator + Copy>(line: &mut String<A>, row: ScalarView<'_, A>) -
     Ok(())
 }
 
-// A word for each row, each behind a space.
+// A word for each row, each after a space.
 fn push_rows<A: Allocator + Copy>(line: &mut String<A>, array: &ArrayRef<A>) -> VortexResult<()> {
     // A row takes two bytes at least: what no memory can show is refused before the first row.
     line.reserve(array.len().saturating_mul(2))?;

@@ -21,15 +21,15 @@ use column_words::{parse_bits, parse_float, parse_integer};
 use float_bits::total_key;
 use std::alloc::Allocator;
 
-/// Stored numbers, and which rows of them are there.
+/// Holds stored numbers, and says which rows are null.
 #[derive(Drop)]
 pub struct ParsedRows<A: Allocator> {
     pub numbers: PrimitiveValues<A>,
     pub validity: Validity<A>,
 }
 
-/// Returns the rows that the words stand for, in order, or `None` exactly where one of them stands for no row of the
-/// type. Under null the number 0 is stored. Refused only as `OutOfMemory`.
+/// Returns the rows that the words mean, in order, or `None` exactly where one of them does not mean a row of the type.
+/// Under null the number 0 is stored. Refused only as `OutOfMemory`.
 pub fn read_values<'a, I: Iterator<Item = &'a str> + Drop, A: Allocator + Copy>(
     alloc: A,
     reading: RowWords,
@@ -59,9 +59,9 @@ pub fn read_values<'a, I: Iterator<Item = &'a str> + Drop, A: Allocator + Copy>(
     }
 }
 
-/// Returns the scalar that the word stands for: null of the nullable type for `null`, whether rows may be null or not,
-/// and otherwise the number, in the type of the rows. `None` where the word is neither `null` nor a number of the type,
-/// or the rows are no integers.
+/// Returns the scalar that the word means: null of the nullable type for `null`, whether rows may be null or not, and
+/// otherwise the number, in the type of the rows. `None` where the word is neither `null` nor a number of the type, or
+/// the rows are not integers.
 pub fn read_scalar<A: Allocator>(dtype: DType, word: &str) -> Option<Scalar<A>>
     ensures { ReadsScalar dtype word.now result }
 {
@@ -100,9 +100,8 @@ pub fn read_mask<A: Allocator + Copy>(alloc: A, word: &str) -> VortexResult<Opti
     Ok(Some(Mask::from_buffer(bits)))
 }
 
-/// Returns the indices that the words stand for, in `i64`, where `null` is a null index over a stored 0. They are
-/// nullable where a word is `null`. `None` where a word is neither `null` nor a number of `i64`. Refused only as
-/// `OutOfMemory`.
+/// Returns the indices that the words mean, in `i64`, where `null` is a null index over a stored 0. They are nullable
+/// where a word is `null`. `None` where a word is neither `null` nor a number of `i64`. Refused only as `OutOfMemory`.
 pub fn read_indices<A: Allocator + Copy>(
     alloc: A,
     words: Words<'_>,
@@ -158,8 +157,8 @@ fn read_natives<'a, T: NativePType, I: Iterator<Item = &'a str> + Drop, A: Alloc
     Ok(None)
 }
 
-// Puts the rows that the words stand for behind the items, and whether they are there behind the flags. False
-// where a word stands for no row of the type.
+// Appends the rows that the words mean to the items, and whether they are valid to the flags. False where a word does
+// not mean a row of the type.
 fn push_rows<'a, T: NativePType, I: Iterator<Item = &'a str> + Drop, A: Allocator + Copy>(
     items: &mut Vec<T, A>,
     valid: &mut BitBufferMut<A>,
@@ -188,8 +187,8 @@ fn push_rows<'a, T: NativePType, I: Iterator<Item = &'a str> + Drop, A: Allocato
     Ok(true)
 }
 
-// The row that a word stands for: `Some(None)` for `null` where rows may be null, otherwise the
-// number as `parse_native` reads it. `None` where the word stands for no row of the type.
+// The row that a word means: `Some(None)` for `null` where rows may be null, otherwise the number as `parse_native`
+// reads it. `None` where the word does not mean a row of the type.
 fn parse_row<T: NativePType>(
     reading: RowWords,
     word: &str,

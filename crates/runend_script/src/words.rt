@@ -3,7 +3,8 @@ ghost use Rattle.std.specs.Prelude.{◌≡◌};
 ghost use Rattle.std.specs.Iterator.{YieldsFirstRef, item_count};
 ghost use Rattle.runend_script.specs.Words.{words_of};
 
-/// The words of a line from left to right. Only spaces separate words: a tab is part of one.
+/// Iterates over the words of a line from left to right. Only spaces separate words: a tab is part
+/// of one.
 #[derive(Clone, Copy)]
 pub struct Words<'a> {
     rest: &'a str,

@@ -17,7 +17,7 @@ flat-selected directly whole bits (OfConstant constant) flat few = absurd flat
 flat-selected directly whole bits (OfLists lists) flat few = few
 flat-selected directly whole bits (OfRuns ends_type ends values offset count) flat few = absurd flat
 
--- the choice depends on these numbers alone
+-- the choice depends only on these numbers
 pub takes_directly-same : (selected runs : ℕ) (thresholds : Thresholds) (selected′ runs′ : ℕ) (thresholds′ : Thresholds) → selected ≡ selected′ → runs ≡ runs′ → thresholds ≡ thresholds′
     → TakesDirectly selected runs thresholds ↔ TakesDirectly selected′ runs′ thresholds′
 takes_directly-same selected runs thresholds selected′ runs′ thresholds′ same_selected same_runs same_thresholds = rw (same_selected, same_runs, same_thresholds) ((λ h. h), (λ h. h))

@@ -9,7 +9,7 @@ use Rattle.runend_encode.specs.Joined.{AllHaveRows}
 use Rattle.runend_encode.proofs.Joining.{AllHaveRows-exact}
 use Rattle.runend_windows.proofs.RunAt.{run_at-here, run_at-past, run_at_is, run_at_within}
 
--- runs that end at so many rows or before, the last of them there
+-- runs that end at a number of rows or before, the last of them there
 pub record Grown {B : Type 0} (ends : List ℕ) (values : List (Option B)) (rows : ℕ) : Type 0 where
   pub increasing : IsStrictlyIncreasing ends
   pub paired : length values ≡ length ends

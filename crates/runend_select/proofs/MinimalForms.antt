@@ -25,7 +25,7 @@ flat_of_computed (OfConstant constant) h = h
 flat_of_computed (OfLists lists) h = tt
 flat_of_computed (OfRuns ends_type ends values offset count) h = h
 
--- integers are no lists
+-- integers are not lists
 pub number_lists : (dtype : DType) → is_numbers dtype ≡ true → ¬ IsLists dtype
 number_lists (column.Bool n) is lists = lists
 number_lists (column.Primitive t n) is lists = lists
@@ -59,7 +59,7 @@ computed_items blank items form none normal some = record {
   some = λ is. let wrong = some is in absurd (omega arith);
 }
 
--- a flat column without rows that is not told as all null is one that a call computes
+-- a flat column without rows that is not stored as all null is one that a call computes
 pub computed_none : (column : Column) → column_rows column ≡ [] → IsNormalFlat column → (IsAllNullFlat column → 0 < 0) → IsComputedFlat column
 computed_none (OfLeaf (OfNumbers form)) none normal some = computed_items (pos 0) form.numbers form.validity (map_none _ _ (map_none _ _ none)) normal some
 computed_none (OfLeaf (OfTruths form)) none normal some = computed_items false form.bits form.validity (map_none _ _ (map_none _ _ none)) normal some

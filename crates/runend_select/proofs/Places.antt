@@ -64,7 +64,7 @@ one_search_more tests tests' spent count count' cost before step more =
     let product : (count + 1) * cost ≡ count * cost + cost = omega arith in
     rw more (omega arith)
 
--- so many searches, over less than 2 ^ k runs
+-- `valid` searches, over less than 2 ^ k runs
 pub searches_within : (valid count runs k : ℕ) → valid ≡ count → runs < 2 ^ k → valid * digits runs ≤ count * k
 searches_within valid count runs k is few = rw is (mul-le-mul_left count (digits-least runs k few))
 

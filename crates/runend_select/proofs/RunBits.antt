@@ -62,7 +62,7 @@ sum_from-one f a bit is =
 digit_sum : (words : List ℕ) (i : ℕ) → sum_from (digit_at words) i 1 ≡ digit_at words i
 digit_sum words i = sum_from-one (digit_at words) i (get_or (first_bits (i + 1) words) i false) (digit_of_bit (i + 1) words i (omega arith))
 
--- so many bits up to a row are set as runs ended there
+-- as many bits up to a row are set as runs ended there
 pub digits_to_row : (ends : List ℕ) (offset count : ℕ) (words : List ℕ) (row : ℕ) → IsWindow ends offset count → AreMarked ends offset count words → row < count
     → sum_from (digit_at words) 0 (row + 1) ≡ run_at ends (offset + row)
 digits_to_row ends offset count words zero window marked within =
@@ -189,7 +189,7 @@ ones_few ends offset count words marked =
     let whole : sum_from f 0 (length words * 64) ≡ sum_from f 0 count = subst (λ (k : ℕ). sum_from f 0 k ≡ sum_from f 0 count) rest (sum_past f count (length words * 64 - count) marked.after) in
     omega (arith, ones_digits words (length words * 64), ones_digits words count, whole, count_by-le-length (λ (b : Bool). b) (first_bits count words), length-first_bits count words)
 
--- the bits of so many runs are set, each inside the window, and no other
+-- the bits of the runs before `run` are set, each inside the window, and no other
 pub record AreMarkedBefore (ends : List ℕ) (offset count run : ℕ) (words : List ℕ) : Type 0 where
   pub sized : length words ≡ (count + 63) / 64
   pub inside : (k : ℕ) → k < run → slice_index ends k < offset + count

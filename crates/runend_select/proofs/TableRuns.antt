@@ -8,7 +8,7 @@ use Rattle.runend_windows.specs.Window.{IsWindow, run_at}
 use Rattle.runend_windows.proofs.RunAt.{ends_after, run_at-le, run_of_row_within}
 use Rattle.runend_select.specs.Indices.{runs_of_rows}
 
--- so many rows are reached by the runs before a run: they are in these runs, and the rows behind them are not
+-- `rows` rows are reached by the runs before a run: they are in these runs, and the rows after them are not
 pub record AreReached (ends : List ℕ) (offset count run rows : ℕ) : Type 0 where
   pub within : rows ≤ count
   pub before : (row : ℕ) → row < rows → run_at ends (offset + row) < run
@@ -37,7 +37,7 @@ AreReached-more ends offset count run rows reach window h is so_far = record {
   onward = λ row from lt. run_at-past_ended ends offset count run row window h (omega arith);
 }
 
--- that is no fewer rows
+-- these are at least as many rows
 reached_in_order : (ends : List ℕ) (offset count run rows reach : ℕ) → AreReached ends offset count run rows → AreReached ends offset count (run + 1) reach → rows ≤ reach
 reached_in_order ends offset count run rows reach so_far more = elim (cases_lt reach rows) [
   | inl fewer ↦

@@ -62,7 +62,7 @@ length-runs ends offset null (index ∷ indices) [] h = h
 length-runs ends offset null (index ∷ indices) (true ∷ bits) h = let rest = length-runs ends offset null indices bits (omega arith) in omega arith
 length-runs ends offset null (index ∷ indices) (false ∷ bits) h = let rest = length-runs ends offset null indices bits (omega arith) in omega arith
 
--- where there are no rows, no index is valid
+-- without rows, no index is valid
 pub runs-of_no_rows : (ends : List ℕ) (offset : ℕ) (indices : List ℤ) (bits : List Bool) → length bits ≡ length indices → AreInBounds (optionals indices bits) 0
     → replicate (length indices) 0 ≡ runs_of ends offset 0 (optionals indices bits)
 runs-of_no_rows ends offset [] bits h bounds = refl

@@ -23,7 +23,7 @@ pub record AreSelectedRuns (whole : Runs) (bits : List Bool) (part : Runs) : Typ
   pub flat : IsComputedFlat part.values
   pub window : (part.offset ≡ 0) × (part.count ≡ count_by (λ bit. bit) bits)
 
--- the runs that are left: of integers in minimal form, of other types those with a selected row
+-- the runs that are left: integers in minimal form, other types as the runs with a selected row
 abbrev pub AreLeftRuns : Bool → Runs → List Bool → Runs → Type 0
 AreLeftRuns true whole bits part = AreMinimalRuns whole.ends_type part
 AreLeftRuns false whole bits part = AreSelectedRuns whole bits part
@@ -36,7 +36,7 @@ IsSelectedForm directly whole bits (OfLists lists) = directly
 IsSelectedForm directly whole bits (OfRuns ends_type ends values offset count) =
     (¬ directly) × AreLeftRuns (is_numbers (column_dtype whole.values)) whole bits (runs_with ends_type ends values offset count)
 
--- all rows: of integers in minimal form, of other types the column as it was
+-- all rows: integers in minimal form, other types as the column was
 abbrev pub IsWholeForm : Bool → Runs → Column → Type 0
 IsWholeForm true whole column = IsMinimalForm whole.ends_type column
 IsWholeForm false whole column = column ≡ column_of_runs whole

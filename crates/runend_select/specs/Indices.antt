@@ -1,4 +1,4 @@
--- Indices of rows, of which some are null, and the runs of the rows that they name. A null index names no row.
+-- Indices of rows, some of which are null, and the runs of the rows that they name. A null index names no row.
 use Rattle.std.specs.Prelude.{◌≡◌, ◌≤ℤ◌, ◌<ℤ◌, ◌+◌, ◌<◌, ℕ, ℤ, pos, List, map, Bool, Option, Some, None, All, IfSome, count_by, is_some, slice_get, slice_index, unsigned_abs}
 use Rattle.std.specs.List.{range_with_len}
 use Rattle.column_base.specs.declared.mask.Mask.{Mask}
@@ -31,7 +31,7 @@ abbrev pub run_of : List ℕ → ℕ → ℕ → Option ℤ → ℕ
 run_of ends offset null None = null
 run_of ends offset null (Some n) = run_at ends (offset + unsigned_abs n)
 
--- the same of each index
+-- the same for each index
 abbrev pub runs_of : List ℕ → ℕ → ℕ → List (Option ℤ) → List ℕ
 runs_of ends offset null indices = map (run_of ends offset null) indices
 

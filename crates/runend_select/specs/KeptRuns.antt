@@ -14,7 +14,8 @@ pub record HasSelectedRow (ends : List ℕ) (offset : ℕ) (bits : List Bool) (r
   pub selected : slice_get bits row ≡ Some true
   pub holds : run_at ends (offset + row) ≡ run
 
--- which runs are kept, those with a selected row, and the ends of these: each after as many rows as are selected up to its old end
+-- which runs are kept, those with a selected row, and their ends: each after as many rows as are selected up to the old
+-- end
 pub record AreKept (ends : List ℕ) (offset : ℕ) (bits kept : List Bool) (kept_ends : List ℕ) : Type 0 where
   pub paired : length kept ≡ length ends
   pub each : (run : ℕ) → run < length ends → (slice_get kept run ≡ Some true) ↔ HasSelectedRow ends offset bits run

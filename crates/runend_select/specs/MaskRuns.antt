@@ -12,7 +12,7 @@ use Rattle.runend_array.specs.declared.session.Thresholds.{Thresholds}
 use Rattle.runend_array.specs.Column.{Column, Runs, column_of_runs, column_rows}
 use Rattle.runend_select.specs.FilterForm.{IsFilterForm}
 
--- is the row true? null is not
+-- is the row true? null is not true
 abbrev pub is_true : Option Value → Bool
 is_true (Some (Single (Truth truth))) = truth
 is_true row = false
@@ -21,7 +21,7 @@ is_true row = false
 abbrev pub truths_of : Runs → List Bool
 truths_of mask = map is_true (column_rows (column_of_runs mask))
 
--- what is written for the run before, and 0 before the first
+-- what is written for the run before, and 0 for the first run
 abbrev pub before_at : List ℕ → ℕ → ℕ
 before_at xs zero = 0
 before_at xs (suc k) = slice_index xs k

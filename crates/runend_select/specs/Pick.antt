@@ -19,8 +19,8 @@ PrefersTable indices count thresholds = count ≤ valid_count indices * threshol
 abbrev pub PrefersSortAndMerge : List (Option ℤ) → ℕ → TakeThresholds → Type 0
 PrefersSortAndMerge indices runs thresholds = (thresholds.unsorted_min_runs ≤ runs) × (runs ≤ valid_count indices * thresholds.unsorted_runs_per_index)
 
--- the picked strategy: the first of the three that is preferred, over so many runs that show `count` rows, else binary search. A product that
--- saturates compares like the number itself, since there are less than 2 ^ 64 runs and rows.
+-- the picked strategy: the first of the three that is preferred, over runs that show `count` rows, else binary search.
+-- A product that saturates compares like the number itself, since there are less than 2 ^ 64 runs and rows.
 abbrev pub IsPicked : List (Option ℤ) → ℕ → ℕ → TakeThresholds → Strategy → Type 0
 IsPicked indices runs count thresholds SortedMerge = PrefersSortedMerge indices runs thresholds
 IsPicked indices runs count thresholds Table = (¬ PrefersSortedMerge indices runs thresholds) × PrefersTable indices count thresholds
@@ -29,18 +29,18 @@ IsPicked indices runs count thresholds SortAndMerge =
 IsPicked indices runs count thresholds Binary =
     (¬ PrefersSortedMerge indices runs thresholds) × (¬ PrefersTable indices count thresholds) × (¬ PrefersSortAndMerge indices runs thresholds)
 
--- the run that a strategy answers at a null index: that of row 0 by `Table`, else 0
+-- the run that a strategy returns for a null index: the run of row 0 for `Table`, else 0
 abbrev pub run_of_null : Strategy → List ℕ → ℕ → ℕ
 run_of_null SortedMerge ends offset = 0
 run_of_null Table ends offset = run_at ends offset
 run_of_null SortAndMerge ends offset = 0
 run_of_null Binary ends offset = 0
 
--- what a strategy answers
+-- what a strategy returns
 abbrev pub answer_of : Strategy → List ℕ → ℕ → List (Option ℤ) → List ℕ
 answer_of strategy ends offset indices = runs_of ends offset (run_of_null strategy ends offset) indices
 
--- how many ends a strategy tests at most, for so many valid indices over so many runs that show `count` rows
+-- how many ends a strategy tests at most, by the numbers of valid indices and of runs, which show `count` rows
 abbrev pub most_tests : Strategy → ℕ → ℕ → ℕ → ℕ
 most_tests SortedMerge valid runs count = runs - 1 + valid
 most_tests Table valid runs count = runs - 1 + count

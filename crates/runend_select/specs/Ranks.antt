@@ -19,7 +19,8 @@ pub record AreCounted (words counts : List ℕ) : Type 0 where
   pub before : counts ≡ map (λ index. ones_before words (index * 64)) (range_with_len 0 (length words))
   pub few : ones_before words (length words * 64) < 2 ^ 64
 
--- the rank of the row that an index names, which is how many bits are set up to that of the row; and that of row 0 for a null index
+-- the rank of the row that an index names, which is how many bits are set up to the row's bit; the rank of row 0 for a
+-- null index
 abbrev pub rank_at : List ℕ → Option ℤ → ℕ
 rank_at words None = ones_before words 1
 rank_at words (Some n) = ones_before words (unsigned_abs n + 1)

@@ -1,4 +1,4 @@
--- Refusals that no want of memory can come before.
+-- Refusals that come before any refusal for memory.
 use Rattle.std.specs.Prelude.{◌≡◌, Option, Some, None, Result, Ok, Err}
 use Rattle.column_base.specs.declared.error.VortexError.{VortexError}
 

@@ -1,4 +1,4 @@
-//! The runs of indices, each found by halves.
+//! The runs of indices, each found by a binary search.
 ghost use Rattle.std.specs.Prelude.{◌≡◌, ◌+◌, ◌*◌, ◌^◌, ◌<◌, ◌≤◌, ◌∷◌, ◌++◌, [], All, IfOk, IfSome, IsOkUnless, None, OnErr, Some, length, option_map, pos, slice_get, true, vec_capacity, vec_len};
 ghost use Rattle.std.specs.List.Sorted.{IsStrictlyIncreasing};
 ghost use Rattle.column_base.specs.Mask.{mask_bits};
@@ -11,7 +11,8 @@ use runend_windows::{first_past, first_past_four};
 use std::alloc::Allocator;
 
 /// Returns the run of each valid index, and 0 for a null one, where `offset` is the position of row 0. For each valid
-/// index it tests no more ends than their number has binary digits. Refused only as `OutOfMemory`, before any test.
+/// index it tests at most as many ends as the number of ends has binary digits. Refused only as `OutOfMemory`, before
+/// any test.
 pub fn physical_indices_binary<E: UnsignedPType, T: NativePType, A: Allocator + Copy>(
     alloc: A,
     ends: &mut CountedEnds<'_, E>,
@@ -36,7 +37,7 @@ pub fn physical_indices_binary<E: UnsignedPType, T: NativePType, A: Allocator + 
     }
 }
 
-// The run of each valid index, and 0 for a null one, where `ALL` says that no index is null.
+// The run of each valid index, and 0 for a null one. `ALL` says that no index is null.
 fn searched_runs<const ALL: bool, E: UnsignedPType, T: NativePType, A: Allocator + Copy>(
     alloc: A,
     ends: &mut CountedEnds<'_, E>,
@@ -83,7 +84,7 @@ fn searched_runs<const ALL: bool, E: UnsignedPType, T: NativePType, A: Allocator
     Ok(runs)
 }
 
-// The rows of four indices from a place on, where there are four and none of them is null.
+// The rows of the next four indices from a place on, where there are four and none of them is null.
 #[inline(always)]
 fn four_rows<const ALL: bool, T: NativePType, A: Allocator>(
     indices: &[T],
@@ -113,7 +114,7 @@ fn four_rows<const ALL: bool, T: NativePType, A: Allocator>(
     Some((first, second, third, fourth))
 }
 
-// Four runs more, for which there is room.
+// Appends four runs, for which there is room.
 #[inline(always)]
 fn push_four<A: Allocator>(runs: &mut Vec<u64, A>, four: (usize, usize, usize, usize))
     requires room { vec_len runs.old + 4 ≤ vec_capacity runs.old }
@@ -127,7 +128,7 @@ fn push_four<A: Allocator>(runs: &mut Vec<u64, A>, four: (usize, usize, usize, u
     runs.push_reserved(four.3 as u64);
 }
 
-// The run of a row more, and 0 for a null index, for which there is room.
+// Appends the run of a row, and 0 for a null index, for which there is room.
 #[inline(always)]
 fn push_run<E: UnsignedPType, A: Allocator>(
     ends: &mut CountedEnds<'_, E>,

@@ -10,9 +10,9 @@ use crate::rows::{named_row, selects_all};
 use column_core::{CountedEnds, Mask, NativePType, UnsignedPType, VortexError, VortexResult};
 use std::alloc::Allocator;
 
-/// Returns the run of each valid index among `length` rows, and the run of row 0 for a null one: what a table
-/// of the run of each row would say, in 16 bytes for 64 rows. It tests at most one end for each row and one for
-/// each run but the last, as making the table does. Refused only as `OutOfMemory`, before any test.
+/// Returns the run of each valid index among `length` rows, and the run of row 0 for a null one. It finds what a table
+/// of the run of each row would say, in 16 bytes for 64 rows. It tests at most one end for each row and one for each
+/// run but the last, as making the table does. Refused only as `OutOfMemory`, before any test.
 pub(crate) fn runs_by_rank<E: UnsignedPType, T: NativePType, A: Allocator + Copy>(
     alloc: A,
     ends: &mut CountedEnds<'_, E>,
@@ -40,8 +40,8 @@ pub(crate) fn runs_by_rank<E: UnsignedPType, T: NativePType, A: Allocator + Copy
     Ok(ranked(words, counts, room, indices, mask))
 }
 
-// The rank of the row that each index names, and that of row 0 for a null one, put into room that is there. No
-// end is tested, since none is lent.
+// The rank of the row that each index names, and the rank of row 0 for a null one, put into room that is there. No end
+// is tested, since none is lent.
 fn ranked<T: NativePType, A: Allocator>(
     words: &[u64],
     counts: &[u64],

@@ -20,9 +20,9 @@ use runend_array::ExecutionCtx;
 use runend_windows::reach_of;
 use std::alloc::Allocator;
 
-/// Returns which runs have a row that the mask selects, and the ends of these runs among the selected rows: after as
-/// many rows as are selected up to the end of the run. The runs show `length` rows from position `offset` on, and the
-/// mask has a bit for each. Refused only as `OutOfMemory`.
+/// Returns which runs have a row that the mask selects, and where these runs end among the selected rows: after the
+/// number of rows that are selected up to the end of the run. The runs show `length` rows from position `offset` on,
+/// and the mask has a bit for each row. Refused only as `OutOfMemory`.
 pub fn filter_run_end_primitive<E: UnsignedPType, A: Allocator + Copy>(
     ends: &[E],
     offset: u64,
@@ -43,7 +43,7 @@ pub fn filter_run_end_primitive<E: UnsignedPType, A: Allocator + Copy>(
 {
     let alloc = *ctx.allocator();
     let mut selected = BitRanks::of(alloc, mask)?;
-    // A buffer's numbers are known to be of its type, so counts that are no greater are as well.
+    // The numbers of a buffer are known to fit its type, so counts that are no greater fit it too.
     let stored = E::wrap(Vec::from_slice(alloc, ends)?);
     let parts = filter_ends(
         alloc,
@@ -141,7 +141,7 @@ fn filter_stored<E: UnsignedPType, S: Ranked, A: Allocator + Copy>(
     Ok((kept_ends, places))
 }
 
-// The ends of the kept runs, and their places: rows are counted up to where each run reaches, in one walk.
+// The ends of the kept runs, and their places. Rows are counted up to where each run ends, in one walk.
 fn kept_places<E: UnsignedPType, S: Ranked, A: Allocator + Copy>(
     alloc: A,
     ends: &[E],
@@ -173,8 +173,8 @@ fn kept_places<E: UnsignedPType, S: Ranked, A: Allocator + Copy>(
     Ok((kept_ends, places))
 }
 
-// Appends an item of a run where that run is kept. It is written in any case, and cut off again where it is not: no
-// branch depends on the mask, which nobody foresees.
+// Appends an item of a run if that run is kept. It is written in any case, and cut off again if the run is not kept: so
+// no branch depends on the mask, which a processor cannot predict.
 #[inline(always)]
 fn push_where<T: Copy + Drop, A: Allocator>(items: &mut Vec<T, A>, item: T, is_kept: bool)
     requires { vec_len items.old < vec_capacity items.old }

@@ -1,4 +1,4 @@
-//! The runs that a mask selects rows of, as run columns: of integers in minimal form.
+//! The runs in which a mask selects rows, as run columns: in minimal form if the rows are integers.
 ghost use Rattle.std.specs.Prelude.{◌≡◌, true, IfOk, IsOkUnless, count_by, length, replicate};
 ghost use Rattle.column_core.specs.Computed.{IsComputed};
 ghost use Rattle.column_core.specs.Kinds.{is_numbers};
@@ -24,7 +24,7 @@ use runend_array::{ArrayRef, RunEnd, RunEndArray, RunEndArrayExt, RunEndArraySlo
 use runend_column::{minimal_runs, selected_by, take_values, visible_values, with_minimal_runs};
 use std::alloc::Allocator;
 
-/// Returns the runs with one of the `count` selected rows: of integers in minimal form, of other types as they are.
+/// Returns the runs with one of the `count` selected rows, in minimal form if the rows are integers, else as they are.
 /// Refused only as `OutOfMemory`.
 pub(crate) fn selected_runs<S: Ranked, A: Allocator + Copy>(
     alloc: A,
@@ -151,7 +151,7 @@ fn numbers_in<A: Allocator + Copy>(values: ArrayRef<A>) -> PrimitiveArray<A>
     }
 }
 
-// The runs with a selected row, of integers and in minimal form: runs that a dropped one divided may be equal now.
+// The runs of integers with a selected row, in minimal form: two runs that a dropped one separated may be equal now.
 fn least_kept<S: Ranked, A: Allocator + Copy>(
     alloc: A,
     array: &RunEndArray<A>,

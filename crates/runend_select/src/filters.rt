@@ -23,11 +23,11 @@ use runend_array::{
 use runend_column::set_bit_indices;
 use std::alloc::Allocator;
 
-/// Returns the rows at which the mask is true, in order. Runs of integers are left in minimal form: as few as can be,
-/// none hidden and no neighbours equal (null is equal to null), at offset 0, the last end the number of rows, with ends
-/// of the same type and flat values. Of other types the column is unchanged under `AllTrue`, has no runs and offset 0
-/// under `AllFalse`, and else the runs with a selected row are left, at offset 0 and with flat values. Where few rows
-/// are selected by the session's thresholds, a mask of bits takes them one by one into a flat column.
+/// Returns the rows at which the mask is true, in order. Integers are returned as runs in minimal form: as few as can
+/// be, none hidden and no neighbours equal (null is equal to null), at offset 0, with the number of rows as the last
+/// end, ends of the same type, and flat values. A column of another type is unchanged under `AllTrue`, has no runs and
+/// offset 0 under `AllFalse`, and else keeps the runs with a selected row, at offset 0 and with flat values. If the
+/// session's thresholds say that few rows are selected, a mask of bits takes them one by one into a flat column.
 ///
 /// Refused as `MaskLength`, with the mask's length and the number of rows, exactly where they differ,
 /// however little memory there is; else only as `OutOfMemory`.
@@ -59,7 +59,7 @@ pub fn filter<A: Allocator + Copy>(
     }
 }
 
-/// Returns whether so few rows are selected, of so many runs, that they are taken one by one.
+/// Returns whether the selected rows are so few, compared with the runs, that they are taken one by one.
 pub(crate) fn takes_directly(selected: usize, runs: usize, thresholds: Thresholds) -> bool
     ensures { IsTrue result ↔ TakesDirectly selected runs thresholds }
 {
@@ -128,7 +128,7 @@ fn unchanged<A: Allocator + Copy>(
     ArrayRef::of_runs(*ctx.allocator(), copy)
 }
 
-/// Returns all rows: of integers in minimal form, of other types unchanged. Refused only as `OutOfMemory`.
+/// Returns all rows: integers in minimal form, other types unchanged. Refused only as `OutOfMemory`.
 pub(crate) fn all_rows<A: Allocator + Copy>(
     array: &RunEndArray<A>,
     ctx: &mut ExecutionCtx<A>,

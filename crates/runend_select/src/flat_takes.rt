@@ -14,9 +14,9 @@ use runend_array::{ArrayRef, ExecutionCtx, RunEndArray};
 use runend_column::take_rows;
 use std::alloc::Allocator;
 
-/// Returns the rows of a column of any form at the indices, null for null, flat. The type has null where the column's
-/// or the indices' has. A run column is not written out: the run of each index is looked up, and of values that are in
-/// runs themselves one row for each of the column's runs is written.
+/// Returns the rows of a column of any form at the indices, null for null, as a flat column. Its type has null where
+/// the column's or the indices' has. A run column is not written out: the run of each index is looked up, and if the
+/// values are in runs themselves, one row is written for each of the column's runs.
 ///
 /// Refused as `OutOfBounds`, with the index and the number of rows, at the first valid index that is
 /// negative or not below that number; else only as `OutOfMemory`.

@@ -1,5 +1,5 @@
-//! Rows of run columns that a mask selects or that indices name, found by runs; and which run each index is in, by
-//! every strategy, with the number of tests counted.
+//! Rows of run columns that a mask selects or that indices name, found by runs; and the run that each index is in, by
+//! every strategy, which counts its tests.
 #![tactic(auto)]
 
 mod binary_search;

@@ -22,9 +22,9 @@ use runend_array::{
 };
 use std::alloc::Allocator;
 
-/// Returns the rows at which a mask in runs is true, in order: null selects nothing. The answer is that of `filter` by
-/// the bits of the mask, in the same form, and no bit is made: it takes a step for each run of either column, and one
-/// for each row that it takes one by one.
+/// Returns the rows at which a mask in runs is true, in order; null selects nothing. The answer is the same as the
+/// answer of `filter` to the bits of the mask, in the same form, but no bit is made: it takes one step for each run of
+/// either column, and one for each row that it takes one by one.
 ///
 /// Refused as `TypeMismatch` unless the mask is of booleans, and then as `MaskLength`, with the mask's length and the
 /// number of rows, where they differ, however little memory there is; else only as `OutOfMemory`.

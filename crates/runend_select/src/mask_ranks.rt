@@ -15,15 +15,15 @@ use std::alloc::Allocator;
 /// Selects the rows of a mask that are true, and walks along its runs as they are counted.
 #[derive(Drop)]
 pub(crate) struct MaskRanks<'a, A: Allocator> {
-    // (what its rows are is only for contracts)
+    // (only contracts read its rows)
     pub(crate) mask: &'a RunEndArray<A>,
     pub(crate) runs: MaskRuns<A>,
-    // The run of the last place that was asked.
+    // The run of the last place that was asked for.
     pub(crate) at: usize,
 }
 
 impl<'a, A: Allocator + Copy> MaskRanks<'a, A> {
-    /// Returns the rows of a mask that are true, before its first run. Refused only as `OutOfMemory`.
+    /// Returns the rows of a mask that are true, with nothing counted yet. Refused only as `OutOfMemory`.
     pub(crate) fn of(alloc: A, mask: &'a RunEndArray<A>) -> VortexResult<MaskRanks<'a, A>>
         requires single { ¬ IsLists (column_dtype mask.now.values) }
         ensures only { IsOkUnless result VortexError.OutOfMemory }
@@ -57,8 +57,8 @@ impl<'a, A: Allocator + Copy> MaskRanks<'a, A> {
         Ok(places)
     }
 
-    // How many of the rows before a place of a run are true: all between the start of the run and the place are, or
-    // none is.
+    // How many of the rows before a place of a run are true: either all rows between the start of the run and the place
+    // are true, or none of them is.
     #[inline]
     fn rank_in(&self, run: usize, place: usize) -> usize
         requires runs { AreMaskRuns (truths_of self.now.mask.now) self.now.runs.stops.items self.now.runs.ranks.items }
@@ -92,7 +92,7 @@ impl<'a, A: Allocator + Copy> Ranked for MaskRanks<'a, A> {
     }
 }
 
-// The run that a place is in or stops at, of runs with these stops, found from an earlier one on.
+// The run that a place is in or stops at, among runs with these stops, searched from an earlier run on.
 #[tactic(auto, using(crate::proofs::MaskRuns::next_run))]
 #[inline]
 fn place_among(stops: &[usize], from: usize, place: usize) -> usize
@@ -110,7 +110,7 @@ fn place_among(stops: &[usize], from: usize, place: usize) -> usize
     run
 }
 
-// What is written for the run before, and 0 before the first.
+// The number that is written for the run before, and 0 for the first run.
 #[inline]
 fn before_in(written: &[usize], run: usize) -> usize
     requires { run ≤ length written.now }

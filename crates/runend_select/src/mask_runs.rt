@@ -59,7 +59,7 @@ impl<A: Allocator + Copy> MaskRuns<A> {
     }
 }
 
-// The runs of a mask whose ends these numbers are.
+// The runs of a mask with these ends.
 fn runs_among<A: Allocator + Copy>(
     alloc: A,
     ends: &PrimitiveValues<A>,
@@ -77,7 +77,7 @@ fn runs_among<A: Allocator + Copy>(
     match_each_unsigned!(ends, items => runs_in(alloc, items.as_slice(), offset, count, truths))
 }
 
-// The same, of ends as they are stored.
+// The same for ends as they are stored.
 fn runs_in<E: UnsignedPType, A: Allocator + Copy>(
     alloc: A,
     ends: &[E],

@@ -15,7 +15,7 @@ use crate::strategy::{Strategy, TakeThresholds};
 use column_core::{CountedEnds, Mask, NativePType, UnsignedPType, VortexError, VortexResult};
 use std::alloc::Allocator;
 
-/// Returns the strategy for these indices over so many runs that show `length` rows: the first that the thresholds
+/// Returns the strategy for these indices over `runs` runs that show `length` rows: the first that the thresholds
 /// allow.
 pub fn picked_strategy<T: NativePType, A: Allocator>(
     indices: &[T],
@@ -41,10 +41,9 @@ pub fn picked_strategy<T: NativePType, A: Allocator>(
     Strategy::Binary
 }
 
-/// Returns the run of each valid index among `length` rows, where `offset` is the position of row 0, by
-/// the strategy that the thresholds pick. At a null index that is the run of row 0 by `Strategy::Table`,
-/// and else 0. It tests no more ends than the picked strategy. Refused only as `OutOfMemory`, before any
-/// test.
+/// Returns the run of each valid index among `length` rows, where `offset` is the position of row 0, by the strategy
+/// that the thresholds pick. A null index gets the run of row 0 from `Strategy::Table`, and 0 from the others. It tests
+/// no more ends than the picked strategy. Refused only as `OutOfMemory`, before any test.
 pub fn physical_indices<E: UnsignedPType, T: NativePType, A: Allocator + Copy>(
     alloc: A,
     ends: &mut CountedEnds<'_, E>,
@@ -71,7 +70,7 @@ pub fn physical_indices<E: UnsignedPType, T: NativePType, A: Allocator + Copy>(
     physical_indices_by(alloc, strategy, ends, offset, length, indices, mask)
 }
 
-// Are so many runs or rows at most `per_index` for each of so many valid indices?
+// Are there at most `per_index` runs or rows for each valid index?
 fn is_within(total: usize, count: usize, per_index: usize) -> bool
     ensures { IsTrue result ↔ (total ≤ count * per_index) }
 {

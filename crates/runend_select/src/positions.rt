@@ -12,10 +12,9 @@ use column_core::{CountedEnds, Mask, NativePType, UnsignedPType, VortexError, Vo
 use runend_array::{ExecutionCtx, Thresholds};
 use std::alloc::Allocator;
 
-/// Returns the run of each valid index among `length` rows, where `offset` is the position of row 0, by
-/// the strategy that the thresholds of the session pick. At a null index that is the run of row 0 by
-/// `Strategy::Table`, and else 0. It tests no more ends than the picked strategy. Refused only as
-/// `OutOfMemory`, before any test.
+/// Returns the run of each valid index among `length` rows, where `offset` is the position of row 0, by the strategy
+/// that the thresholds of the session pick. A null index gets the run of row 0 from `Strategy::Table`, and 0 from the
+/// others. It tests no more ends than the picked strategy. Refused only as `OutOfMemory`, before any test.
 pub fn physical_indices<E: UnsignedPType, T: NativePType, A: Allocator + Copy>(
     ends: &mut CountedEnds<'_, E>,
     offset: usize,

@@ -1,4 +1,4 @@
-//! How many of the first bits are true, by counts that are made before for each word.
+//! How many of the first bits are true, by counts of the bits before each word.
 ghost use Rattle.std.specs.Prelude.{◌≡◌, ◌-◌, ◌*◌, ◌/◌, ◌^◌, ◌<◌, ◌≤◌, IfOk, IsOkUnless, count_by, length, take};
 ghost use Rattle.runend_select.specs.WordRanks.{AreWordRanks};
 
@@ -6,7 +6,7 @@ use crate::ranked::Ranked;
 use column_core::{BitBuffer, VortexError, VortexResult};
 use std::alloc::Allocator;
 
-/// Selects the rows at which bits are true, and counts them by the ranks of words.
+/// Selects the rows whose bit is true, and counts them by the ranks of words.
 #[derive(Drop)]
 pub(crate) struct BitRanks<'a, A: Allocator> {
     bits: &'a BitBuffer<A>,
@@ -38,8 +38,8 @@ impl<'a, A: Allocator + Copy> Ranked for BitRanks<'a, A> {
     }
 }
 
-// Counts how many of the bits before each word of 64 are true, for the word of any place up to their end. Refused only
-// as `OutOfMemory`.
+// Counts for each word of 64 bits how many of the bits before it are true; the place after the last bit has a count
+// too. Refused only as `OutOfMemory`.
 fn word_ranks<A: Allocator + Copy>(alloc: A, bits: &BitBuffer<A>) -> VortexResult<Vec<usize, A>>
     ensures only { IsOkUnless result VortexError.OutOfMemory }
     ensures ranks { IfOk result (λ ranks. AreWordRanks bits.now ranks.items) }
@@ -66,7 +66,7 @@ fn rank_of<A: Allocator>(bits: &BitBuffer<A>, ranks: &[usize], place: usize) -> 
     rank_within_word(bits, ranks[place / 64], place)
 }
 
-// Returns how many of the bits before `place` are true, where `before` of those before its word are.
+// Returns how many of the bits before `place` are true, where `before` bits before its word are true.
 #[inline]
 fn rank_within_word<A: Allocator>(bits: &BitBuffer<A>, before: usize, place: usize) -> usize
     requires within { place ≤ length bits.now }

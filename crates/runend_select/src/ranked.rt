@@ -1,7 +1,7 @@
-//! What a filter asks of the rows that are selected, whether bits say it or the runs of a mask.
+//! What a filter asks of the selected rows, whether bits or the runs of a mask select them.
 ghost use Rattle.std.specs.Prelude.{◌≡◌, ℕ, ◌≤◌, List, Bool, count_by, length, take};
 
-/// Selects rows, and counts them up to places that never fall.
+/// Selects rows, and counts them up to places, each of which is no less than the place before.
 pub(crate) trait Ranked {
     // Whether each row is selected.
     ghost bits: { Self → List Bool };
@@ -9,7 +9,7 @@ pub(crate) trait Ranked {
     // It can count.
     ghost is_ranked: { Self → Type 0 };
 
-    // Up to which place rows are passed: none before it is asked any more.
+    // The place up to which rows are passed: no place before it may be asked for any more.
     ghost passed: { Self → ℕ };
 
     /// Returns how many of the rows before `place` are selected.

@@ -1,5 +1,5 @@
-//! Ranks of the rows of a window: a bit for each row, set where a run ends there, and how many bits are set before each
-//! word of 64. The run of a row is then a count of bits: no end is read, nothing is searched and no branch is taken.
+//! Ranks of the rows of a window: a bit for each row, set where a run ends there, and the number of set bits before
+//! each word of 64. A count of bits then gives the run of a row: it reads no end, searches nothing and takes no branch.
 ghost use Rattle.std.specs.Prelude.{◌≡◌, ◌+◌, ◌-◌, ◌*◌, ◌/◌, ◌^◌, ◌<◌, ◌≤◌, [], IfOk, IsOkUnless, OnErr, length as item_count, replicate, vec_capacity};
 ghost use Rattle.runend_windows.specs.Window.{IsWindow};
 ghost use Rattle.runend_select.specs.Ranks.{AreCounted, AreMarked, ones_before};
@@ -7,7 +7,7 @@ ghost use Rattle.runend_select.specs.Ranks.{AreCounted, AreMarked, ones_before};
 use column_core::{CountedEnds, UnsignedPType, VortexError, VortexResult};
 use std::alloc::Allocator;
 
-/// The bits of the rows, 64 to a word, and how many are set before each word: 16 bytes for 64 rows.
+/// Holds the bits of the rows, 64 to a word, and how many are set before each word: 16 bytes for 64 rows.
 #[derive(Drop)]
 pub(crate) struct RunRanks<A: Allocator> {
     pub(crate) words: Vec<u64, A>,
@@ -40,7 +40,8 @@ pub(crate) fn run_ranks<E: UnsignedPType, A: Allocator + Copy>(
     Ok(RunRanks { words, counts })
 }
 
-/// Returns how many bits are set up to that of a row: its run, where the bits mark the rows at which runs end.
+/// Returns how many bits are set up to the bit of a row, with it: the run of the row, where the bits mark the rows at
+/// which runs end.
 #[inline(always)]
 pub(crate) fn rank_of(words: &[u64], counts: &[u64], row: usize) -> u64
     requires counted { AreCounted words.now counts.now }
@@ -52,7 +53,7 @@ pub(crate) fn rank_of(words: &[u64], counts: &[u64], row: usize) -> u64
     counts[index] + (words[index] << (63 - row % 64)).count_ones() as u64
 }
 
-// Sets the bit of each row at whose position a run ends. The last end is past every row, and is not read.
+// Sets the bit of each row at which a run ends. The last end is past every row, and is not read.
 fn mark_ends<E: UnsignedPType>(
     ends: &mut CountedEnds<'_, E>,
     offset: usize,

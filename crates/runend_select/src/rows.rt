@@ -22,8 +22,8 @@ pub fn indexed_row<T: NativePType, A: Allocator>(
     named_row::<false, T, A>(indices, mask, place)
 }
 
-/// Returns whether the mask is known by its form to select all indices. Walks over indices ask it once, and then read
-/// no bit for each.
+/// Returns whether the form of the mask says that it selects all indices. Walks over indices ask this once, and then
+/// read no bit for each index.
 pub(crate) fn selects_all<A: Allocator>(mask: &Mask<A>) -> bool
     ensures { IsTrue result → All (λ bit. bit ≡ true) (mask_bits mask.now) }
 {
@@ -34,7 +34,7 @@ pub(crate) fn selects_all<A: Allocator>(mask: &Mask<A>) -> bool
     }
 }
 
-// Is the index at `place` valid? No bit is read where all are.
+// Is the index at `place` valid? If all are, no bit is read.
 #[inline(always)]
 fn is_valid<const ALL: bool, A: Allocator>(mask: &Mask<A>, place: usize) -> bool
     requires within { place < length (mask_bits mask.now) }
@@ -47,7 +47,7 @@ fn is_valid<const ALL: bool, A: Allocator>(mask: &Mask<A>, place: usize) -> bool
     mask.value(place)
 }
 
-/// Returns the row that the index at `place` names, as `indexed_row`, where `ALL` says that no index is null.
+/// Returns the row that the index at `place` names, as `indexed_row` does. `ALL` says that no index is null.
 #[inline(always)]
 pub(crate) fn named_row<const ALL: bool, T: NativePType, A: Allocator>(
     indices: &[T],
@@ -81,7 +81,7 @@ pub fn are_sorted<T: NativePType, A: Allocator>(indices: &[T], mask: &Mask<A>) -
     }
 }
 
-// Is no valid index below a valid one before it, where `ALL` says that no index is null?
+// Is no valid index below a valid one before it? `ALL` says that no index is null.
 fn never_fall<const ALL: bool, T: NativePType, A: Allocator>(indices: &[T], mask: &Mask<A>) -> bool
     requires masked { length (mask_bits mask.now) ≡ length indices.now }
     requires all { ALL ≡ true → All (λ bit. bit ≡ true) (mask_bits mask.now) }

@@ -1,30 +1,30 @@
-//! The strategies, and what the pick among them goes by.
+//! The strategies, and the thresholds by which one is picked.
 
-/// A way to find the run of each index.
+/// Names a way to find the run of each index.
 #[derive(Clone, Copy, Debug, PartialEq, Eq)]
 pub enum Strategy {
-    /// Indices that are sorted are merged with the ends, in one walk over both.
+    /// Merges indices that are sorted with the ends, in one walk over both.
     SortedMerge,
-    /// Each row gets a bit, which says whether a run ends there. The run of an index is how many bits are set up to its
-    /// row: what a table of the runs of all rows would say, in 16 bytes for 64 rows.
+    /// Makes a bit for each row, set where a run ends. The run of an index is the number of bits that are set up to its
+    /// row: a table of the runs of all rows, in 16 bytes for 64 rows.
     Table,
-    /// Indices are sorted, and then merged with the ends.
+    /// Sorts the indices, and then merges them with the ends.
     SortAndMerge,
-    /// The ends are searched by halves for each index.
+    /// Searches the ends for each index, by binary search.
     Binary,
 }
 
-/// Up to where each strategy but the last is picked, as counts of runs or rows. With 0 in all four,
-/// indices of rows are searched by halves.
+/// Limits where each strategy but the last is picked, in numbers of runs or rows. With 0 in all four, each index of a
+/// row is found by binary search.
 #[derive(Clone, Copy, Debug, PartialEq, Eq)]
 pub struct TakeThresholds {
-    /// The most runs for each valid index at which sorted indices are merged.
+    /// Sets the greatest number of runs for each valid index at which sorted indices are merged.
     pub sorted_runs_per_index: usize,
-    /// The most rows for each valid index at which all rows get a bit (`Strategy::Table`).
+    /// Sets the greatest number of rows for each valid index at which each row gets a bit (`Strategy::Table`).
     pub table_len_per_index: usize,
-    /// The least runs at which indices are sorted: below, the ends stay in the processor's caches
-    /// and a search by halves is faster.
+    /// Sets the least number of runs at which indices are sorted: fewer ends stay in the processor's caches, and a
+    /// binary search is faster.
     pub unsorted_min_runs: usize,
-    /// The most runs for each valid index at which indices are sorted and merged.
+    /// Sets the greatest number of runs for each valid index at which indices are sorted and merged.
     pub unsorted_runs_per_index: usize,
 }

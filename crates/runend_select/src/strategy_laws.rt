@@ -8,9 +8,9 @@ pub use counts::{
     search_of_four_indices, search_of_six_indices, sort_of_four_indices,
 };
 
-/// Each strategy answers, at each index that is not null, the number of ends at or below the row's
-/// position, and that is the run of the row. So the four agree there. This function does nothing:
-/// its clause is the law. For dictionary cascades.
+/// Proves that each strategy returns, for each index that is not null, the number of ends at or
+/// below the row's position, and that it is the run of the row. So the four agree there. This
+/// function does nothing: its clause is the law. For dictionary cascades.
 pub fn strategies_agree()
     ensures { StrategiesAgree }
 {}

@@ -9,8 +9,8 @@ use column_core::{CountedEnds, Mask, NativePType, UnsignedPType, VortexError, Vo
 use runend_windows::RunWriter;
 use std::alloc::Allocator;
 
-/// Returns the run of each of `length` rows, from position `offset` on. It tests an end for each row and
-/// one for each run but the last, at most. Refused only as `OutOfMemory`, before any test.
+/// Returns the run of each of `length` rows, from position `offset` on. It tests at most one end for each row and one
+/// for each run but the last. Refused only as `OutOfMemory`, before any test.
 pub fn run_index_table<E: UnsignedPType, A: Allocator + Copy>(
     alloc: A,
     ends: &mut CountedEnds<'_, E>,
@@ -60,7 +60,7 @@ pub fn physical_indices_table<T: NativePType, A: Allocator + Copy>(
     }
 }
 
-// The table's item at each valid index, put into room that is there, where `ALL` says that no index is null.
+// The table's item at each valid index, put into room that is there. `ALL` says that no index is null.
 fn looked_up<const ALL: bool, T: NativePType, A: Allocator>(
     table: &[u64],
     mut runs: Vec<u64, A>,

@@ -58,7 +58,7 @@ pub(crate) fn taken_rows<T: NativePType, A: Allocator + Copy>(
     taken
 }
 
-// Which indices are valid, of so many.
+// Which of `count` indices are valid.
 fn mask_of<A: Allocator + Copy>(
     alloc: A,
     validity: &Validity<A>,
@@ -79,7 +79,7 @@ fn mask_of<A: Allocator + Copy>(
     }
 }
 
-// Does the session merge indices that are sorted with so many runs? Then they need not be looked at again.
+// Does the session merge sorted indices with this number of runs? Then they need not be looked at again.
 fn merges_sorted<A: Allocator + Copy>(runs: usize, mask: &Mask<A>, ctx: &ExecutionCtx<A>) -> bool
     ensures { IsTrue result
         ↔ (runs ≤ count_by (λ bit. bit) (mask_bits mask.now) * ctx.now.thresholds.sorted_runs_per_index) }
@@ -88,7 +88,7 @@ fn merges_sorted<A: Allocator + Copy>(runs: usize, mask: &Mask<A>, ctx: &Executi
     runs <= mask.true_count().saturating_mul(per_index)
 }
 
-// The run of each valid index, of indices of `count` rows from position `offset` on.
+// The run of each valid index among `count` rows from position `offset` on.
 fn runs_by<E: UnsignedPType, T: NativePType, A: Allocator + Copy>(
     ends: &[E],
     offset: usize,
@@ -116,7 +116,7 @@ fn runs_by<E: UnsignedPType, T: NativePType, A: Allocator + Copy>(
     physical_indices(&mut counted, offset, count, indices, mask, ctx)
 }
 
-// The run of each valid index, of indices of `count` rows from position `offset` on, for the ends of a buffer.
+// The run of each valid index among `count` rows from position `offset` on, for the ends of a buffer.
 fn runs_among<T: NativePType, A: Allocator + Copy>(
     ends: &PrimitiveValues<A>,
     offset: usize,

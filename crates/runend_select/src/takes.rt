@@ -24,8 +24,8 @@ use column_ops::checked_index;
 use runend_array::{ArrayRef, ConstantArray, ExecutionCtx, RunEndArray, RunEndArrayExt};
 use std::alloc::Allocator;
 
-/// Returns the rows at the indices, null for null: a constant null where there is an index and each is null, else flat.
-/// The type has null where the column's or the indices' has. Refused only as `OutOfMemory`.
+/// Returns the rows at the indices, null for null: a constant null where there are indices and all of them are null,
+/// else a flat column. Its type has null where the column's or the indices' has. Refused only as `OutOfMemory`.
 pub fn take_indices_unchecked<T: NativePType, A: Allocator + Copy>(
     array: &RunEndArray<A>,
     indices: &[T],
@@ -47,8 +47,8 @@ pub fn take_indices_unchecked<T: NativePType, A: Allocator + Copy>(
     take_in_order(array, indices, validity, false, ctx)
 }
 
-/// Returns the rows at the indices, null for null: a constant null where there is an index and each is null, else flat.
-/// The type has null where the column's or the indices' has.
+/// Returns the rows at the indices, null for null: a constant null where there are indices and all of them are null,
+/// else a flat column. Its type has null where the column's or the indices' has.
 ///
 /// Refused as `OutOfBounds`, with the index and the number of rows, at the first valid index that is
 /// negative or not below that number, however little memory there is; else only as `OutOfMemory`.
@@ -72,7 +72,7 @@ pub fn take<A: Allocator + Copy>(
     match_each_native!(indices.values(), items => take_native(array, items.as_slice(), validity, ctx))
 }
 
-// Is the index at a place valid? No bit is read where all are.
+// Is the index at a place valid? If all are, no bit is read.
 #[inline(always)]
 fn is_valid<const ALL: bool, A: Allocator>(validity: &Validity<A>, place: usize) -> bool
     requires there { HasRow (form_of validity.now) place }
@@ -86,7 +86,7 @@ fn is_valid<const ALL: bool, A: Allocator>(validity: &Validity<A>, place: usize)
 }
 
 // The row of the index at a place, or `None` where the index is null. Refused as `OutOfBounds`, with the index and the
-// number of rows, where it is none of `count` rows. `ALL` says that none is null.
+// number of rows, where it does not name one of `count` rows. `ALL` says that no index is null.
 #[inline(always)]
 fn checked_row<const ALL: bool, T: NativePType, A: Allocator>(
     indices: &[T],
@@ -110,8 +110,9 @@ fn checked_row<const ALL: bool, T: NativePType, A: Allocator>(
     }
 }
 
-// Is each index null, or one of `count` rows? True says that no valid index is below a valid one before it. Refused as
-// `OutOfBounds`, with the index and the number of rows, at the first that is not. `ALL` says that none is null.
+// Does each index that is not null name one of `count` rows? True says that no valid index is below a valid one before
+// it. Refused as `OutOfBounds`, with the index and the number of rows, at the first that does not. `ALL` says that no
+// index is null.
 fn check_each<const ALL: bool, T: NativePType, A: Allocator>(
     indices: &[T],
     validity: &Validity<A>,
@@ -135,8 +136,8 @@ fn check_each<const ALL: bool, T: NativePType, A: Allocator>(
     Ok(sorted)
 }
 
-// Is each index null, or one of `count` rows, where some may be null? True says that no valid index is below a valid
-// one before it. Refused as `OutOfBounds`, with the index and the number of rows, at the first that is not.
+// Does each index that is not null name one of `count` rows? Some may be null. True says that no valid index is below a
+// valid one before it. Refused as `OutOfBounds`, with the index and the number of rows, at the first that does not.
 fn check_indices<T: NativePType, A: Allocator>(
     indices: &[T],
     validity: &Validity<A>,
@@ -156,7 +157,7 @@ fn check_indices<T: NativePType, A: Allocator>(
     }
 }
 
-// What `take_indices_unchecked` answers, where `sorted` may say that no valid index is below a valid one before it.
+// Returns what `take_indices_unchecked` returns. `sorted` may say that no valid index is below a valid one before it.
 fn take_in_order<T: NativePType, A: Allocator + Copy>(
     array: &RunEndArray<A>,
     indices: &[T],
@@ -187,7 +188,7 @@ fn take_in_order<T: NativePType, A: Allocator + Copy>(
     taken.into_array(alloc)
 }
 
-// Is there a row, and is each null?
+// Is there a row, and are all null?
 fn are_all_null<A: Allocator>(validity: &Validity<A>, count: usize) -> bool
     requires { HasLength (form_of validity.now) count }
     ensures { IsTrue result ↔ ((0 < count) × (count_by (λ bit. bit) (validity_flags validity.now count) ≡ 0)) }
@@ -200,7 +201,7 @@ fn are_all_null<A: Allocator>(validity: &Validity<A>, count: usize) -> bool
     }
 }
 
-// Null in each of `count` rows, of the type with null.
+// Null in each of `count` rows, of this type with null.
 fn null_rows<A: Allocator>(dtype: DType, count: usize) -> ConstantArray<A>
     ensures { result ≡ record { dtype = dtype_with dtype Nullable; value = None; count = count } }
 {

@@ -1,4 +1,4 @@
--- The distinct rows of a column, and how many rows each of them is.
+-- The distinct rows of a column, and how many rows are equal to each.
 use Rattle.std.specs.Prelude.{◌≡◌, ℕ, pos, All, Contains, List, Option, Some, count_by, map}
 use Rattle.std.specs.Ordering.{is_eq}
 use Rattle.column_base.specs.declared.dtype.DType.{DType}

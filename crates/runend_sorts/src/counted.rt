@@ -11,17 +11,17 @@ use column_core::{NativePType, PrimitiveArray, Validity, VortexError, VortexResu
 use runend_array::{ArrayRef, ExecutionCtx, array_of};
 use std::alloc::Allocator;
 
-/// Holds the distinct rows of a column, and how many rows each of them is.
+/// Holds the distinct rows of a column, and how many rows are equal to each.
 #[derive(Drop)]
 pub struct ValueCounts<A: Allocator> {
-    /// The distinct rows in order, null first, flat.
+    /// Holds the distinct rows in order, null first, flat.
     pub values: ArrayRef<A>,
-    /// For each of them, how many rows are equal to it: a flat `u64` without null.
+    /// Counts for each of them how many rows are equal to it: a flat `u64` column without null.
     pub counts: ArrayRef<A>,
 }
 
 /// Returns the distinct rows of a column of any form in order, null first, and how many rows are equal to each. Sorts
-/// runs, not rows. Refused as `Unsupported` exactly for lists, before any memory is taken, else as `OutOfMemory` only.
+/// runs, not rows. Refused as `Unsupported` exactly for lists, before any memory is taken, else only as `OutOfMemory`.
 pub fn value_counts<A: Allocator + Copy>(
     array: &ArrayRef<A>,
     ctx: &mut ExecutionCtx<A>,

@@ -1,4 +1,4 @@
-//! How many rows runs have, by where they end.
+//! How many rows runs have, by their ends.
 ghost use Rattle.std.specs.Prelude.{◌≡◌, IfOk, IsOkUnless, length, map, unsigned_abs};
 ghost use Rattle.column_base.specs.Numbers.{numbers, ptype_of};
 ghost use Rattle.column_base.specs.Types.{IsUnsigned};
@@ -10,7 +10,7 @@ use column_base::match_each_unsigned;
 use column_core::{PrimitiveArray, PrimitiveValues, UnsignedPType, VortexError, VortexResult};
 use std::alloc::Allocator;
 
-/// Returns how many rows each run has, of which the first begins at row 0. Refused as `OutOfMemory` only.
+/// Returns how many rows each run has; the first one begins at row 0. Refused only as `OutOfMemory`.
 pub(crate) fn lengths_of<A: Allocator + Copy>(
     alloc: A,
     ends: &PrimitiveArray<A>,
@@ -22,7 +22,7 @@ pub(crate) fn lengths_of<A: Allocator + Copy>(
     lengths_among(alloc, ends.values())
 }
 
-// The same, of the numbers that the ends are.
+// The same for the numbers that the ends are.
 #[tactic(auto, using(runend_windows::proofs::Ends::ends_stored))]
 fn lengths_among<A: Allocator + Copy>(
     alloc: A,
@@ -35,7 +35,7 @@ fn lengths_among<A: Allocator + Copy>(
     match_each_unsigned!(ends, items => lengths_as(alloc, items.as_slice()))
 }
 
-// The same, of ends of one type.
+// The same for ends of one type.
 fn lengths_as<E: UnsignedPType, A: Allocator>(alloc: A, ends: &[E]) -> VortexResult<Vec<u64, A>>
     ensures only { IsOkUnless result VortexError.OutOfMemory }
     ensures lengths { IfOk result (λ lengths. lengths.items ≡ lengths_in (map E.natural ends.now)) }

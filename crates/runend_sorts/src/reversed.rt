@@ -13,8 +13,8 @@ use std::alloc::Allocator;
 
 /// Returns the rows of a column of any form in reverse order: row i is row n - 1 - i of n. A constant stays one; any
 /// other column becomes the run column of the only tight exact cover of the rows, with ends of the least unsigned type
-/// and computed flat values. Takes a step for each run. Refused as `Unsupported` exactly for lists, before any memory
-/// is taken, else as `OutOfMemory` only.
+/// that holds them, and flat values. Takes a step for each run. Refused as `Unsupported` exactly for lists, before any
+/// memory is taken, else only as `OutOfMemory`.
 pub fn reverse<A: Allocator + Copy>(
     array: &ArrayRef<A>,
     ctx: &mut ExecutionCtx<A>,
@@ -36,7 +36,7 @@ pub fn reverse<A: Allocator + Copy>(
     }
 }
 
-// The encoding of the rows in reverse order. Refused as `OutOfMemory` only.
+// The encoding of the rows in reverse order. Refused only as `OutOfMemory`.
 fn reversed_runs<A: Allocator + Copy>(
     array: &ArrayRef<A>,
     ctx: &mut ExecutionCtx<A>,

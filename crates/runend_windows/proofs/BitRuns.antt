@@ -1,4 +1,4 @@
--- Buffers of bits that are written run by run: what is written, and the background behind it.
+-- Buffers of bits that are written run by run: what is written, and the background after it.
 use Rattle.std.proofs.Common.{◌≡◌, ◌+◌, ◌-◌, ◌<◌, ◌≤◌, ◌∙◌, ℕ, zero, suc, List, [], ◌∷◌, ◌++◌, Bool, true, false, Some, cond, length, take, drop, refl, sym, ap, arith, rules, add-one, length-append}
 use Rattle.std.specs.Prelude.{◌*◌, ◌↔◌, IsTrue, count_by, replicate, unwrap_or}
 use Rattle.std.specs.List.{slice_get}
@@ -17,7 +17,7 @@ pub record Extended (old bits : List Bool) (written end : ℕ) (bit background :
   pub rows : take end bits ≡ take written old ++ replicate (end - length (take written old)) bit
   pub left : drop end bits ≡ drop (end - length (take written old)) (drop written old)
 
--- nothing is behind the last bit
+-- nothing is after the last bit
 over-all : (bits : List Bool) (end : ℕ) (background : Bool) → length bits ≡ end → IsOverBackground bits end background
 over-all bits end background long =
     let none : length bits - end ≡ 0 = omega arith in
@@ -38,14 +38,14 @@ length-copies old written end bit within more =
     let added = length-replicate (end - length rows) bit in
     (long, omega (arith, length-append rows (replicate (end - length rows) bit)))
 
--- what is left behind a later place
+-- what is left after a later place
 left-later : (old : List Bool) (written end : ℕ) → written ≤ length old → written < end → drop end old ≡ drop (end - length (take written old)) (drop written old)
 left-later old written end within more =
     let long = length-take-le written old within in
     let place : written + (end - length (take written old)) ≡ end = omega arith in
     ap (λ n. drop n old) (sym place) ∙ sym (drop-drop (end - length (take written old)) written old)
 
--- the written bits alone, and the copies appended
+-- only the written bits, and the copies appended
 pub Extended-append : (old bits : List Bool) (written end : ℕ) (bit background : Bool) → IsOverBackground old written background → written < end → length old < end
     → bits ≡ take written old ++ replicate (end - written) bit → Extended old bits written end bit background
 Extended-append old bits written end bit background over more past is =
@@ -64,7 +64,7 @@ Extended-append old bits written end bit background over more past is =
 split : (bits : List Bool) (written : ℕ) (background : Bool) → IsOverBackground bits written background → bits ≡ take written bits ++ replicate (length bits - written) background
 split bits written background over = sym (take-append-drop written bits) ∙ ap (λ rest. take written bits ++ rest) over.behind
 
--- a later place has the background behind it too
+-- a later place has the background after it too
 behind-later : (bits : List Bool) (written end : ℕ) (background : Bool) → IsOverBackground bits written background → written < end → end ≤ length bits
     → drop end bits ≡ replicate (length bits - end) background
 behind-later bits written end background over more within =
@@ -161,7 +161,7 @@ count-all bits marks k paired all =
     let long : length stored ≡ length bits = length-map (optionals bits marks) (λ row. unwrap_or row false) ∙ length-optionals bits marks paired in
     ap (λ bs. count_by (λ b. b) bs) (take-all stored k (long ∙ sym all))
 
--- where each mark is true the bits are stored as they are, and where none is there is no true bit
+-- where each mark is true the bits are stored as they are, and where none is, all bits are false
 blanked-all : (bits : List Bool) → blanked false (optionals bits (replicate (length bits) true)) ≡ bits
 blanked-all [] = refl
 blanked-all (x ∷ bits) = ap (λ rest. x ∷ rest) (blanked-all bits)

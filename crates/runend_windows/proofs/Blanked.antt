@@ -25,7 +25,7 @@ AreBlankAtNulls-blanked blank (x ∷ items) [] = tt
 AreBlankAtNulls-blanked blank (x ∷ items) (true ∷ flags) = ((λ (e : true ≡ false). cc), AreBlankAtNulls-blanked blank items flags)
 AreBlankAtNulls-blanked blank (x ∷ items) (false ∷ flags) = ((λ _. refl), AreBlankAtNulls-blanked blank items flags)
 
--- the blank item under null, told by index
+-- the blank item under null, by index
 pub AreBlankAtNulls-at : {B : Type 0} (blank : B) (items : List B) (flags : List Bool) (k : ℕ) (x : B) → AreBlankAtNulls blank items flags → slice_get items k ≡ Some x
     → slice_get flags k ≡ Some false → x ≡ blank
 AreBlankAtNulls-at blank [] flags k x blanked here flag = cc

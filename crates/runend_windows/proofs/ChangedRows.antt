@@ -106,7 +106,7 @@ IsTightCover-of_changes blank rows bits changes some small =
     let whole : OpenEnds blank rows (length bits) (set_indices_of bits) value = subst (λ (k : ℕ). OpenEnds blank rows k (filter (λ i. slice_index_or bits i false) (range_with_len 0 k)) value) all (walk blank rows bits changes n value (omega arith) here) in
     OpenEnds-done blank rows (length bits) (set_indices_of bits) value small changes.counted whole
 
--- a place of a true bit comes behind those before it
+-- a place of a true bit comes after those before it
 all-middle : {B : Type 0} (P : B → Type 0) (xs ys : List B) (x : B) → All P (xs ++ x ∷ ys) → P x
 all-middle P [] ys x all = All-head P x ys all
 all-middle P (y ∷ xs) ys x all = all-middle P xs ys x (All-tail P y (xs ++ x ∷ ys) all)

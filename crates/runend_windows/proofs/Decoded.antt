@@ -45,7 +45,7 @@ IsRunAt-of_reached ends offset count (suc run) i increasing h low high = record 
   ];
 }
 
--- before the first run there is no row
+-- before the first run there are 0 rows
 pub Decoded-none : {A : Type 0} (ends : List ℕ) (values : List A) (offset count : ℕ) → Decoded ends values offset count 0 []
 Decoded-none ends values offset count = record { counted = refl; each = λ i h. absurd (omega arith) }
 

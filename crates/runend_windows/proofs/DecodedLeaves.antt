@@ -84,7 +84,7 @@ valid_run blank ends values values_validity offset count items validity row wind
       same = d.covered.each row (omega arith) ∙ blanked-at_flag blank values (flags values_validity (length values)) (run_at ends (offset + row)) here flagged;
     }
 
--- an item that stands in two lists is read from both with a blank one
+-- an item that is in two lists is read from both with a blank one
 same_view : {B : Type 0} (blank : B) (xs ys : List B) (i k : ℕ) → i < length xs → k < length ys → slice_get xs i ≡ slice_get ys k → get_or xs i blank ≡ get_or ys k blank
 same_view blank xs ys i k lt within same = get_or_from_slice_get xs i (get_or ys k blank) blank (same ∙ slice_get-get_or ys k blank within)
 

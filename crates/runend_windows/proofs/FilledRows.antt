@@ -32,7 +32,7 @@ filled_inside (x ∷ old) (suc start) (suc stop) (suc i) b within low high =
     let less : suc stop - suc start ≡ stop - start = omega arith in
     rw less (filled_inside old start stop i b (omega arith) (omega arith) (omega arith))
 
--- behind copies that are written over the front
+-- after copies that are written over the front
 past_copies : {A : Type 0} (old : List A) (stop i : ℕ) (b : A) → stop ≤ length old → stop ≤ i → slice_get (replicate stop b ++ drop stop old) i ≡ slice_get old i
 past_copies old zero i b within h = refl
 past_copies [] (suc stop) i b within h = absurd (omega arith)
@@ -136,7 +136,7 @@ pub record FilledBy (ends : List ℕ) (offset count first : ℕ) (runs : ℕ) (b
   pub before : (i : ℕ) → i < count → run_at ends (offset + i) < first → slice_get new i ≡ slice_get old i
   pub behind : (i : ℕ) → i < count → first + 64 ≤ run_at ends (offset + i) → slice_get new i ≡ slice_get old i
 
--- the row of a run whose bit is told
+-- the row of a run whose bit is known
 filled_row : (ends : List ℕ) (offset count first runs : ℕ) (start bit : Bool) (old new : List Bool) (i j w : ℕ) → FilledBy ends offset count first runs (not start) old new → i < count
     → run_at ends (offset + i) ≡ first + j → bit_at runs j ≡ cond start (1 - w) w → w ≡ one_if bit → slice_get old i ≡ Some start → slice_get new i ≡ Some bit
 filled_row ends offset count first runs true true old new i j w fills small at unlike is here = fills.kept i small j at (omega arith) ∙ here

@@ -36,7 +36,7 @@ item_at [] k h = absurd (omega arith)
 item_at (x ∷ xs) zero h = (x, refl)
 item_at (x ∷ xs) (suc k) h = item_at xs k (omega arith)
 
--- a tight cover stays one under a function that tells all values apart
+-- a tight cover stays one under a function that distinguishes all values
 pub IsTightCover-map : {X Y : Type 0} (f : X → Y) → ((x y : X) → f x ≡ f y → x ≡ y) → (rows : List X) (ends : List ℕ) (values : List X)
     → IsTightCover rows ends values → IsTightCover (map f rows) ends (map f values)
 IsTightCover-map {X} {Y} f one rows ends values c =

@@ -86,7 +86,7 @@ shown_at-pushed start stop stop' (end ∷ ends) (first ∷ values) next later ti
     shown_at-past end (ends ++ stop' ∷ []) first (values ++ next ∷ []) stop (Tiles-le end stop ends values tiles.2)
     ∙ shown_at-pushed end stop stop' ends values next later tiles.2
 
--- the parts of tiles, told by index
+-- the parts of tiles, by index
 Tiles-paired : {A : Type 0} (start stop : ℕ) (ends : List ℕ) (values : List A) → Tiles start stop ends values → length values ≡ length ends
 Tiles-paired start stop [] [] tiles = refl
 Tiles-paired start stop [] (value ∷ values) tiles = absurd tiles
@@ -120,7 +120,7 @@ Tiles-differ start stop (end ∷ ends) (value ∷ next_value ∷ values) tiles z
 Tiles-differ start stop (end ∷ ends) (value ∷ next_value ∷ values) tiles (suc k) d h =
     let at = Tiles-differ end stop ends (next_value ∷ values) tiles.2 k d (omega arith) in rw add-one (rw add-one at at)
 
--- where there is no run, tiles from 0 have no row
+-- without runs, tiles from 0 have 0 rows
 Tiles-none : {A : Type 0} (stop : ℕ) (ends : List ℕ) (values : List A) → Tiles 0 stop ends values → length ends ≡ 0 → stop ≡ 0
 Tiles-none stop [] [] tiles none = sym tiles
 Tiles-none stop [] (value ∷ values) tiles none = absurd tiles

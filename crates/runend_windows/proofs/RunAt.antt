@@ -1,4 +1,4 @@
--- Which run a position is in: `run_at` step by step along the ends, against the fact told by index, and against a
+-- Which run a position is in: `run_at` step by step along the ends, against the fact given by index, and against a
 -- count.
 use Rattle.std.proofs.Common.{◌≡◌, ◌↔◌, ℕ, suc, ◌+◌, ◌-◌, ◌<◌, ◌≤◌, List, [], ◌∷◌, length, slice_index, count_by, cond, nat_lt, nat_le, refl, sym, subst, ◌∙◌, arith, add-one, inl, inr}
 use Rattle.std.proofs.lemmas.Bool.{cases_lt, lt-ltb, le-ltb, ltb-true, ltb-false, le-leb, lt-leb}
@@ -33,7 +33,7 @@ pub run_at_is : (ends : List ℕ) (position run : ℕ) → run ≤ length ends �
 run_at_is ends position run short before past = position_or_len_is (λ e. nat_lt position e) ends run 0 short
     (λ k h. le-ltb position (slice_index ends k) (before k h)) (λ h. lt-ltb position (slice_index ends run) (past h))
 
--- where there is such a run, it is the one told by index
+-- where there is such a run, it is the one given by index
 pub IsRunAt-run_at : (ends : List ℕ) (position : ℕ) → run_at ends position < length ends → IsRunAt ends position (run_at ends position)
 IsRunAt-run_at ends position h = record { within = h; past = ends_past ends position h; least = λ j lt. ended_before ends position j lt }
 
@@ -124,6 +124,6 @@ run_of_row_within ends offset count row window h =
     let last = window.last (omega arith) in
     run_at_within ends (offset + row) (runs_of_rows ends offset count window (omega arith)) (omega arith)
 
--- and so it is told by index
+-- and so it is given by index
 pub IsRunAt-of_row : (ends : List ℕ) (offset count row : ℕ) → IsWindow ends offset count → row < count → IsRunAt ends (offset + row) (run_at ends (offset + row))
 IsRunAt-of_row ends offset count row window h = IsRunAt-run_at ends (offset + row) (run_of_row_within ends offset count row window h)

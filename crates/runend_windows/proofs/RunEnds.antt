@@ -35,7 +35,7 @@ run_at-of_reach ends (suc run) i ordered h low high =
     (λ k lt. let before : slice_index ends k ≤ slice_index ends run = ordered k run 0 (omega arith) (omega arith) in omega arith)
     (λ _. high)
 
--- before the first run there is no row
+-- before the first run there are 0 rows
 Filled-none : {X : Type 0} (ends : List ℕ) (values : List X) → Filled ends values 0 []
 Filled-none ends values = record { counted = refl; each = λ i h. absurd (omega arith) }
 
@@ -105,7 +105,7 @@ pub Pulled-more : {S X : Type 0} (gives : S → Option ℕ → S → Type 0) (st
     → AreRunEnds gives start runs count ends → run < runs → Pulled gives s ends values run rows → ¬ (gives s None t)
 Pulled-more gives start s t runs count ends values run rows given h pulled = let paired = given.paired in not_at_end gives s t ends run (omega arith) pulled.left
 
--- the end that it gives is no further than the last row
+-- the end that it gives is at most the last row
 pub Pulled-within : {S X : Type 0} (gives : S → Option ℕ → S → Type 0) (start s t : S) (runs count : ℕ) (ends : List ℕ) (values : List X) (run : ℕ) (rows : List X) (end : ℕ)
     → AreRunEnds gives start runs count ends → run < runs → gives s (Some end) t → Pulled gives s ends values run rows → end ≤ count
 Pulled-within gives start s t runs count ends values run rows end given h step pulled =
@@ -124,7 +124,7 @@ Pulled-next gives start s t runs count ends values run rows end value copies giv
     let same = next.0 in
     record { left = next.1; filled = Filled-next ends values run rows value copies given.ordered (omega arith) here (omega arith) pulled.filled }
 
--- the same where rows and values stand for numbers
+-- the same where rows and values represent numbers
 pub Pulled-next_mapped : {S T : Type 0} (gives : S → Option ℕ → S → Type 0) (start s t : S) (runs count : ℕ) (ends : List ℕ) (values : List ℤ) (run : ℕ) (number : T → ℤ) (rows written : List T)
     (end : ℕ) (value : T) → AreRunEnds gives start runs count ends → run < runs → gives s (Some end) t → slice_get values run ≡ Some (number value)
     → written ≡ rows ++ replicate (end - length rows) value → Pulled gives s ends values run (map number rows) → Pulled gives t ends values (run + 1) (map number written)

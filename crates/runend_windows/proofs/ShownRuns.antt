@@ -1,4 +1,4 @@
--- What runs show at a position, by one recursion along ends and values, and covers told by it.
+-- What runs show at a position, by one recursion along ends and values, and covers by it.
 use Rattle.std.proofs.Common.{◌≡◌, ℕ, ◌+◌, ◌<◌, ◌≤◌, List, [], ◌∷◌, Option, Some, None, length, if◌then◌else◌, nat_lt, sym, ◌∙◌, ap, arith, add-one, inl, inr}
 use Rattle.std.proofs.lemmas.Bool.{cases_lt}
 use Rattle.std.proofs.lemmas.Bool.Decides.{nat_tests}
@@ -36,7 +36,7 @@ shown_at-run_at (end ∷ ends) (value ∷ values) position paired = elim (cases_
       ∙ ap (slice_get (value ∷ values)) (sym (run_at-past end ends position past ∙ add-one (run_at ends position)))
 ]
 
--- and of the run told by index
+-- and of the run given by index
 pub shown_at-run : {A : Type 0} (ends : List ℕ) (values : List A) (position run : ℕ) → length values ≡ length ends → IsRunAt ends position run
     → shown_at ends values position ≡ slice_get values run
 shown_at-run ends values position run paired r = shown_at-run_at ends values position paired ∙ ap (slice_get values) (run_at-from_IsRunAt ends position run r)

@@ -7,7 +7,7 @@ use Rattle.runend_windows.specs.Cover.{IsTightCover}
 use Rattle.runend_windows.specs.Starts.{items_at, starts_from}
 use Rattle.runend_windows.proofs.Grow.{Open, Open-first, Open-same, Open-next, Open-done}
 
--- where the run starts that comes behind closed runs
+-- where the run starts that comes after closed runs
 abbrev pub start_behind : ℕ → List ℕ → ℕ
 start_behind start [] = start
 start_behind start (end ∷ ends) = start_behind end ends

@@ -6,7 +6,7 @@ use Rattle.runend_windows.specs.Window.{run_at}
 use Rattle.runend_windows.proofs.RunAt.{run_at-le, run_at-le-length}
 use Rattle.runend_windows.proofs.Places.{run_at-beyond}
 
--- the run of a row is at most so many runs behind this one
+-- the run of a row is at most `left` runs after this one
 pub record IsNear (ends : List ℕ) (row run left : ℕ) : Type 0 where
   pub from : run ≤ run_at ends row
   pub to : run_at ends row ≤ run + left

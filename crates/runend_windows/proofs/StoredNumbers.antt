@@ -47,7 +47,7 @@ pub same-from_ne : {S : Type 0} (eq : S → S → Bool) (cmp : S → S → Order
     → (a b : Option S) (r : Bool) → r ≡ not (option_eq eq a b) → r ≡ false → option_map number a ≡ option_map number b
 same-from_ne eq cmp is_default number law a b r e t = same-from_option_eq eq cmp is_default number law a b (not-false (option_eq eq a b) (sym e ∙ t))
 
--- what an optional value is stored as, beside its flag
+-- what an optional value is stored as, with its flag
 pub stored-row : {S : Type 0} (number : S → ℤ) (is_default : S → Type 0) (row : Option S) (x : S) (b : Bool) → b ≡ is_some row → UnwrapsOrElse row is_default x
     → (if b then Some (number x) else None) ≡ option_map number row
 stored-row number is_default None x b e u = rw e refl

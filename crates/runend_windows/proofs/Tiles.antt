@@ -1,5 +1,5 @@
 -- Runs as tiles of a range of rows, by one recursion along ends and values. The laws of tight covers are proved by it,
--- and stand at the end.
+-- and are at the end.
 use Rattle.std.proofs.Common.{◌≡◌, ◌≢◌, ◌↔◌, ℕ, suc, ◌+◌, ◌<◌, ◌≤◌, List, [], ◌∷◌, Some, length, slice_index, refl, sym, subst, ◌∙◌, ap, arith, add-one, zero-add, inl, inr}
 use Rattle.std.proofs.lemmas.Bool.{cases_lt}
 use Rattle.std.proofs.lemmas.Option.{slice_get_within, get_or_from_slice_get}

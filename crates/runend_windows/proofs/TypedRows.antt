@@ -1,4 +1,4 @@
--- What a typed decoder has computed, told by the items and the flags that fill its rows.
+-- What a typed decoder has computed, by the items and the flags that fill its rows.
 use Rattle.std.proofs.Common.{subst, ◌≡◌, ℕ, ℤ, pos, zero, suc, ◌+◌, ◌<◌, get_or, List, [], ◌∷◌, Bool, true, false, Option, Some, None, length, map, replicate, refl, sym, ◌∙◌, ap, arith}
 use Rattle.std.specs.List.{slice_get, range_with_len}
 use Rattle.std.specs.Prelude.{All}
@@ -64,7 +64,7 @@ run_rows-of_Fills rows ends values count fills = equal_by_slice_get rows (run_ro
     let start : 0 + i ≡ i = omega arith in
     row ∙ ap Some (sym value) ∙ sym (rw start at (slice_get-run_rows ends values 0 count i (omega arith))))
 
--- the blank item under null, told by index
+-- the blank item under null, by index
 blank-of_stored : {B : Type 0} (blank : B) (items : List B) (marks : List Bool) (k : ℕ) (x : B) → slice_get (blanked blank (optionals items marks)) k ≡ Some x
     → slice_get marks k ≡ Some false → x ≡ blank
 blank-of_stored blank [] marks k x here mark = cc

@@ -25,7 +25,7 @@ pub IsTightCover-valid : (numbers : List ℤ) (ends : List ℕ) (values : List �
 IsTightCover-valid numbers ends values n m e f c =
     rw (optionals-all_valid numbers n e, optionals-all_valid values m f) (IsTightCover-map (λ (x : ℤ). Some x) (λ x y same. cc) numbers ends values c)
 
--- no number stands under null
+-- no number is under null
 pub AreZeroAtNulls-valid : (numbers : List ℤ) (n : ℕ) → AreZeroAtNulls numbers (replicate n true)
 AreZeroAtNulls-valid [] n = tt
 AreZeroAtNulls-valid (x ∷ numbers) zero = tt

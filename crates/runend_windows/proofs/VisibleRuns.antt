@@ -1,4 +1,4 @@
--- Which runs are visible, and where the rows of a window stand among them.
+-- Which runs are visible, and where the rows of a window are among them.
 use Rattle.std.proofs.Common.{◌≡◌, ℕ, ◌+◌, ◌-◌, ◌<◌, ◌≤◌, zero, suc, List, Option, None, length, arith, ap, ◌∙◌, sym, refl, slice_index, slice_range, get_or, ◌⊎◌, inl, inr, add-zero}
 use Rattle.std.proofs.lemmas.Bool.{cases_lt}
 use Rattle.std.proofs.lemmas.List.{get_or_default}

@@ -48,7 +48,7 @@ pub some-without_nulls : (nullability : Nullability) (n : ℕ) → HasRowIfAllNu
 some-without_nulls NonNullable n = λ null. cc
 some-without_nulls Nullable n = λ null. cc
 
--- rows told by bits are all null only where there is one
+-- rows with bits are all null only where there is a row
 pub some-of_bits : (form : ValidityForm) (bits : List Bool) (count : ℕ) → length bits ≡ count → (form ≡ AllNull) ↔ ((0 < length bits) × All (λ bit. bit ≡ false) bits) → HasRowIfAllNull form count
 some-of_bits form bits count counted all_null null = let some = (all_null.0 null).0 in omega arith
 

@@ -1,12 +1,12 @@
 -- What a writer of runs of bits holds, and what it starts from.
 use Rattle.std.specs.Prelude.{◌≡◌, ◌-◌, ◌*◌, ◌≤◌, ℕ, List, [], Bool, if◌then◌else◌, nat_lt, count_by, drop, length, replicate}
 
--- the bits that are written, and those that stand behind them before any run is written there
+-- the bits that are written, and those that are after them before any run is written there
 pub record BitRunsForm : Type 0 where
   pub written : List Bool
   pub prefilled : List Bool
 
--- behind the bits that are written there is the background alone
+-- after the bits that are written there is only the background
 pub record IsOverBackground (bits : List Bool) (written : ℕ) (background : Bool) : Type 0 where
   pub within : written ≤ length bits
   pub behind : drop written bits ≡ replicate (length bits - written) background

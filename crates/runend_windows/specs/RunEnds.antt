@@ -11,8 +11,8 @@ use Rattle.column_core.specs.Value.{Value, Truth, Number, Single}
 use Rattle.column_core.specs.Optionals.{optionals}
 use Rattle.runend_windows.specs.Window.{run_at, last_end}
 
--- the iterator gives these ends and no more: one for each run, none below the one before it, and the last behind the
--- last of `count` rows; so there is no run only where there is no row
+-- the iterator gives these ends and no more: one for each run, none below the one before it, and the last one after the
+-- last of `count` rows; so a column without runs has no rows
 pub record AreRunEnds {S : Type 0} (gives : S → Option ℕ → S → Type 0) (run_ends : S) (runs count : ℕ) (ends : List ℕ) : Type 0 where
   pub yields : AlwaysYields gives (λ end. end) run_ends ends
   pub paired : length ends ≡ runs
@@ -31,7 +31,7 @@ masked_values numbers bits = map (option_map Single) (map (option_map Number) (o
 abbrev pub masked_truths : List Bool → List Bool → List (Option Value)
 masked_truths truths bits = map (option_map Single) (map (option_map Truth) (optionals truths bits))
 
--- a type without null stands only under a mask that is all true by its form
+-- a type without null goes only with a mask that is all true by its form
 abbrev pub FitsMask : {A : Type 0} → Nullability → Mask A → Type 0
 FitsMask Nullable mask = Unit {0}
 FitsMask NonNullable (AllTrue count) = Unit {0}

@@ -1,8 +1,9 @@
--- Visible runs: those that some row of a window shows. Hidden runs, before and behind them, decide nothing.
+-- Visible runs: those that some row of a window shows. Hidden runs, before and after them, decide nothing.
 use Rattle.std.specs.Prelude.{◌≡◌, ℕ, zero, suc, ◌+◌, ◌<◌, List, [], length, slice_index_or, slice_range}
 use Rattle.runend_windows.specs.Window.{run_at}
 
--- of a list with an item for each run, the items of the visible runs of `count` rows from position `offset` on
+-- the items of the visible runs, from a list with an item for each run; `count` rows from position `offset` on are
+-- shown
 abbrev pub visible : {B : Type 0} → List ℕ → ℕ → ℕ → List B → List B
 visible ends offset zero items = []
 visible ends offset (suc n) items = slice_range items (run_at ends offset) (run_at ends (offset + n) + 1)

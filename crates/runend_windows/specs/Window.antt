@@ -7,13 +7,13 @@ use Rattle.std.specs.List.Sorted.{IsStrictlyIncreasing}
 abbrev pub run_at : List ℕ → ℕ → ℕ
 run_at ends position = position_or_len (λ e. nat_lt position e) ends
 
--- the run of a position, told by index: it ends past the position, and each run before it does not
+-- the run of a position, by its index: it ends past the position, and each run before it does not
 pub record IsRunAt (ends : List ℕ) (position run : ℕ) : Type 0 where
   pub within : run < length ends
   pub past : position < slice_index ends run
   pub least : (j : ℕ) → j < run → slice_index ends j ≤ position
 
--- the last end, or 0 where there is no run
+-- the last end, or 0 without runs
 abbrev pub last_end : List ℕ → ℕ
 last_end ends = slice_index ends (length ends - 1)
 

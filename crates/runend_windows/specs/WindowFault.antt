@@ -18,7 +18,7 @@ pub record AreStrictRuns (ends : List ℕ) (values : ℕ) : Type 0 where
   pub some : 0 < length ends
   pub increasing : IsStrictlyIncreasing ends
 
--- the first fault of a window over these ends and so many values
+-- the first fault of a window over these ends and a number of values
 abbrev pub WindowFault : List ℕ → ℕ → ℕ → ℕ → VortexError → Type 0
 WindowFault ends values offset count (LengthsDiffer e v) = (e ≡ length ends) × (v ≡ values) × (length ends ≢ values)
 WindowFault ends values offset count (NoRunsWindow o n) = (values ≡ length ends) × (length ends ≡ 0) × (o ≡ offset) × (n ≡ count) × (0 < offset + count)

@@ -1,4 +1,4 @@
-//! Bits that are written run by run, one behind the other or over the bit of most runs.
+//! Bits that are written run by run, one after the other or over the bit of most runs.
 ghost use Rattle.std.specs.Prelude.{◌≡◌, ◌*◌, ◌-◌, ◌<◌, ◌↔◌, ◌++◌, [], IsTrue, Some, IfOk, IsOkUnless, OnErr, OnOk, count_by, drop, false, length, replicate, slice_get};
 ghost use Rattle.column_core.specs.Optionals.{optionals};
 ghost use Rattle.runend_windows.specs.Encoding.{blanked};
@@ -8,8 +8,8 @@ use column_core::{BitBuffer, BitBufferMut, VortexError, VortexResult};
 use std::alloc::Allocator;
 use std::marker::Model;
 
-/// Bits that are written run by run. A buffer that is prefilled holds the background wherever no run is
-/// written yet, so that a run of the background costs nothing.
+/// Holds bits that are written run by run. A buffer that is prefilled holds the background wherever no run is written
+/// yet, so that a run of the background costs nothing.
 #[derive(Drop)]
 pub struct BitRuns<A: Allocator> {
     bits: BitBufferMut<A>,
@@ -41,8 +41,8 @@ impl<A: Allocator + Copy> BitRuns<A> {
         })
     }
 
-    /// Returns no bits, before a background for `count` bits, of which only the others are written. Refused only as
-    /// `OutOfMemory`.
+    /// Returns no bits, with a background for `count` bits; then only the bits that differ from it are written. Refused
+    /// only as `OutOfMemory`.
     pub fn prefilled(alloc: A, background: bool, count: usize) -> VortexResult<Self>
         ensures only { IsOkUnless result VortexError.OutOfMemory }
         ensures start { IfOk result (λ runs. runs ≡ record { written = []; prefilled = replicate count background }) }
@@ -54,9 +54,9 @@ impl<A: Allocator + Copy> BitRuns<A> {
         })
     }
 
-    /// Puts `bit` behind the last bit as often as it takes for `end` bits. Takes no memory up to the
-    /// count of bits that there is room for. The background that is left is what stands behind `end`.
-    /// Refused only as `OutOfMemory`, and then the bits stay and the background is gone.
+    /// Appends `bit` until there are `end` bits. Takes no memory up to the number of bits that there is room for. The
+    /// background after `end` is left. Refused only as `OutOfMemory`, and then the bits stay and the background is
+    /// gone.
     #[inline(always)]
     pub fn repeat_to(&mut self, bit: bool, end: usize) -> VortexResult<()>
         ensures ok { OnOk result (self.new.written ≡
@@ -89,8 +89,9 @@ impl<A: Allocator + Copy> BitRuns<A> {
     }
 }
 
-/// Returns no bits yet, of `count` rows that show the bits of these runs. From `prefill_runs` runs on each row starts
-/// as the bit of most runs, false on a tie; below, the room is empty at first. Refused only as `OutOfMemory`.
+/// Returns no bits, with room for `count` rows that will show the bits of these runs. From `prefill_runs` runs on, all
+/// rows are first filled with the bit of most runs, false on a tie; with fewer runs, the room is empty at first.
+/// Refused only as `OutOfMemory`.
 pub fn start_over<A: Allocator + Copy>(
     alloc: A,
     bits: &BitBuffer<A>,

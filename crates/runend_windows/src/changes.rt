@@ -12,8 +12,8 @@ use crate::item_changes::changed_items;
 use column_core::{BitBuffer, BitBufferMut, NativePType, Validity, VortexError, VortexResult};
 use std::alloc::Allocator;
 
-/// Returns a bit for each row of numbers: whether it differs from the row before, null being equal to null. That of the
-/// first row is false. Refused only as `OutOfMemory`.
+/// Returns a bit for each row of numbers: whether it differs from the row before, null being equal to null. The bit of
+/// the first row is false. Refused only as `OutOfMemory`.
 pub(crate) fn changes_of<T: NativePType, A: Allocator + Copy>(
     alloc: A,
     items: &[T],
@@ -28,7 +28,7 @@ pub(crate) fn changes_of<T: NativePType, A: Allocator + Copy>(
     Ok(BitBufferMut::from_words(words, items.len()).freeze())
 }
 
-// These bits in words of 64, of which the last may have more.
+// These bits in words of 64; the last word may have more.
 fn change_words<T: NativePType, A: Allocator + Copy>(
     alloc: A,
     items: &[T],
@@ -49,7 +49,7 @@ fn change_words<T: NativePType, A: Allocator + Copy>(
 }
 
 // A bit for each of the 64 rows from row `index` * 64 on, the first of them lowest: whether it differs from the row
-// before, null being equal to null. That of the first row of all is false. Bits after the last row may be any.
+// before, null being equal to null. The bit of the first row of all is false. Bits after the last row may be any.
 #[inline(always)]
 fn change_word<T: NativePType, A: Allocator>(
     items: &[T],

@@ -209,8 +209,8 @@ fn decode_under<E: UnsignedPType, T: Copy + Drop, A: Allocator + Copy>(
     }
 }
 
-/// Returns the items and the validity of the rows that runs show, from row `offset` on, `count` many, with the blank
-/// item under null. Refused only as `OutOfMemory`.
+/// Returns the items and the validity of the `count` rows, from row `offset` on, that runs show, with the blank item
+/// under null. Refused only as `OutOfMemory`.
 pub fn decode_rows<T: Copy + Drop, A: Allocator + Copy>(
     alloc: A,
     ends: &PrimitiveArray<A>,
@@ -254,7 +254,7 @@ fn decode_as<T: NativePType, A: Allocator + Copy>(
     Ok(PrimitiveArray::new_unchecked(T::wrap(items), rows))
 }
 
-/// Returns the rows that runs of integers show, from row `offset` on, `count` many, as a flat column with 0 under null.
+/// Returns the `count` rows, from row `offset` on, that runs of integers show, as a flat column with 0 under null.
 /// Refused only as `OutOfMemory`.
 pub fn decode_numbers<A: Allocator + Copy>(
     alloc: A,

@@ -22,9 +22,9 @@ use column_core::{
 };
 use std::alloc::Allocator;
 
-/// Returns the rows that runs of booleans show, from row `offset` on, `count` many, as a flat column with false under
-/// null. From `prefill_runs` runs on the rows start as the boolean of most runs, below as false, and only the other
-/// runs are written; the answer is the same. Refused only as `OutOfMemory`.
+/// Returns the `count` rows, from row `offset` on, that runs of booleans show, as a flat column with false under null.
+/// From `prefill_runs` runs on, all rows are first filled with the boolean of most runs, with fewer runs with false,
+/// and only the other runs are written; the answer is the same. Refused only as `OutOfMemory`.
 pub fn decode_truths<A: Allocator + Copy>(
     alloc: A,
     ends: &PrimitiveArray<A>,

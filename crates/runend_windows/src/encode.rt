@@ -1,4 +1,4 @@
-//! The encoder: where runs end is found 64 rows at a time, and then what each shows is taken from its first row.
+//! The encoder: it finds where runs end, 64 rows at a time, and then takes what each run shows from its first row.
 ghost use Rattle.std.specs.Prelude.{◌≡◌, ◌<◌, ◌++◌, ◌↔◌, true, [], ◌∷◌, All, IfOk, None, OnOk, IsOkUnless, IsTrue, Some, is_some, length, map, option_map, replicate, slice_get};
 ghost use Rattle.column_base.specs.Bits.{set_indices_of};
 ghost use Rattle.column_base.specs.declared.dtype.Nullability.TheVariants.{NonNullable};
@@ -32,7 +32,7 @@ pub fn encode_plain<A: Allocator + Copy>(
     match_each_native!(array.values(), items => encode_as(alloc, items.as_slice(), validity))
 }
 
-/// Returns whether the validity says of at least one row that all are null.
+/// Returns whether there is a row, and the form of the validity says that all rows are null.
 pub fn is_all_null<A: Allocator>(array: &PrimitiveArray<A>) -> bool
     ensures { IsTrue result ↔ IsAllInvalid array.now }
 {
@@ -103,14 +103,14 @@ fn encode_items<T: NativePType, A: Allocator + Copy>(
     }
 }
 
-/// The runs that are closed, in order.
+/// Holds the runs that are closed, in order.
 #[derive(Drop)]
 struct Encoder<T: Drop, A: Allocator> {
-    /// The row that each run ends before.
+    /// Holds the row that each run ends before.
     ends: Vec<u64, A>,
-    /// The number of each run, 0 for null.
+    /// Holds the number of each run, 0 for null.
     values: Vec<T, A>,
-    /// Whether each run shows a number.
+    /// Says of each run whether it shows a number.
     flags: BitBufferMut<A>,
 }
 
@@ -148,7 +148,7 @@ impl<T: NativePType, A: Allocator + Copy> Encoder<T, A> {
     }
 }
 
-// The runs of rows of which none is null. Their flags need no look at a row.
+// The runs of rows none of which is null. Their flags need no look at a row.
 fn encode_valid<T: NativePType, A: Allocator + Copy>(
     alloc: A,
     items: &[T],
@@ -215,7 +215,7 @@ fn first_items<T: NativePType, A: Allocator + Copy>(
     Ok((ends, values))
 }
 
-// The runs of rows of which any may be null.
+// The runs of rows any of which may be null.
 fn encode_nullable<T: NativePType, A: Allocator + Copy>(
     alloc: A,
     items: &[T],

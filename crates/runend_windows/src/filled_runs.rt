@@ -1,4 +1,4 @@
-//! Rows of booleans that start alike, of which runs are filled: those of 64 runs at a time.
+//! Rows of booleans that start alike, in which runs are filled, 64 runs at a time.
 ghost use Rattle.std.specs.Prelude.{◌≡◌, ◌≢◌, ℕ, ◌+◌, ◌-◌, ◌^◌, ◌<◌, ◌≤◌, Some, if◌then◌else◌};
 ghost use Rattle.std.specs.Prelude.{length, min, nat_eq, slice_get, slice_index};
 ghost use Rattle.std.specs.Int.{bit_at};
@@ -8,7 +8,7 @@ use crate::decode::reach_of;
 use column_core::{BitBufferMut, UnsignedPType};
 use std::alloc::Allocator;
 
-/// Returns the runs, of 64, whose bit is another one than `bit`.
+/// Returns which of 64 runs have another bit than `bit`.
 #[inline(always)]
 pub fn runs_unlike(word: u64, bit: bool) -> u64
     ensures { (j : ℕ) → j < 64 → bit_at result j ≡ (if bit then 1 - bit_at word j else bit_at word j) }
@@ -16,8 +16,8 @@ pub fn runs_unlike(word: u64, bit: bool) -> u64
     if bit { !word } else { word }
 }
 
-/// Makes each row of run `first + j` of the window `bit`, where bit j of `runs` is 1, and changes no other row.
-/// Bits behind the last run do nothing. It goes from 1 to 1, so that no test of a run can be foreseen wrongly.
+/// Makes each row of run `first + j` of the window `bit`, where bit j of `runs` is 1, and changes no other row. Bits
+/// after the last run do nothing. It goes from 1 to 1, so that no test of a run can be predicted wrongly.
 #[inline(always)]
 pub fn fill_runs<E: UnsignedPType, A: Allocator + Copy>(
     rows: &mut BitBufferMut<A>,
@@ -64,7 +64,7 @@ fn start_of<E: UnsignedPType>(ends: &[E], run: usize, offset: usize, count: usiz
     reach_of(ends, run - 1, offset, count)
 }
 
-// Makes each row of the run `bit`, where there is such a run: the last word has bits behind the last run.
+// Makes each row of the run `bit`, where there is such a run: the last word has bits after the last run.
 #[inline(always)]
 fn fill_run<E: UnsignedPType, A: Allocator + Copy>(
     rows: &mut BitBufferMut<A>,

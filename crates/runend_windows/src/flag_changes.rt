@@ -1,4 +1,4 @@
-//! Which of 64 items differ from the item before, of bits and of flags: by words.
+//! Which of 64 bits or flags differ from the one before, by words.
 ghost use Rattle.std.specs.Prelude.{◌≡◌, ◌≢◌, ◌+◌, ◌-◌, ◌*◌, ◌<◌, ℕ, true, false, length};
 ghost use Rattle.std.specs.Int.{bit_at};
 ghost use Rattle.column_base.specs.ValidityForm.{HasRow, flag_at};
@@ -31,8 +31,8 @@ pub fn changed_optionals<A: Allocator>(validity: &Validity<A>, index: usize, ite
     }
 }
 
-/// Returns a bit for each bit of the word at `index`: whether it differs from the bit before. That of the first bit of
-/// all is false.
+/// Returns a bit for each bit of the word at `index`: whether it differs from the bit before. The bit for the first bit
+/// of all is false.
 #[inline(always)]
 pub fn changed_bits(words: &[u64], index: usize) -> u64
     requires { index < length words.now }

@@ -20,9 +20,10 @@ use column_core::{
 };
 use std::alloc::Allocator;
 
-/// Returns the rows that runs show, from row `offset` on, `count` many, as a flat column with 0, false or the view of
-/// nothing under null. The values are left as they are; of texts and bytes, the bytes are shared. Of booleans, the rows
-/// start as the value of most runs from `prefill_runs` runs on; the answer is the same. Refused only as `OutOfMemory`.
+/// Returns the `count` rows, from row `offset` on, that runs show, as a flat column with 0, false or the view of
+/// nothing under null. The values are left as they are; texts and bytes share their bytes. From `prefill_runs` runs on,
+/// all rows of booleans are first filled with what most runs show; the answer is the same. Refused only as
+/// `OutOfMemory`.
 pub fn decode_flat<A: Allocator + Copy>(
     alloc: A,
     ends: &PrimitiveArray<A>,
@@ -62,7 +63,7 @@ pub fn decode_flat<A: Allocator + Copy>(
     }
 }
 
-/// Returns whether there is a row, and is each row null.
+/// Returns whether there is a row, and all rows are null.
 pub fn has_nulls_alone<A: Allocator>(values: &FlatColumn<A>) -> bool
     ensures nulls { IsTrue result ↔ HasNullsAlone (single_rows (leaf_of values.now)) }
     ensures fits { HasLength (leaf_validity (leaf_of values.now)) (leaf_count (leaf_of values.now)) }
@@ -146,7 +147,7 @@ fn buffers_of<A: Allocator + Copy>(
     ensures only { IsOkUnless result VortexError.OutOfMemory }
     ensures shared { IfOk result (λ buffers. buffers.items ≡ values.now.buffers) }
 {
-    // No row of a column still has all of its buffers.
+    // A column without rows still has all of its buffers.
     let no_row = values.slice(alloc, 0..0)?;
     let (views, buffers, _, validity) = no_row.into_parts();
     drop(validity);

@@ -7,7 +7,7 @@ use column_core::NativePType;
 use std::simd::prelude::*;
 
 /// Returns a bit for each of the 64 numbers from `index` * 64 on, the first of them lowest: whether it differs from the
-/// number before. That of the first number of all is false. Bits after the last number may be any.
+/// number before. The bit of the first number of all is false. Bits after the last number may be any.
 #[inline(always)]
 pub fn changed_items<T: NativePType>(items: &[T], index: usize) -> u64
     requires { index * 64 < length items.now }

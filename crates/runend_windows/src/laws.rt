@@ -6,7 +6,7 @@ ghost use Rattle.runend_windows.specs.Window.{run_at};
 use crate::searches::first_past;
 use column_core::{CountedEnds, UnsignedPType};
 
-/// `first_past` where there is one run: at most 1 test.
+/// Finds a row by `first_past` where there is one run: at most 1 test.
 pub fn first_past_of_one_run<E: UnsignedPType>(run: &mut CountedEnds<'_, E>, row: usize) -> usize
     requires { length run.old.ends ≡ 1 }
     ensures place { result ≡ run_at run.old.ends row }
@@ -16,7 +16,7 @@ pub fn first_past_of_one_run<E: UnsignedPType>(run: &mut CountedEnds<'_, E>, row
     first_past(run, row)
 }
 
-/// `first_past` over 4 runs: at most 3 tests.
+/// Finds a row by `first_past` over 4 runs: at most 3 tests.
 pub fn first_past_of_four_runs<E: UnsignedPType>(
     four_runs: &mut CountedEnds<'_, E>,
     row: usize,
@@ -30,7 +30,7 @@ pub fn first_past_of_four_runs<E: UnsignedPType>(
     first_past(four_runs, row)
 }
 
-/// `first_past` over 524288 (2^19) runs: at most 20 tests.
+/// Finds a row by `first_past` over 524288 (2^19) runs: at most 20 tests.
 pub fn first_past_of_524288_runs<E: UnsignedPType>(
     many_runs: &mut CountedEnds<'_, E>,
     row: usize,

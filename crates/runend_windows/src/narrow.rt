@@ -1,4 +1,4 @@
-//! Ends in the least width that has them.
+//! Ends in the least width that holds them.
 ghost use Rattle.std.specs.Prelude.{◌≡◌, pos, All, IfOk, IsOkUnless, map};
 ghost use Rattle.std.specs.List.Sorted.{IsStrictlyIncreasing};
 ghost use Rattle.column_base.specs.Numbers.{numbers, ptype_of};
@@ -8,7 +8,7 @@ ghost use Rattle.runend_windows.specs.Window.{last_end};
 use column_core::{NativePType, PrimitiveValues, VortexError, VortexResult};
 use std::alloc::Allocator;
 
-/// Returns the ends as numbers of the least unsigned type that has the last of them. Refused only as `OutOfMemory`.
+/// Returns the ends as numbers of the least unsigned type that holds the last of them. Refused only as `OutOfMemory`.
 pub fn narrowed<A: Allocator + Copy>(alloc: A, ends: &[u64]) -> VortexResult<PrimitiveValues<A>>
     requires { IsStrictlyIncreasing ends.now }
     ensures only { IsOkUnless result VortexError.OutOfMemory }

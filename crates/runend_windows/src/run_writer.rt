@@ -11,7 +11,7 @@ use std::mem::size_of_val;
 // The most items of a block.
 const LARGEST_BLOCK: usize = 32;
 
-/// Rows that are written run by run, `limit` of them at most.
+/// Holds rows that are written run by run, `limit` of them at most.
 #[derive(Drop)]
 pub struct RunWriter<T: Drop, A: Allocator> {
     written: Vec<T, A>,
@@ -46,7 +46,7 @@ impl<T: Copy + Drop, A: Allocator> RunWriter<T, A> {
         })
     }
 
-    /// Puts `value` behind the last row as often as it takes for `end` rows. Takes no memory.
+    /// Appends `value` until there are `end` rows. Takes no memory.
     #[inline]
     pub fn repeat_to(&mut self, value: T, end: usize)
         requires room { end ≤ self.old.limit }
@@ -88,8 +88,8 @@ pub fn repeated_items<T: Copy + Drop, A: Allocator + Copy>(
     Ok(rows.finish())
 }
 
-// How many items are written at once: few stores, and no more than most short runs have. Large items are
-// written one by one.
+// How many items are written at once: they take few stores, and most short runs have as many. Large items are written
+// one by one.
 #[inline(always)]
 fn block_of<T: Copy>(value: &T) -> usize
     ensures items { result ≡ block_items (type_size T.row) }
@@ -103,7 +103,7 @@ fn block_of<T: Copy>(value: &T) -> usize
     }
 }
 
-// Puts `count` copies behind the last item, into room that is there.
+// Appends `count` copies, into room that is there.
 #[inline(always)]
 fn append_copies<T: Copy + Drop, A: Allocator>(items: &mut Vec<T, A>, value: T, count: usize)
     requires { vec_len items.old + count ≤ vec_capacity items.old }
@@ -115,8 +115,8 @@ fn append_copies<T: Copy + Drop, A: Allocator>(items: &mut Vec<T, A>, value: T, 
     }
 }
 
-// Puts at most a block of copies behind the last item: a whole one is written, so that the number of items is the same
-// for every short run, and what is past the count is cut off.
+// Appends at most a block of copies: a whole block is written, so that the number of items is the same for every short
+// run, and what is past the count is cut off.
 #[tactic(auto, using(crate::proofs::Blocks::take_block))]
 #[inline(always)]
 fn append_short<T: Copy + Drop, A: Allocator>(

@@ -12,15 +12,16 @@ use column_base::match_each_unsigned;
 use column_core::{CountedEnds, PrimitiveArray, PrimitiveValues, UnsignedPType};
 use std::alloc::Allocator;
 
-// Up to so many runs a search takes no branch. Ends of `u32` leave a second-level cache of 1 MiB there. Past it an end
-// is waited for longer than a branch that is guessed wrongly costs, and a right guess fetches the next end meanwhile.
+// Up to this number of runs a search takes no branch. With more runs, ends of `u32` do not fit a second-level cache of
+// 1 MiB: to wait for an end then costs more than a wrong prediction of a branch, and a right one fetches the next end
+// meanwhile.
 const NEAR_RUNS: usize = 1 << 18;
 
 /// Returns the run of a row: the first run that ends past it, or the number of runs where none does. As the ends
 /// increase, that is also the number of ends at or below the row.
 ///
-/// The search goes by halves, so it tests no more ends than their number has binary digits, as the
-/// clauses `cost` and `bound` say.
+/// The search is binary, so it tests at most as many ends as their number has binary digits, as the clauses `cost` and
+/// `bound` say.
 pub fn first_past<E: UnsignedPType>(ends: &mut CountedEnds<'_, E>, row: usize) -> usize
     requires { IsStrictlyIncreasing ends.old.ends }
     ensures place { result ≡ run_at ends.old.ends row }
@@ -38,7 +39,7 @@ pub fn first_past<E: UnsignedPType>(ends: &mut CountedEnds<'_, E>, row: usize) -
     }
 }
 
-// The search by halves whose next test waits for this one. What is left is halved whatever a test says, so that a step
+// The binary search whose next test waits for this one. What is left is halved whatever a test says, so that a step
 // waits for one end and one mask.
 fn search_by_mask<E: UnsignedPType>(ends: &mut CountedEnds<'_, E>, row: usize) -> usize
     requires { IsStrictlyIncreasing ends.old.ends }
@@ -47,7 +48,7 @@ fn search_by_mask<E: UnsignedPType>(ends: &mut CountedEnds<'_, E>, row: usize) -
     ensures cost { ends.new.tests ≤ ends.old.tests + digits (length ends.old.ends) }
 {
     let mut run = 0;
-    // The run of the row is at most so many runs behind `run`.
+    // The run of the row is at most `left` runs after `run`.
     let mut left = ends.len();
     while left != 0 {
         let step = left - left / 2;
@@ -57,7 +58,7 @@ fn search_by_mask<E: UnsignedPType>(ends: &mut CountedEnds<'_, E>, row: usize) -
     run
 }
 
-// The search by halves whose next test is guessed. As a call of its own it stays a branch.
+// The binary search whose next test is predicted. As a call of its own it stays a branch.
 #[inline(never)]
 fn search_by_branch<E: UnsignedPType>(ends: &mut CountedEnds<'_, E>, row: usize) -> usize
     requires { IsStrictlyIncreasing ends.old.ends }
@@ -79,7 +80,7 @@ fn search_by_branch<E: UnsignedPType>(ends: &mut CountedEnds<'_, E>, row: usize)
 }
 
 /// Returns the runs of four rows, searched side by side, so that their ends are waited for together. It tests no more
-/// ends for a row than a search for that row alone.
+/// ends for a row than a search for only that row.
 pub fn first_past_four<E: UnsignedPType>(
     ends: &mut CountedEnds<'_, E>,
     rows: (usize, usize, usize, usize),

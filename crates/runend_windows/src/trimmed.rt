@@ -7,8 +7,8 @@ ghost use Rattle.runend_windows.specs.Trimmed.{trimmed_ends};
 use column_core::UnsignedPType;
 use std::marker::Model;
 
-/// Where each run stops in a window of `length` rows from row `offset` on, in rows of the window:
-/// `min(end - offset, length)` for each end, 0 for an end below the offset. Takes no memory.
+/// Returns where each run stops in a window of `length` rows from row `offset` on, in rows of the window: `min(end -
+/// offset, length)` for each end, 0 for an end below the offset. Takes no memory.
 pub fn trimmed_ends_iter<E: UnsignedPType>(
     ends: &[E],
     offset: usize,
@@ -23,8 +23,8 @@ pub fn trimmed_ends_iter<E: UnsignedPType>(
     }
 }
 
-/// An iterator over ends as positions in a window, in rows, from the first run to the last. A contract
-/// sees it as the list of the items that are left.
+/// Iterates over ends as positions in a window, in rows, from the first run to the last. A contract sees it as the list
+/// of the items that are left.
 #[derive(Drop)]
 pub struct TrimmedEnds<'a, E: UnsignedPType> {
     ends: &'a [E],
@@ -55,7 +55,7 @@ impl<'a, E: UnsignedPType> Iterator for TrimmedEnds<'a, E> {
         Some(position.min(self.count as u64) as usize)
     }
 
-    // Exactly as many as ends are left.
+    // Exactly as many items as ends are left.
     fn size_hint(&self) -> (usize, Option<usize>)
         ensures exact { result ≡ (length self.now, Some (length self.now)) }
         ensures lower { IsWithinCount result.0 (item_count (λ left. left) self.now) }

@@ -100,7 +100,7 @@ fn repeat_masked<T: NativePType, I: Iterator<Item = usize>, A: Allocator + Copy>
     Ok((numbers.finish(), flags.freeze()))
 }
 
-/// Returns the validity of rows of which none is null.
+/// Returns the validity of rows none of which is null.
 pub fn no_null<A: Allocator>(nullability: Nullability) -> Validity<A>
     ensures { form_of result ≡ without_nulls nullability }
 {
@@ -110,7 +110,7 @@ pub fn no_null<A: Allocator>(nullability: Nullability) -> Validity<A>
     }
 }
 
-/// Returns the validity of rows of which each is null, of which there may be none.
+/// Returns the validity of rows that are all null; there may be no rows.
 pub fn no_value<A: Allocator>(count: usize) -> Validity<A>
     ensures flags { validity_flags result count ≡ replicate count false }
     ensures fits { HasLength (form_of result) count }
@@ -127,11 +127,11 @@ pub fn no_value<A: Allocator>(count: usize) -> Validity<A>
 
 /// Returns the rows of runs whose ends come from an iterator, as a flat column of `T` with 0 under null: row i is the
 /// value of the first run that ends past it, null where the mask is false there. Ends count rows; a run that ends where
-/// the one before it does shows no row. The validity of a type with null is that which `Validity::from_bits` makes.
+/// the one before it does shows no row. The validity of a type with null is the one that `Validity::from_bits` makes.
 /// Refused only as `OutOfMemory`.
 ///
-/// The iterator gives an end for each value, none below the one before it, and the last is `count`.
-/// There is a bit of the mask for each value, and only under `Mask::AllTrue` has the type no null.
+/// The iterator has to give an end for each value, none below the one before it, and `count` as the last one. The mask
+/// has a bit for each value; only under `Mask::AllTrue` may the type have no null.
 pub fn decode_typed_numbers<T: NativePType, I: Iterator<Item = usize>, A: Allocator + Copy>(
     alloc: A,
     run_ends: I,

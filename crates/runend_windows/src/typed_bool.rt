@@ -21,12 +21,12 @@ use std::alloc::Allocator;
 
 /// Returns the rows of runs whose ends come from an iterator, as bits and a validity, with false under null: row i is
 /// the bit of the first run that ends past it, null where the mask is false there. Ends count rows; a run that ends
-/// where the one before it does shows no row. The validity of a type with null is that which `Validity::from_bits`
-/// makes. From `prefill_runs` runs on the rows start as the bit of most runs, and only the other runs are written; the
-/// answer is the same. Refused only as `OutOfMemory`.
+/// where the one before it does shows no row. The validity of a type with null is the one that `Validity::from_bits`
+/// makes. From `prefill_runs` runs on, all rows are first filled with the bit of most runs, and only the other runs are
+/// written; the answer is the same. Refused only as `OutOfMemory`.
 ///
-/// The iterator gives an end for each value, none below the one before it, and the last is `count`.
-/// There is a bit of the mask for each value, and only under `Mask::AllTrue` has the type no null.
+/// The iterator has to give an end for each value, none below the one before it, and `count` as the last one. The mask
+/// has a bit for each value; only under `Mask::AllTrue` may the type have no null.
 pub fn decode_typed_bits<I: Iterator<Item = usize>, A: Allocator + Copy>(
     alloc: A,
     run_ends: I,
@@ -68,7 +68,7 @@ pub fn decode_typed_bits<I: Iterator<Item = usize>, A: Allocator + Copy>(
     }
 }
 
-/// Returns whether there is a run, and is the mask nowhere true.
+/// Returns whether there is a run, and the mask is nowhere true.
 pub fn masks_all<A: Allocator>(mask: &Mask<A>, values: &BitBuffer<A>) -> bool
     requires { item_count (mask_bits mask.now) ≡ item_count values.now }
     ensures { IsTrue result ↔ HasNullsAlone (masked_truths values.now (mask_bits mask.now)) }

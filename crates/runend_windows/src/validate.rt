@@ -1,4 +1,4 @@
-//! Whether parts make a run column, and else which fault comes first.
+//! Whether parts make a run column, or which fault comes first.
 ghost use Rattle.std.specs.Prelude.{◌≡◌, ℕ, ◌+◌, ◌-◌, ◌<◌, ◌≤◌, length, map, slice_index, IfSome, IfNone, MatchOption, MatchResult, unsigned_abs};
 ghost use Rattle.std.specs.List.Sorted.{IsStrictlyIncreasing};
 ghost use Rattle.column_base.specs.Numbers.{numbers, ptype_of};
@@ -12,7 +12,7 @@ use column_base::match_each_unsigned;
 use column_core::{PrimitiveArray, PrimitiveValues, UnsignedPType, VortexError, VortexResult};
 use std::alloc::Allocator;
 
-/// Do these ends and so many values make runs that show `count` rows from `offset` on? Else the first
+/// Tests that these ends, with `values` values, make runs that show `count` rows from `offset` on. Refused by the first
 /// fault. Takes no memory.
 pub fn validate_ends<A: Allocator>(
     ends: &PrimitiveArray<A>,
@@ -41,8 +41,7 @@ fn first_fall<E: UnsignedPType>(ends: &[E]) -> Option<usize>
     None
 }
 
-// Do the ends and so many values make runs that show `count` rows from `offset` on? Else the
-// first fault.
+// Tests that the ends, with `values` values, make runs that show `count` rows from `offset` on; else the first fault.
 fn validate_window<E: UnsignedPType>(
     ends: &[E],
     values: usize,

@@ -6,11 +6,12 @@ use std::marker::Model;
 use std::ops::{Index, Range};
 use std::sync::Arc;
 
-/// From so many items on a vector is shared. To copy fewer costs no more than to count another owner.
+/// Sets the number of items from which on a vector is shared. To copy fewer costs no more than to count another owner.
 const SHARED_FROM: usize = 32;
 
-/// Items in order. The clones and the parts of a shared buffer hold the same vector: none of its items is copied, no
-/// memory is asked for, and it is freed with the last of them. Those of a buffer that is not shared are copies.
+/// Holds items in order. The clones and the parts of a shared buffer hold the same vector: none of its items is copied,
+/// no memory is asked for, and it is freed with the last of them. The clones and parts of a buffer that is not shared
+/// are copies.
 #[derive(Drop)]
 pub struct Buffer<T, A: Allocator> {
     storage: Storage<T, A>,
@@ -72,7 +73,7 @@ impl<T, A: Allocator> Buffer<T, A> {
         }
     }
 
-    /// Returns whether there are no items.
+    /// Returns whether it has no items.
     pub fn is_empty(&self) -> bool
         ensures { IsTrue result ↔ (self.now.items ≡ []) }
     {
@@ -152,7 +153,7 @@ impl<T: Drop, A: Allocator + Copy> Buffer<T, A> {
 }
 
 impl<T: Copy, A: Allocator + Copy> Buffer<T, A> {
-    /// Returns a copy of the items: shared with these where these are shared, and else in memory of its own.
+    /// Returns a copy of the items. Shares them if they are shared, and copies them otherwise.
     pub fn try_clone(&self, alloc: A) -> Result<Buffer<T, A>, AllocError>
         ensures { IfOk result (λ copy. copy.items ≡ self.now.items) }
     {
@@ -168,8 +169,8 @@ impl<T: Copy, A: Allocator + Copy> Buffer<T, A> {
         }
     }
 
-    /// Returns the items from `range.start` to `range.end - 1`: shared with these where these are shared, and else a
-    /// copy.
+    /// Returns the items from `range.start` to `range.end - 1`. Shares them if they are shared, and copies them
+    /// otherwise.
     pub fn slice(&self, alloc: A, range: Range<usize>) -> Result<Buffer<T, A>, AllocError>
         requires ordered { range.start ≤ range.end }
         requires in_bounds { range.end ≤ length self.now.items }

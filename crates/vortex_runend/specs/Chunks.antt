@@ -11,8 +11,9 @@ use Rattle.runend_commands.specs.Laws.{AreNeverShort}
 use Rattle.runend_commands.specs.Meaning.{plain}
 use Rattle.runend_commands.specs.Step.{IsExecution}
 
--- a command that works row by row, on the whole and on both parts: the same one, but for a filter, whose mask is that of
--- the first part and then that of the second, and for codes, which are looked up in dictionaries of equal rows
+-- a command that works row by row, on the whole and on both parts: the same one, except for a filter, whose mask is the
+-- mask of the first part followed by that of the second, and for codes, which are looked up in dictionaries of equal
+-- rows
 abbrev pub AreParts : {A : Type 0} → Command A → Command A → Command A → Type 0
 AreParts (Filter mask) (Filter first) (Filter second) = mask_bits mask ≡ mask_bits first ++ mask_bits second
 AreParts (TakeFrom dictionary) (TakeFrom first) (TakeFrom second) = (plain first ≡ plain dictionary) × (plain second ≡ plain dictionary)
@@ -29,7 +30,7 @@ AreAllParts [] [] [] = Unit {0}
 AreAllParts (command ∷ commands) (first ∷ firsts) (second ∷ seconds) = AreParts command first second × AreAllParts commands firsts seconds
 AreAllParts commands firsts seconds = ⊥
 
--- the rows of the whole are those of the first part and then those of the second, all of one type
+-- the rows of the whole are those of the first part followed by those of the second, all of one type
 pub record AreJoined (whole first second : PlainColumn) : Type 0 where
   pub first_dtype : first.dtype ≡ whole.dtype
   pub second_dtype : second.dtype ≡ whole.dtype
@@ -39,7 +40,7 @@ pub record AreJoined (whole first second : PlainColumn) : Type 0 where
 abbrev pub AreDone : {A : Type 0} → List (Answer A) → Type 0
 AreDone answers = All (λ answer. answer ≡ Done) answers
 
--- where the commands are done on both parts, and the run on the whole is never short of memory, they are done on the
+-- where the commands are done on both parts, and the run on the whole never runs out of memory, they are done on the
 -- whole, and leave the joined rows of what they leave of the parts
 abbrev pub ChunksAgree : Type 0 → Type 0
 ChunksAgree A = (whole first second whole_after first_after second_after : ArrayRef A)

@@ -47,13 +47,13 @@ SliceOfSlice = (rows : List (Option Value)) (start stop first last : ℕ)
     → start ≤ stop → stop ≤ length rows → first ≤ last → last ≤ length (slice_range rows start stop)
     → (slice_range (slice_range rows start stop) first last ≡ slice_range rows (start + first) (start + last)) × (start + last ≤ length rows)
 
--- what a run column holds beside its slots is equal exactly where its offset is, and where it is equal a hash of it
--- makes equal writes
+-- what a run column holds in addition to its slots is equal exactly where its offset is, and where it is equal a hash
+-- of it makes equal writes
 abbrev pub EqualDataHashEqually : Type 0
 EqualDataHashEqually = (offset other : ℕ) → (IsTrue (data_eq offset other) ↔ (offset ≡ other)) × (IsTrue (data_eq offset other) → data_writes offset ≡ data_writes other)
 
--- rows taken from rows that were taken are those that the composed indices take, and where the first indices are all of
--- rows, so are these
+-- rows taken from rows that were taken are those that the composed indices take, and where the first indices all name
+-- rows, so do these
 abbrev pub TakeOfTake : Type 0
 TakeOfTake = (rows : List (Option Value)) (first second : List (Option ℤ))
     → (take_rows (take_rows rows first) second ≡ take_rows rows (take_rows first second))
@@ -67,7 +67,7 @@ FillThenSlice = (rows : List (Option Value)) (value : Value) (start stop : ℕ)
 
 -- ---- columns as bytes
 
--- a run of commands on a column, and a run of the same on what is read from its message, where neither is short of
+-- a run of commands on a column, and a run of the same on what is read from its message, where neither runs out of
 -- memory, have equal answers and end in equal plain columns
 abbrev pub ReadRunsAsWritten : Type 0 → Type 0
 ReadRunsAsWritten A = (written read written_after read_after : ArrayRef A) (bytes : List ℕ) (commands : List (Command A)) (answers others : List (Answer A))

@@ -1,12 +1,10 @@
-//! The laws of encodings, and of rows that are sliced, taken and filled, each proved of every list of
-//! optional values, so of integers too, the law of what a run column holds beside its slots, and
-//! those of commands over chunks and over what was read, of native types and of encodings that are decoded. Those of
-//! filter, of strategies of a take, of commands, of sums, of the record, of bytes and of joined rows are in the crates
-//! below.
+//! Laws of encodings; of rows that are sliced, taken and filled; of what a run column holds in addition to its slots;
+//! of commands over chunks and over what was read from a message; of native types; and of encodings that are decoded.
+//! The laws of rows are proved of every list of optional values, so of integers too. Those of filter, of strategies of
+//! a take, of commands, of sums, of the record, of bytes and of joined rows are in the crates below.
 //!
-//! An encoding of a list is its tight exact cover: runs of which none is empty, none can be joined
-//! with the next, and none is hidden. But for the last three, each function here does nothing: its clause is
-//! the law.
+//! An encoding of a list is its tight exact cover: no run is empty, none can be joined with the next, and none is
+//! hidden. Except for the last three, each function here does nothing: its clause is the law.
 ghost use Rattle.std.specs.Prelude.{◌≡◌, IfOk, IsOkUnless};
 ghost use Rattle.column_base.specs.Number.{IsNumbered, Narrows};
 ghost use Rattle.column_base.specs.Types.{HasNumber};
@@ -39,101 +37,103 @@ pub use runend_windows::laws::{
 };
 use std::alloc::Allocator;
 
-/// A list has one encoding: two tight exact covers of it have equal ends and equal values.
+/// Proves that a list has one encoding: two tight exact covers of it have equal ends and equal values.
 /// For compressors: whichever way an encoder goes about it, the runs that it finds are the same.
 pub fn tight_cover_is_unique()
     ensures { TightCoverIsUnique }
 {}
 
-/// No cover of a list has fewer runs than its encoding, whatever rows that cover hides and wherever it starts.
+/// Proves that no cover of a list has fewer runs than its encoding, whatever rows that cover hides and wherever it
+/// starts.
 /// For compressors: no other choice of runs stores the list in fewer.
 pub fn no_cover_is_shorter()
     ensures { NoCoverIsShorter }
 {}
 
-/// Two lists are equal exactly where their encodings have equal ends and equal values.
+/// Proves that two lists are equal exactly where their encodings have equal ends and equal values.
 /// For compressors and group-by: lists can be compared by their encodings, with no decoding.
 pub fn equal_lists_equal_encodings()
     ensures { EqualListsEqualEncodings }
 {}
 
-/// The values of neighbouring runs of an encoding differ, null being equal to null.
+/// Proves that the values of neighbouring runs of an encoding differ, null being equal to null.
 /// For group-by: each run begins a new group, so groups of neighbouring rows are the runs.
 pub fn neighbours_differ()
     ensures { NeighboursDiffer }
 {}
 
-/// What the encoding of a list decodes to is the list.
+/// Proves that the encoding of a list decodes to the list.
 /// For compressors: encoding loses no row, no order of rows and no null.
 pub fn decoding_an_encoding()
     ensures { DecodingAnEncoding }
 {}
 
-/// A slice of a slice is the slice at the added positions, and that is in range too.
+/// Proves that a slice of a slice is the slice at the added positions, and that it is in range too.
 /// For scanners: a range of a range needs no column in between.
 pub fn slice_of_slice()
     ensures { SliceOfSlice }
 {}
 
-/// A take of a take is the take of the composed indices, those of the first take at the places that the
-/// second names. Where no index of the first is out of bounds, no composed index is.
+/// Proves that a take of a take is one take by the composed indices: the indices of the first take at the places that
+/// the second names. Where no index of the first is out of bounds, no composed index is.
 /// For dictionary cascades: codes into codes are folded once, and the rows are read once.
 pub fn take_of_take()
     ensures { TakeOfTake }
 {}
 
-/// A range of filled rows is the filled range, refused exactly where the range is.
+/// Proves that a range of filled rows is the filled range, refused exactly where the range is.
 /// For time-series stores: gaps can be filled before a window is cut or after it.
 pub fn fill_then_slice()
     ensures { FillThenSlice }
 {}
 
-/// A list of filters, comparisons with a constant, casts, fills, looked-up codes, encodings and decodings, done on
-/// two parts of a column, leaves parts of what it leaves of the whole, whatever the forms, kernels and thresholds.
-/// Masks of the whole are those of the first part and then those of the second. What a sum, a least or a greatest
-/// row, a constant or a sorted column is of the joined rows, the laws of joined rows say.
+/// Proves that a list of filters, comparisons with a constant, casts, fills, looked-up codes, encodings and decodings,
+/// done on two parts of a column, leaves two parts of what it leaves of the whole column, whatever the forms, kernels
+/// and thresholds. A mask of the whole is the mask of the first part followed by that of the second. The laws of joined
+/// rows say how a sum, a least and a greatest row, and whether rows are constant or sorted, follow from those of the
+/// parts.
 /// For engines that run chunk by chunk: the answer over the chunks is the answer over the column.
 pub fn chunks_agree<A: Allocator>()
     ensures { ChunksAgree A }
 {}
 
-/// `RunEndData::array_eq` is equality of offsets, and data that it finds equal hash equally: `array_hash`
-/// makes the same writes for both, whichever hasher it is given.
+/// Proves that `RunEndData::array_eq` is equality of offsets, and that data which it finds equal hash equally:
+/// `array_hash` makes the same writes for both, whichever hasher it is given.
 /// For caches: looking data up by its hash misses none that is equal.
 pub fn equal_data_hash_equally()
     ensures { EqualDataHashEqually }
 {}
 
-/// A list of commands on a column, and the same list on what was read from its message, have the same answers and
-/// leave the same rows, where no answer is `OutOfMemory`, whatever the kernels and thresholds of either.
+/// Proves that a list of commands on a column, and the same list on what was read from its message, have the same
+/// answers and leave the same rows, where no answer is `OutOfMemory`, whatever the kernels and thresholds of either.
 /// For file writers and servers: it does not matter on which side of a file or a wire a command is done.
 pub fn read_runs_as_written<A: Allocator>()
     ensures { ReadRunsAsWritten A }
 {}
 
-/// Of every native type: values are equal, and ordered, as their numbers are, a number has at most one value, and the
-/// default is 0. For generic code: what is proved of numbers holds of the items of a buffer.
+/// Proves of every native type that values are equal, and ordered, as their numbers are, that a number has at most one
+/// value, and that the default is 0. For generic code: what is proved of numbers holds of the items of a buffer.
 pub fn native_values_are_numbers<T: NativePType>()
     ensures { IsNumbered T.eq T.cmp T.is_default T.number }
 {}
 
-/// Widens a value of any native type: the answer is its number. For generic code.
+/// Widens a value of any native type: returns its number. For generic code.
 pub fn widen_gives_the_number<T: NativePType>(value: T) -> i128
     ensures { result ≡ T.number value }
 {
     value.widen()
 }
 
-/// Narrows a number to any native type: the answer is its value, or `None` exactly where the type does not have the
-/// number. For generic code.
+/// Narrows a number to any native type: returns its value, or `None` exactly where the type does not have the number.
+/// For generic code.
 pub fn narrow_is_exact<T: NativePType>(number: i128) -> Option<T>
     ensures { Narrows T.number (HasNumber T.PTYPE) number result }
 {
     T::narrow(number)
 }
 
-/// Encodes a plain column of integers, of any of the eight types, and decodes what comes out: the
-/// rows and the type are those of the column. Refused only as `OutOfMemory`. For compressors.
+/// Encodes a plain column of integers, of any of the eight types, and decodes the runs: returns a column with the same
+/// rows and type. Refused only as `OutOfMemory`. For compressors.
 pub fn encode_then_decode<A: Allocator + Copy>(
     array: ArrayRef<A>,
     ctx: &mut ExecutionCtx<A>,

@@ -1,4 +1,4 @@
-//! Which run each index of a take is in, by each strategy, with the memory of a context.
+//! The run that each index of a take is in, by each strategy, with the memory of a context.
 ghost use Rattle.std.specs.Prelude.{◌≡◌, ◌+◌, ◌-◌, ◌*◌, ◌<◌, ◌≤◌, IfOk, IsOkUnless, OnErr, length as item_count, map};
 ghost use Rattle.column_base.specs.Mask.{mask_bits};
 ghost use Rattle.column_core.specs.Digits.{digits};
@@ -11,7 +11,8 @@ use runend_array::{
 use std::alloc::Allocator;
 
 /// Returns the run of each valid index, and 0 for a null one, where `offset` is the position of row 0. For each valid
-/// index it tests no more ends than their number has binary digits. Refused only as `OutOfMemory`, before any test.
+/// index it tests at most as many ends as the number of ends has binary digits. Refused only as `OutOfMemory`, before
+/// any test.
 pub fn physical_indices_binary<E: UnsignedPType, T: NativePType, A: Allocator + Copy>(
     ends: &mut CountedEnds<'_, E>,
     offset: usize,
@@ -33,9 +34,9 @@ pub fn physical_indices_binary<E: UnsignedPType, T: NativePType, A: Allocator + 
     runend_select::physical_indices_binary(*ctx.allocator(), ends, offset, indices, mask)
 }
 
-/// Returns the run of each valid index, and 0 for a null one, where `offset` is the position of row 0 and no valid
-/// index is below a valid one before it. It tests an end for each valid index and one for each run but the last, at
-/// most. Refused only as `OutOfMemory`, before any test.
+/// Returns the run of each valid index, and 0 for a null one, where `offset` is the position of row 0. No valid index
+/// may be below a valid one before it. It tests at most one end for each valid index and one for each run but the last.
+/// Refused only as `OutOfMemory`, before any test.
 pub fn physical_indices_linear_sorted<E: UnsignedPType, T: NativePType, A: Allocator + Copy>(
     ends: &mut CountedEnds<'_, E>,
     offset: usize,
@@ -58,9 +59,9 @@ pub fn physical_indices_linear_sorted<E: UnsignedPType, T: NativePType, A: Alloc
     runend_select::physical_indices_linear_sorted(*ctx.allocator(), ends, offset, indices, mask)
 }
 
-/// Returns the run of each valid index, and 0 for a null one, where `offset` is the position of row 0. The indices are
-/// sorted, so it tests an end for each valid index and one for each run but the last, at most. Refused as `OutOfMemory`
-/// alone, before any test.
+/// Returns the run of each valid index, and 0 for a null one, where `offset` is the position of row 0. It sorts the
+/// indices first, so it tests at most one end for each valid index and one for each run but the last. Refused only as
+/// `OutOfMemory`, before any test.
 pub fn physical_indices_linear_unsorted<E: UnsignedPType, T: NativePType, A: Allocator + Copy>(
     ends: &mut CountedEnds<'_, E>,
     offset: usize,
@@ -82,8 +83,8 @@ pub fn physical_indices_linear_unsorted<E: UnsignedPType, T: NativePType, A: All
     runend_select::physical_indices_linear_unsorted(*ctx.allocator(), ends, offset, indices, mask)
 }
 
-/// Returns the run of each of `length` rows, from position `offset` on. It tests an end for each row and one for each
-/// run but the last, at most. Refused only as `OutOfMemory`, before any test.
+/// Returns the run of each of `length` rows, from position `offset` on. It tests at most one end for each row and one
+/// for each run but the last. Refused only as `OutOfMemory`, before any test.
 pub fn run_index_table<E: UnsignedPType, A: Allocator + Copy>(
     ends: &mut CountedEnds<'_, E>,
     offset: usize,

@@ -14,7 +14,7 @@ use std::alloc::Allocator;
 use std::marker::Model;
 use std::ops::Range;
 
-/// Bits, which do not change, in words that columns may share.
+/// Holds bits, which do not change, in words that columns may share.
 #[derive(Drop)]
 pub struct BitBuffer<A: Allocator> {
     words: Buffer<u64, A>,
@@ -40,7 +40,7 @@ impl<A: Allocator> BitBuffer<A> {
         self.count
     }
 
-    /// Returns whether there are no bits.
+    /// Returns whether the buffer has no bits.
     pub fn is_empty(&self) -> bool
         ensures { IsTrue result ↔ (self.now ≡ []) }
     {
@@ -55,8 +55,8 @@ impl<A: Allocator> BitBuffer<A> {
         (self.words[index / 64] >> (index % 64)) & 1 == 1
     }
 
-    /// Returns the words that hold the bits, 64 to a word from its lowest bit up: as few words as can, and 0 behind the
-    /// last bit.
+    /// Returns the words that hold the bits, 64 to a word from its lowest bit up: as few words as hold them, with 0
+    /// after the last bit.
     pub fn words(&self) -> &[u64]
         ensures { Packs result.now self.now }
     {
@@ -67,7 +67,7 @@ impl<A: Allocator> BitBuffer<A> {
     pub fn true_count(&self) -> usize
         ensures { result ≡ count_by (λ bit. bit) self.now }
     {
-        // Read for its range: the count of 1s is no larger.
+        // Read for its range: the count of 1s is not larger.
         let _count = self.count;
         let words = self.words.as_slice();
         ones_of(words)
@@ -109,7 +109,7 @@ impl<A: Allocator> BitBuffer<A> {
 }
 
 impl<A: Allocator + Copy> BitBuffer<A> {
-    // The first `count` bits of the words, which have no word more and no 1 behind them.
+    // The first `count` bits of the words, which have no further word and no 1 after them.
     pub(crate) fn of_words(words: Vec<u64, A>, count: usize) -> BitBuffer<A>
         requires { Packs words.items (first_bits count words.items) }
         ensures { result ≡ first_bits count words.items }
@@ -120,8 +120,8 @@ impl<A: Allocator + Copy> BitBuffer<A> {
         }
     }
 
-    /// Returns the bits from `range.start` to `range.end - 1`. They are shared with these where these are shared and
-    /// the range begins with a word and ends with a word or the last bit, and else copied. Refused only for memory.
+    /// Returns the bits from `range.start` to `range.end - 1`. Shares them if they are shared, and the range begins
+    /// with a word and ends with a word or the last bit; copies them otherwise. Refused only for memory.
     pub fn slice(&self, alloc: A, range: Range<usize>) -> VortexResult<BitBuffer<A>>
         requires ordered { range.start ≤ range.end }
         requires in_bounds { range.end ≤ length self.now }
@@ -166,8 +166,7 @@ impl<A: Allocator + Copy> BitBuffer<A> {
         Ok(BitBuffer::of_words(part, count))
     }
 
-    /// Returns a copy of the bits: shared with these where these are shared, and else in memory of its own. Refused
-    /// only for memory.
+    /// Returns a copy of the bits. Shares them if they are shared, and copies them otherwise. Refused only for memory.
     pub fn try_clone(&self, alloc: A) -> VortexResult<BitBuffer<A>>
         ensures bits { IfOk result (λ copy. copy ≡ self.now) }
         ensures only { IsOkUnless result VortexError.OutOfMemory }
@@ -177,8 +176,8 @@ impl<A: Allocator + Copy> BitBuffer<A> {
             count: self.count,
         })
     }
-    /// Returns a copy of the bits, shared with none: what these are a part of may then be freed. Refused only for
-    /// memory.
+    /// Returns a copy of the bits that nothing else shares: a longer buffer that these are a part of may then be freed.
+    /// Refused only for memory.
     pub fn compact(&self, alloc: A) -> VortexResult<BitBuffer<A>>
         ensures bits { IfOk result (λ copy. copy ≡ self.now) }
         ensures only { IsOkUnless result VortexError.OutOfMemory }

@@ -9,7 +9,7 @@ use crate::error::{VortexError, VortexResult};
 use std::alloc::Allocator;
 use std::marker::Model;
 
-/// Bits that are being written. It grows by the allocator that it was made with.
+/// Holds bits that are being written. It grows by the allocator that it was made with.
 #[derive(Drop)]
 pub struct BitBufferMut<A: Allocator> {
     words: Vec<u64, A>,
@@ -39,7 +39,7 @@ impl<A: Allocator + Copy> BitBufferMut<A> {
         })
     }
 
-    /// `count` bits, each of them `value`. Refused only for memory.
+    /// Makes `count` bits, each of them `value`. Refused only for memory.
     pub fn full(alloc: A, value: bool, count: usize) -> VortexResult<Self>
         ensures bits { IfOk result (λ buffer. buffer ≡ replicate count value) }
         ensures only { IsOkUnless result VortexError.OutOfMemory }
@@ -49,8 +49,8 @@ impl<A: Allocator + Copy> BitBufferMut<A> {
         Ok(BitBufferMut { words, count })
     }
 
-    /// Returns the first `count` bits of the words, 64 to a word from its lowest bit up. What stands behind them in the
-    /// words is let go, whatever it is. Takes no memory.
+    /// Returns the first `count` bits of the words, 64 to a word from its lowest bit up. Whatever comes after them in
+    /// the words is dropped. Takes no memory.
     pub fn from_words(mut words: Vec<u64, A>, count: usize) -> Self
         requires in_words { count ≤ length words.items * 64 }
         ensures { result ≡ first_bits count words.items }
@@ -67,20 +67,20 @@ impl<A: Allocator + Copy> BitBufferMut<A> {
         self.count
     }
 
-    /// Returns whether there are no bits.
+    /// Returns whether it has no bits.
     pub fn is_empty(&self) -> bool
         ensures { IsTrue result ↔ (self.now ≡ []) }
     {
         self.count == 0
     }
 
-    /// Puts `bit` behind the last bit. Refused only for memory, and then the bits stay.
+    /// Appends `bit`. Refused only for memory, and then the bits stay as they are.
     pub fn append(&mut self, bit: bool) -> VortexResult<()>
         ensures ok { OnOk result (self.new ≡ self.old ++ bit ∷ []) }
         ensures err { OnErr result (self.new ≡ self.old) }
         ensures only { IsOkUnless result VortexError.OutOfMemory }
     {
-        // No memory has so many bits, but no count could tell them.
+        // No memory has these bits, but their number would not fit `usize`.
         if self.count == usize::MAX {
             return Err(VortexError::OutOfMemory);
         }
@@ -96,8 +96,7 @@ impl<A: Allocator + Copy> BitBufferMut<A> {
         Ok(())
     }
 
-    /// Puts `count` times `bit` behind the last bit. Refused only for memory, and then
-    /// the bits stay.
+    /// Appends `bit` `count` times. Refused only for memory, and then the bits stay as they are.
     pub fn append_n(&mut self, bit: bool, count: usize) -> VortexResult<()>
         ensures ok { OnOk result (self.new ≡ self.old ++ replicate count bit) }
         ensures err { OnErr result (self.new ≡ self.old) }
@@ -123,7 +122,7 @@ impl<A: Allocator + Copy> BitBufferMut<A> {
         Ok(())
     }
 
-    /// Makes each bit from `start` to `stop - 1` the bit `bit`, and changes no other.
+    /// Sets each bit from `start` to `stop - 1` to `bit`, and changes no other.
     pub fn fill_range(&mut self, start: usize, stop: usize, bit: bool)
         requires ordered { start ≤ stop }
         requires in_bounds { stop ≤ length self.old }
@@ -144,8 +143,8 @@ impl<A: Allocator + Copy> BitBufferMut<A> {
         self.count = count;
     }
 
-    /// Returns the bits as a buffer, in which they change no more, shared as `Buffer::shared` shares their words.
-    /// Nothing is copied, and want of memory refuses nothing.
+    /// Returns the bits as a buffer, in which they do not change any more. Shares their words as `Buffer::shared` does,
+    /// copies nothing, and is not refused where memory runs out.
     pub fn freeze(self) -> BitBuffer<A>
         ensures { result ≡ self }
     {

@@ -13,8 +13,8 @@ pub(crate) fn ones_between(word: u64, low: usize, high: usize) -> usize
     ((word >> low) & low_mask(high - low)).count_ones() as usize
 }
 
-// How many bits of the words are 1. It tells that they are words, too, which a caller that only
-// lent them can't know.
+// How many bits of the words are 1. The clause also says that they are words, which a caller that
+// only lent them can't know.
 pub(crate) fn ones_of(words: &[u64]) -> usize
     requires { sum_by count_ones words.now < 2 ^ 64 }
     ensures count { result ≡ sum_by count_ones words.now }

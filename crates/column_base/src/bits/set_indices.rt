@@ -6,7 +6,7 @@ ghost use Rattle.column_base.specs.Words.{places_left};
 use crate::bits::copies::word_or_zero;
 use std::marker::Model;
 
-/// An iterator over the places of true bits, counted from 0, from the first to the last.
+/// Iterates over the places of true bits, counted from 0, from the first to the last.
 #[derive(Drop)]
 pub struct SetIndices<'a> {
     words: &'a [u64],

@@ -98,8 +98,8 @@ impl RunEnd {
         }
     }
 
-    /// Returns the run column of the encoding of a plain column of integers: a tight exact cover of its rows, with ends
-    /// as narrow as can be. Refused as `OnlyPrimitive` exactly for other forms and types, else only as `OutOfMemory`.
+    /// Encodes a plain column of integers: returns the tight exact cover of its rows, with ends of the least type that
+    /// holds them. Refused as `OnlyPrimitive` exactly for other forms and types, else only as `OutOfMemory`.
     pub fn encode<A: Allocator + Copy>(
         array: ArrayRef<A>,
         ctx: &mut ExecutionCtx<A>,
@@ -128,14 +128,14 @@ impl RunEnd {
         "vortex.runend"
     }
 
-    /// Returns how many buffers a run column has beside its slots: none.
+    /// Returns how many buffers a run column has in addition to its slots: none.
     pub fn nbuffers() -> usize
         ensures { result ≡ 0 }
     {
         0
     }
 
-    /// Returns the name of a slot: of slot 0 `ends`, of slot 1 `values`.
+    /// Returns the name of a slot: `ends` for slot 0, `values` for slot 1.
     pub fn slot_name(slot: usize) -> &'static str
         requires { slot < 2 }
         ensures ends { slot ≡ 0 → result.now ≡ codes "ends" }
@@ -148,9 +148,8 @@ impl RunEnd {
     }
 }
 
-/// Do the parts make a run column? Else the first fault: `EndsNotUnsigned`, `LengthsDiffer`,
-/// `NoRunsWindow`, `EndsNotStrict`, `WindowOverflow`, `FirstEndBelowOffset`, `LastEndBelowWindow`.
-/// Takes no memory.
+/// Tests that the parts make a run column. Refused by the first fault: `EndsNotUnsigned`, `LengthsDiffer`,
+/// `NoRunsWindow`, `EndsNotStrict`, `WindowOverflow`, `FirstEndBelowOffset`, `LastEndBelowWindow`. Takes no memory.
 pub fn validate_parts<A: Allocator + Copy>(
     ends: &ArrayRef<A>,
     values: &ArrayRef<A>,
@@ -181,7 +180,7 @@ pub(crate) fn plain_ends<A: Allocator + Copy>(ends: &ArrayRef<A>) -> Option<&Pri
     }
 }
 
-// The last end, or 0 without ends; nothing where the column is none of ends.
+// The last end, or 0 without ends; nothing where the column does not hold ends.
 fn last_of<A: Allocator + Copy>(ends: &ArrayRef<A>) -> Option<usize>
     ensures { MatchOption result
         (¬ IsPlainEnds (column_of ends.now))

@@ -49,7 +49,7 @@ impl<A: Allocator + Copy> RunEndArray<A> {
         plain_truth_at(&self.values, run)
     }
 
-    // The run of a row, sought from `run` on: that of an earlier row, or the first.
+    // The run of a row, searched from `run` on, which is the run of an earlier row, or the first run.
     fn run_from(&self, run: usize, index: usize) -> usize
         requires within { index < self.now.count }
         requires before { run ≤ run_at self.now.ends (self.now.offset + index) }
@@ -58,8 +58,8 @@ impl<A: Allocator + Copy> RunEndArray<A> {
         ops::run_from(&self.ends, run, self.offset + index)
     }
 
-    /// Returns the number in a row of a run column over flat u64 without null, up to where the run of this row ends;
-    /// and in `run` this run, sought from `run` on: that of an earlier row, or the first.
+    /// Returns the number in a row of a run column over flat u64 without null, and where the run of this row ends. The
+    /// run is searched from `run` on, which is the run of an earlier row, or the first run, and is put into `run`.
     pub(crate) fn number_from(&self, run: &mut usize, index: usize) -> Stretch<u64>
         requires plain { IsPlainIndex self.now.values }
         requires within { index < self.now.count }
@@ -77,8 +77,9 @@ impl<A: Allocator + Copy> RunEndArray<A> {
         }
     }
 
-    /// Returns the boolean in a row of a run column over flat booleans without null, up to where the run of this row
-    /// ends; and in `run` this run, sought from `run` on: that of an earlier row, or the first.
+    /// Returns the boolean in a row of a run column over flat booleans without null, and where the run of this row
+    /// ends. The run is searched from `run` on, which is the run of an earlier row, or the first run, and is put into
+    /// `run`.
     pub(crate) fn truth_from(&self, run: &mut usize, index: usize) -> Stretch<bool>
         requires plain { IsPlainTruths self.now.values }
         requires within { index < self.now.count }
@@ -108,8 +109,8 @@ impl<A: Allocator + Copy> RunEndArray<A> {
             .min(stop - start)
     }
 
-    /// Returns the numbers in the rows from `start` to `stop - 1` of a run column over flat u64 without null. Each run
-    /// is looked at once. Refused only as `OutOfMemory`.
+    /// Returns the numbers in the rows from `start` to `stop - 1` of a run column over flat u64 without null. Looks at
+    /// each run once. Refused only as `OutOfMemory`.
     pub(crate) fn numbers_between(
         &self,
         alloc: A,
@@ -137,7 +138,7 @@ impl<A: Allocator + Copy> RunEndArray<A> {
     }
 
     /// Returns the booleans in the rows from `start` to `stop - 1` of a run column over flat booleans without null.
-    /// Each run is looked at once. Refused only as `OutOfMemory`.
+    /// Looks at each run once. Refused only as `OutOfMemory`.
     pub(crate) fn truths_between(
         &self,
         alloc: A,

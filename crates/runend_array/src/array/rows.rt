@@ -32,7 +32,7 @@ impl<A: Allocator + Copy> RunEndArray<A> {
         self.length
     }
 
-    /// Returns whether there are no rows.
+    /// Returns whether the column has no rows.
     pub fn is_empty(&self) -> bool
         ensures { IsTrue result ↔ (self.now.count ≡ 0) }
     {
@@ -66,8 +66,8 @@ impl<A: Allocator + Copy> RunEndArray<A> {
         }
     }
 
-    /// Returns a run column that is equal in form. Its buffers are shared with this one's where those are shared, and
-    /// else copied. Refused only as `OutOfMemory`.
+    /// Returns a run column that is equal in form. Shares the buffers that are shared, and copies the others. Refused
+    /// only as `OutOfMemory`.
     pub fn try_clone(&self, ctx: &mut ExecutionCtx<A>) -> VortexResult<RunEndArray<A>>
         ensures only { IsOkUnless result VortexError.OutOfMemory }
         ensures form { IfOk result (λ array. array ≡ self.now) }
@@ -116,8 +116,8 @@ impl<A: Allocator + Copy> RunEndArray<A> {
             .decode_with(alloc, ends, self.offset, self.length, prefill_runs)
     }
 
-    /// Returns the runs of the rows from `start` to `stop - 1`, of which there is one at least: from the run of the
-    /// first of them to one past the run of the last.
+    /// Returns the runs of the rows from `start` to `stop - 1`, of which there has to be one at least: from the run of
+    /// the first row to one past the run of the last.
     pub fn runs_of_rows(&self, start: usize, stop: usize) -> Range<usize>
         requires some { start < stop }
         requires within { stop ≤ self.now.count }
@@ -133,8 +133,8 @@ impl<A: Allocator + Copy> RunEndArray<A> {
         first..stop
     }
 
-    /// Returns the visible runs: from the run of the first row to one past that of the last, and `0..0` where there is
-    /// no row.
+    /// Returns the visible runs: from the run of the first row to one past the run of the last, and `0..0` without
+    /// rows.
     pub fn visible_runs(&self) -> Range<usize>
         ensures first { result.start ≡ first_visible self.now.ends self.now.offset self.now.count }
         ensures stop { result.end ≡ stop_visible self.now.ends self.now.offset self.now.count }
@@ -169,8 +169,7 @@ impl<A: Allocator + Copy> RunEndArray<A> {
         ends_in(alloc, &self.ends, first, stop)
     }
 
-    // The rows from `start` to `stop - 1`, of which there is one at least. Only the values of their runs
-    // are written.
+    // The rows from `start` to `stop - 1`, of which there has to be one at least. Writes only the values of their runs.
     #[cycle(rows_between)]
     pub(crate) fn rows_between(
         &self,
@@ -192,7 +191,7 @@ impl<A: Allocator + Copy> RunEndArray<A> {
                 return Err(error);
             }
         };
-        // No session is at hand, and by default booleans are prefilled from 0 runs on.
+        // No session is known here; by default booleans are prefilled from 0 runs on.
         let made = values.decode_with(alloc, &ends, self.offset + start, stop - start, 0);
         drop(ends);
         let rows = made?;

@@ -53,8 +53,8 @@ pub(crate) fn plain_number_at<A: Allocator + Copy>(column: &ArrayRef<A>, index: 
     }
 }
 
-/// Returns the numbers of a flat column of u64 from row `start` to row `stop - 1`, shared with it where it is shared.
-/// Refused only as `OutOfMemory`.
+/// Returns the numbers of a flat column of u64 from row `start` to row `stop - 1`. Shares its buffer if it is shared,
+/// and copies otherwise. Refused only as `OutOfMemory`.
 pub(crate) fn plain_numbers_between<A: Allocator + Copy>(
     alloc: A,
     column: &ArrayRef<A>,
@@ -77,8 +77,8 @@ pub(crate) fn plain_numbers_between<A: Allocator + Copy>(
     }
 }
 
-/// Returns the bits of a flat column of booleans from row `start` to row `stop - 1`, shared with it where they
-/// are shared and the range is one of whole words. Refused only as `OutOfMemory`.
+/// Returns the bits of a flat column of booleans from row `start` to row `stop - 1`. Shares them if they are shared and
+/// the range is one of whole words, and copies otherwise. Refused only as `OutOfMemory`.
 pub(crate) fn plain_truths_between<A: Allocator + Copy>(
     alloc: A,
     column: &ArrayRef<A>,
@@ -107,7 +107,7 @@ pub(crate) fn is_plain_truths<A: Allocator + Copy>(column: &ArrayRef<A>) -> bool
     }
 }
 
-/// Returns a boolean of a flat column of them.
+/// Returns a boolean of a flat column of booleans.
 pub(crate) fn plain_truth_at<A: Allocator + Copy>(column: &ArrayRef<A>, index: usize) -> bool
     requires plain { IsPlainTruths (column_of column.now) }
     requires within { index < length (truths_of (column_of column.now)) }
@@ -155,8 +155,9 @@ pub(crate) fn index_at<A: Allocator + Copy>(column: &ArrayRef<A>, index: usize) 
     }
 }
 
-/// Returns the offset or size at `index`: of a flat column that row alone, of runs up to where the run of the row ends,
-/// and then with this run in `run`, sought from `run` on: that of an earlier row, or the first.
+/// Returns the offset or size at `index`, and the row before which it is known to stay the same: the next row in a flat
+/// column, the end of the row's run in a run column. The run is searched from `run` on, which is the run of an earlier
+/// row, or the first run, and is put into `run`.
 pub(crate) fn index_from<A: Allocator + Copy>(
     column: &ArrayRef<A>,
     run: &mut usize,

@@ -37,7 +37,7 @@ use std::marker::Model;
 use std::ops::Range;
 use std::rc::Rc;
 
-/// Lists over shared elements: a row has as many elements as its size says, from its offset on.
+/// Holds lists over shared elements: a row has as many elements as its size says, from its offset on.
 #[cycle(array)]
 #[derive(Drop)]
 pub struct ListViewArray<A: Allocator> {
@@ -72,9 +72,9 @@ impl<A: Allocator> Model for ListViewArray<A> {
 impl<A: Allocator + Copy> ListViewArray<A> {
     /// Returns the lists of these parts. Refused by the first fault: `TypeMismatch` unless offsets and sizes are u64
     /// without null, flat or in runs over flat values, and runs of the validity are over flat booleans without null;
-    /// `ColumnLength`, with the number of offsets first, where there are not as many sizes, then where the validity is
-    /// of another number of rows; `OutOfBounds`, with the row and the number of elements, for the first valid row that
-    /// does not lie within the elements. Takes no memory.
+    /// `ColumnLength`, with the number of offsets first, where there are more or fewer sizes, then where the validity
+    /// is of another number of rows; `OutOfBounds`, with the row and the number of elements, for the first valid row
+    /// that does not lie within the elements. Takes no memory.
     pub fn try_new(
         elements: Rc<FlatColumn<A>, A>,
         offsets: ArrayRef<A>,
@@ -107,7 +107,7 @@ impl<A: Allocator + Copy> ListViewArray<A> {
         &self.elements
     }
 
-    /// Where the elements of each row start.
+    /// Returns where the elements of each row start.
     pub fn offsets(&self) -> &ArrayRef<A>
         ensures form { index_of (column_of result.now) ≡ self.now.offsets }
         ensures index { IsIndex (column_of result.now) }
@@ -140,7 +140,7 @@ impl<A: Allocator + Copy> ListViewArray<A> {
         index_len(&self.offsets)
     }
 
-    /// Returns whether there are no rows.
+    /// Returns whether the column has no rows.
     pub fn is_empty(&self) -> bool
         ensures { IsTrue result ↔ (list_count self.now ≡ 0) }
     {
@@ -194,8 +194,8 @@ impl<A: Allocator + Copy> ListViewArray<A> {
         }
     }
 
-    /// Returns the rows that runs of these lists show, from row `offset` on, `count` many: lists over the same
-    /// elements, with offsets, sizes and, where it is stored, validity in runs. Refused only as `OutOfMemory`.
+    /// Returns the `count` rows, from row `offset` on, that runs of these lists show: lists over the same elements,
+    /// with offsets and sizes in runs, and the validity too where it is stored. Refused only as `OutOfMemory`.
     pub fn decode_with(
         &self,
         alloc: A,
@@ -233,11 +233,10 @@ impl<A: Allocator + Copy> ListViewArray<A> {
     }
 
     /// Returns the rows from `range.start` to `range.end - 1`: lists over the same elements. Offsets, sizes and
-    /// validity stay in their form: those in runs are cut to the runs of these rows, others are a range of
-    /// what is stored, with bits of validity only where some row is null and some is not.
-    /// Refused as `BadRange`, with both bounds and the number of rows, exactly where the range begins
-    /// after its end or ends after the last row, and that before any memory is taken; else only as
-    /// `OutOfMemory`.
+    /// validity keep their form: if they are in runs, they are cut to the runs of these rows, else to a range of what
+    /// is stored, with bits of validity only where some rows are null and others are not. Refused as `BadRange`, with
+    /// both bounds and the number of rows, exactly where the range begins after its end or ends after the last row,
+    /// before any memory is taken; else only as `OutOfMemory`.
     pub fn slice(&self, alloc: A, range: Range<usize>) -> VortexResult<ListViewArray<A>>
         ensures refused { let count = list_count self.now in
             IsErrOf result (VortexError.BadRange range.start range.end count) ↔ IsBadRange range.start range.end count }
@@ -287,10 +286,10 @@ impl<A: Allocator + Copy> ListViewArray<A> {
         }
     }
 
-    /// Returns the rows at these positions, null for null, where the valid positions are below the number of rows:
-    /// lists over the same elements, with flat offsets and sizes as they are stored, 0 for null, and bits of validity
-    /// only where some row is null and some is not. The type has null where that of the lists or the positions have.
-    /// Refused only as `OutOfMemory`.
+    /// Returns the rows at these positions, null for null, where the valid positions are below the number of rows. They
+    /// are lists over the same elements, with flat offsets and sizes as they are stored, 0 for null, and bits of
+    /// validity only where some rows are null and others are not. The type has null where the lists or the positions
+    /// have. Refused only as `OutOfMemory`.
     pub fn take_at(
         &self,
         alloc: A,

@@ -18,7 +18,7 @@ use column_core::{
 };
 use std::alloc::Allocator;
 
-/// Returns the numbers of an index in runs: a run column over them, with these ends and this window. Refused only as
+/// Returns an index in runs: a run column over these numbers, with these ends and this window. Refused only as
 /// `OutOfMemory`.
 pub(crate) fn index_in_runs<A: Allocator + Copy>(
     alloc: A,
@@ -55,7 +55,7 @@ pub(crate) fn index_in_runs<A: Allocator + Copy>(
     Ok(index)
 }
 
-// The validity that runs of these flags tell.
+// The validity that runs of these flags give.
 fn flags_in_runs<A: Allocator + Copy>(
     alloc: A,
     ends: &PrimitiveArray<A>,
@@ -89,8 +89,8 @@ fn flags_in_runs<A: Allocator + Copy>(
     Ok(RowValidity::Runs(boxed))
 }
 
-/// Returns the validity of the rows that runs show in a window: as it stands where it serves any number of rows, else
-/// runs with these ends and this window. Refused only as `OutOfMemory`.
+/// Returns the validity of the rows that runs show in a window: the validity itself where it serves any number of rows,
+/// else runs with these ends and this window. Refused only as `OutOfMemory`.
 pub(crate) fn run_validity_of_lists<A: Allocator + Copy>(
     alloc: A,
     ends: &PrimitiveArray<A>,

@@ -15,8 +15,8 @@ use column_core::{
 };
 use std::alloc::Allocator;
 
-/// The numbers of an index from row `start` to row `stop - 1`, shared with a flat one where that is
-/// shared. Of runs each is looked at once. Refused only as `OutOfMemory`.
+/// Returns the numbers of an index from row `start` to row `stop - 1`. Shares the buffer of a flat index if it is
+/// shared; looks at each run of an index in runs once. Refused only as `OutOfMemory`.
 pub(super) fn numbers_between<A: Allocator + Copy>(
     alloc: A,
     index: &ArrayRef<A>,
@@ -40,8 +40,8 @@ pub(super) fn numbers_between<A: Allocator + Copy>(
     }
 }
 
-/// Whether each row from `start` to `stop - 1` is valid, of `count` rows. Of runs each is looked at
-/// once. Refused only as `OutOfMemory`.
+/// Returns for each row from `start` to `stop - 1`, of `count` rows, whether it is valid. Looks at each run of a
+/// validity in runs once. Refused only as `OutOfMemory`.
 pub(super) fn flags_between<A: Allocator + Copy>(
     alloc: A,
     validity: &RowValidity<A>,
@@ -76,8 +76,8 @@ fn same_flags<A: Allocator + Copy>(alloc: A, flag: bool, count: usize) -> Vortex
     Ok(bits.freeze())
 }
 
-/// Cuts an index to the rows from `start` to `stop - 1`: a flat one stays flat, and of runs the runs of these
-/// rows are left. Refused only as `OutOfMemory`.
+/// Cuts an index to the rows from `start` to `stop - 1`: a flat one stays flat, and one in runs keeps the runs of these
+/// rows. Refused only as `OutOfMemory`.
 pub(crate) fn index_between<A: Allocator + Copy>(
     alloc: A,
     index: &ArrayRef<A>,
@@ -127,9 +127,9 @@ fn plain_index_between<A: Allocator + Copy>(
     Ok(ArrayRef::Primitive(flat))
 }
 
-/// Cuts a validity of `count` rows to the rows from `start` to `stop - 1`: it stays as it is where it serves
-/// any number of rows; of runs the runs of these rows are left; else there are bits only where some of these
-/// rows is null and some is not. Refused only as `OutOfMemory`.
+/// Cuts a validity of `count` rows to the rows from `start` to `stop - 1`. It stays as it is where it serves any number
+/// of rows; one in runs keeps the runs of these rows; any other has bits only where some of these rows are null and
+/// others are not. Refused only as `OutOfMemory`.
 pub(crate) fn validity_between<A: Allocator + Copy>(
     alloc: A,
     validity: &RowValidity<A>,

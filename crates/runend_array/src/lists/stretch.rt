@@ -1,7 +1,6 @@
-//! Rows in a row that show the same.
+//! Neighbouring rows that show the same.
 
-/// What a row shows, and where the rows that show the same as one with it end: each row from it on and
-/// before `stop` shows this value.
+/// Holds what a row shows, and the row before which the equal rows from it on end.
 #[derive(Clone, Copy)]
 pub(crate) struct Stretch<T> {
     pub(crate) value: T,

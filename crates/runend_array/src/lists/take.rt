@@ -61,7 +61,7 @@ fn numbers_at<A: Allocator + Copy>(
     Ok(numbers)
 }
 
-// The number at the position of a place, and 0 where that is null.
+// The number at the position of a place, and 0 for a null position.
 fn number_at<A: Allocator + Copy>(
     index: &ArrayRef<A>,
     positions: &[u64],
@@ -81,8 +81,8 @@ fn number_at<A: Allocator + Copy>(
     }
 }
 
-/// Returns the validity of the rows at the positions, of `count` rows, with bits only where some of these rows is null
-/// and some is not. Refused only as `OutOfMemory`.
+/// Returns the validity of the rows at the positions, of `count` rows, with bits only where some of these rows are null
+/// and others are not. Refused only as `OutOfMemory`.
 pub(crate) fn validity_taken<A: Allocator + Copy>(
     alloc: A,
     validity: &RowValidity<A>,
@@ -108,7 +108,7 @@ pub(crate) fn validity_taken<A: Allocator + Copy>(
     }
 }
 
-// With null where the rows or the positions have null.
+// Nullable where the rows or the positions may be null.
 fn nullability_at<A: Allocator + Copy>(
     validity: &RowValidity<A>,
     places: &Validity<A>,
@@ -145,7 +145,7 @@ fn flags_at<A: Allocator + Copy>(
     Ok(bits.freeze())
 }
 
-// Is the row at the position of a place valid? Not where that is null.
+// Is the row at the position of a place valid? Not for a null position.
 fn flag_at_place<A: Allocator + Copy>(
     validity: &RowValidity<A>,
     count: usize,

@@ -52,7 +52,7 @@ fn first_past(offsets: &[u64], sizes: &[u64], count: usize) -> Option<usize>
 }
 
 // The first valid row that does not lie within the elements. A step is a stretch of rows in which
-// offset, size and validity stay the same, so rows in runs take as many steps as there are runs.
+// offset, size and validity stay the same, so rows in runs take one step for each run.
 fn first_outside_in_stretches<A: Allocator + Copy>(
     elements: &FlatColumn<A>,
     offsets: &ArrayRef<A>,

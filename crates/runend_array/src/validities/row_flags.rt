@@ -13,7 +13,7 @@ use crate::validities::RowValidity;
 use column_core::{Nullability, ScalarView, Validity, VortexError, VortexResult};
 use std::alloc::Allocator;
 
-/// Returns a validity that is told row by row.
+/// Returns a validity as a validity that holds it row by row.
 pub(crate) fn rows_of_validity<A: Allocator>(validity: Validity<A>) -> RowValidity<A>
     ensures form { validity_of result ≡ ByRows (form_of validity) }
     ensures plain { IsRowValidity result }
@@ -26,7 +26,7 @@ pub(crate) fn rows_of_validity<A: Allocator>(validity: Validity<A>) -> RowValidi
     }
 }
 
-// A copy of a validity, told row by row.
+// A copy of a validity, held row by row.
 fn copy_told<A: Allocator + Copy>(alloc: A, validity: &Validity<A>) -> VortexResult<RowValidity<A>>
     ensures only { IsOkUnless result VortexError.OutOfMemory }
     ensures form { IfOk result (λ rows. validity_of rows ≡ ByRows (form_of validity.now)) }

@@ -1,4 +1,4 @@
-//! Which rows of any column are there, and which are null.
+//! Which rows of any column are null.
 ghost use Rattle.std.specs.Prelude.{◌≡◌, ◌<◌, ◌↔◌, IsTrue, IfOk, IsOkUnless};
 ghost use Rattle.runend_array.specs.Array.{validity_of, IsRowValidity};
 ghost use Rattle.runend_array.specs.Fault.{rows_told};
@@ -10,24 +10,24 @@ use crate::lists::Stretch;
 use column_core::{BitBuffer, Nullability, VortexError, VortexResult};
 use std::alloc::Allocator;
 
-/// Which rows of a column are there, and which are null: row by row, or by runs of booleans.
+/// Says which rows of a column are null, row by row, or by runs of booleans.
 #[cycle(array)]
 #[derive(Drop)]
 pub enum RowValidity<A: Allocator> {
-    /// The type has no null, so all rows are there.
+    /// Says that the type has no null, so that no row is null.
     NonNullable,
-    /// The type has null, and all rows are there.
+    /// Says that the type has null, and no row is null.
     AllValid,
-    /// All rows are null.
+    /// Says that all rows are null.
     AllInvalid,
-    /// A row for each bit, null where the bit is false.
+    /// Holds a bit for each row, which is null where the bit is false.
     Bits(BitBuffer<A>),
-    /// A run column of booleans without null; a row is null where it shows false.
+    /// Holds a run column of booleans without null; a row is null where it shows false.
     Runs(Box<RunEndArray<A>, A>),
 }
 
 impl<A: Allocator + Copy> RowValidity<A> {
-    /// Returns whether its runs, where it has any, over flat booleans without are null.
+    /// Returns whether the validity is not in runs, or in runs over flat booleans without null.
     pub(crate) fn is_plain(&self) -> bool
         ensures { IsTrue result ↔ IsRowValidity self.now }
     {
@@ -47,7 +47,7 @@ impl<A: Allocator + Copy> RowValidity<A> {
         }
     }
 
-    /// Returns how many rows it speaks of, and `None` where it serves any number of rows.
+    /// Returns for how many rows it holds flags, and `None` where it serves any number of rows.
     pub fn len(&self) -> Option<usize>
         ensures { result ≡ rows_told (validity_of self.now) }
     {
@@ -60,14 +60,14 @@ impl<A: Allocator + Copy> RowValidity<A> {
         }
     }
 
-    /// Returns whether its form says that all rows are there, whatever their number.
+    /// Returns whether its form says that no row is null, whatever their number.
     pub(crate) fn is_all_valid(&self) -> bool
         ensures { IsTrue result ↔ IsAllValid (validity_of self.now) }
     {
         matches!(self, RowValidity::NonNullable | RowValidity::AllValid)
     }
 
-    /// Returns whether the row at `index` is there, of `count` rows.
+    /// Returns whether the row at `index`, of `count` rows, is valid.
     pub(crate) fn is_valid(&self, index: usize, count: usize) -> bool
         requires plain { IsRowValidity self.now }
         requires counted { HasRows (validity_of self.now) count }
@@ -84,9 +84,9 @@ impl<A: Allocator + Copy> RowValidity<A> {
         }
     }
 
-    /// Returns whether the row at `index` is there, of `count` rows. Of bits that row alone, of runs up to where the
-    /// run of the row ends, and else all rows. Of runs, with this run in `run`, sought from `run` on: that of an
-    /// earlier row, or the first.
+    /// Returns whether the row at `index`, of `count` rows, is valid, and the row before which this is known to stay
+    /// the same: the next row where there are bits, the end of the row's run where there are runs, and else `count`. A
+    /// run is searched from `run` on, which is the run of an earlier row, or the first run, and is put into `run`.
     pub(crate) fn valid_from(&self, run: &mut usize, index: usize, count: usize) -> Stretch<bool>
         requires plain { IsRowValidity self.now }
         requires counted { HasRows (validity_of self.now) count }

@@ -20,7 +20,7 @@ use std::alloc::Allocator;
 /// Returns the dictionary's row for each code, null for null. Where the kernel serves a run column of codes and the
 /// dictionary is of integers or booleans, runs are left; else flat rows. Refused as `TypeMismatch` unless the codes are
 /// integers, and then as `OutOfBounds`, with the code and the dictionary's rows, at the first code that is negative or
-/// of no row of it.
+/// does not name a row of it.
 pub fn take_from<A: Allocator + Copy>(
     column: &ArrayRef<A>,
     dictionary: &ArrayRef<A>,

@@ -21,10 +21,10 @@ use runend_array::{ArrayRef, ConstantArray, ExecutionCtx, Kernel};
 use runend_column::flat_rows;
 use std::alloc::Allocator;
 
-/// Compares each row with the row of `right` at its place: whether the operator holds, null where either is. Two
-/// constants that have a row leave a constant, and no row of it is written. Else flat booleans are left, or a constant
-/// null where the kernel serves a run column, `right` is a constant, and all are null. Refused as `Unsupported` for
-/// lists, as `TypeMismatch` for two kinds, and as `ColumnLength` for two numbers of rows.
+/// Compares each row with the row of `right` at its place: it becomes whether the operator holds, null where either is
+/// null. Two constants that have a row leave a constant, and no row of it is written. Else flat booleans are left, or a
+/// constant null where the kernel serves a run column, `right` is a constant, and all are null. Refused as
+/// `Unsupported` for lists, as `TypeMismatch` for two kinds, and as `ColumnLength` for two numbers of rows.
 pub fn compare<A: Allocator + Copy>(
     column: &ArrayRef<A>,
     operator: CompareOperator,
@@ -78,7 +78,7 @@ fn truths_row_by_row<A: Allocator + Copy>(
     }
 }
 
-// Compares each row with the value of a constant of as many rows, of which no row is written.
+// Compares each row with the value of a constant of as many rows, and writes no row of the constant.
 fn truths_beside<A: Allocator + Copy>(
     column: &ArrayRef<A>,
     operator: CompareOperator,
@@ -112,7 +112,7 @@ fn fault_beside<A: Allocator + Copy>(
     column_fault(column.dtype(), right.dtype(), column.len(), right.len())
 }
 
-// The truth of each row and the one beside it, of columns that can be compared.
+// Whether the operator holds of the two rows at each place, for columns that can be compared.
 fn truths_of_rows<A: Allocator + Copy>(
     column: &ArrayRef<A>,
     operator: CompareOperator,
@@ -133,7 +133,7 @@ fn truths_of_rows<A: Allocator + Copy>(
     truths
 }
 
-// The truth of each row and the one beside it, where the rows of the left column are written.
+// Whether the operator holds of the two rows at each place, where the rows of the left column are written.
 fn truths_of_flat<A: Allocator + Copy>(
     left: &FlatColumn<A>,
     operator: CompareOperator,

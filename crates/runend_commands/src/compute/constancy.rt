@@ -16,7 +16,7 @@ use runend_array::{ArrayRef, ExecutionCtx, Kernel};
 use runend_column::flat_rows;
 use std::alloc::Allocator;
 
-/// Returns whether any two rows are equal, null equal to null. It takes no memory where the array is flat, or is runs
+/// Returns whether all rows are equal, null being equal to null. It takes no memory where the array is flat, or is runs
 /// or a constant and the kernel is registered. Refused as `Unsupported` for lists.
 pub fn is_constant<A: Allocator + Copy>(
     column: &ArrayRef<A>,

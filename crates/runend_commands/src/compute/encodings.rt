@@ -20,9 +20,10 @@ use runend_builder::row_runs;
 use runend_windows::has_nulls_alone;
 use std::alloc::Allocator;
 
-/// Writes the rows as runs, as few as there can be, whose ends have the narrowest type that has the last of them. A run
-/// column is written anew, since its neighbouring runs may be equal: for runs and constants only the visible runs are
-/// looked at, and not the rows. Refused as `OnlyPrimitive` unless the rows are integers, before any memory is taken.
+/// Writes the rows as the least number of runs, whose ends have the narrowest type that holds the last end. A run
+/// column is written anew, since its neighbouring runs may be equal. Looks only at the visible runs of run columns and
+/// constants, and not at their rows. Refused as `OnlyPrimitive` unless the rows are integers, before any memory is
+/// taken.
 pub fn encode<A: Allocator + Copy>(
     column: &ArrayRef<A>,
     ctx: &mut ExecutionCtx<A>,

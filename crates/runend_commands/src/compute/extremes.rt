@@ -22,8 +22,8 @@ use runend_column::flat_rows;
 use std::alloc::Allocator;
 use std::cmp::Ordering;
 
-/// Returns the least and the greatest row that are not null, in memory of their own, or `None` where all are null. But
-/// for texts and bytes it takes no memory where the array is flat, or is runs or a constant and the kernel is
+/// Returns the least and the greatest row that are not null, in memory of their own, or `None` where all are null.
+/// Except for texts and bytes it takes no memory where the array is flat, or is runs or a constant and the kernel is
 /// registered. Refused as `Unsupported` for lists.
 pub fn min_max<A: Allocator + Copy>(
     column: &ArrayRef<A>,
@@ -48,8 +48,8 @@ pub fn min_max<A: Allocator + Copy>(
 }
 
 /// Returns the row that is not null and furthest to that side, in memory of its own: the least where the side is
-/// `Less`, and the greatest where it is `Greater`. `None` where all are null. Memory and refusals are those of
-/// `min_max`; where the array is flat, or is runs and the kernel is registered, rows are compared for that side only.
+/// `Less`, and the greatest where it is `Greater`. `None` where all are null. Takes memory and is refused as `min_max`;
+/// where the array is flat, or is runs and the kernel is registered, rows are compared only for that side.
 pub fn extreme<A: Allocator + Copy>(
     column: &ArrayRef<A>,
     side: Ordering,
@@ -245,7 +245,7 @@ fn scalar_copy<A: Allocator + Copy>(
     }
 }
 
-// The value of a row of this type, which is none of texts, bytes or lists, or `None` for null.
+// The value of a row of this type, which is not a type of texts, bytes or lists, or `None` for null.
 fn value_of<A: Allocator>(dtype: DType, row: ScalarView<'_, A>) -> Option<ScalarValue<A>>
     requires plain { ¬ HasBytes dtype }
     requires single { ¬ IsLists dtype }

@@ -20,7 +20,7 @@ use std::alloc::Allocator;
 
 /// Returns the rows at which the mask is true, in order. A constant stays one. The kernel serves a run column where it
 /// is registered, and leaves runs or flat rows by the session's thresholds; else the rows are flat. Refused as
-/// `MaskLength` where the mask has not a bit for each row.
+/// `MaskLength` where the mask is of another number of rows.
 #[tactic(auto, using(crate::proofs::FlatForms::flat_if_computed))]
 pub fn filter<A: Allocator + Copy>(
     column: &ArrayRef<A>,
@@ -48,9 +48,9 @@ pub fn filter<A: Allocator + Copy>(
 
 /// Returns the rows at which a mask in runs is true, in order: null selects nothing. The kernel serves a run column
 /// where it is registered, and takes a step for each run of either. `None` where no kernel serves the column, and where
-/// the mask is not in runs or has more of them than its bits have words of 64 bits: then `filter` by bits takes no
-/// longer. The answer is that of `filter` by the bits of the mask, in the same form. Refused as `TypeMismatch` unless
-/// the mask is of booleans, and then as `MaskLength` where it has not a row for each row.
+/// the mask is not in runs or has more runs than its bits have words of 64 bits: then `filter` by bits takes no longer.
+/// The answer is the one of `filter` by the bits of the mask, in the same form. Refused as `TypeMismatch` unless the
+/// mask is of booleans, and then as `MaskLength` where it is of another number of rows.
 pub fn filter_by_runs<A: Allocator + Copy>(
     column: &ArrayRef<A>,
     mask: &ArrayRef<A>,

@@ -20,9 +20,10 @@ use runend_array::{ArrayRef, ConstantArray, ExecutionCtx, Kernel, RunEndArray, R
 use runend_column::flat_rows;
 use std::alloc::Allocator;
 
-/// Compares each row with the value: whether the operator holds, null where either is. A constant that has a row leaves
-/// a constant, and no row of it is written. Else flat booleans are left, or a constant null where the kernel serves a
-/// run column and all are null. Refused as `Unsupported` for lists, and as `TypeMismatch` for a value of another kind.
+/// Compares each row with the value: it becomes whether the operator holds, null where either is null. A constant that
+/// has a row leaves a constant, and no row of it is written. Else flat booleans are left, or a constant null where the
+/// kernel serves a run column and all are null. Refused as `Unsupported` for lists, and as `TypeMismatch` for a value
+/// of another kind.
 pub fn compare_scalar<A: Allocator + Copy>(
     column: &ArrayRef<A>,
     operator: CompareOperator,

@@ -16,7 +16,7 @@ use runend_array::{ArrayRef, ExecutionCtx, Kernel};
 use runend_column::flat_rows;
 use std::alloc::Allocator;
 
-/// Returns whether no row is above the next, or, where `strict` is asked, each is below the next; null is below all
+/// Returns whether no row is above the next, or, for `strict`, whether each row is below the next; null is below all
 /// else. It takes no memory where the array is flat, or is runs or a constant and the kernel is registered. Refused as
 /// `Unsupported` for lists.
 pub fn is_sorted<A: Allocator + Copy>(

@@ -14,9 +14,8 @@ use runend_array::{ArrayRef, ExecutionCtx, Kernel};
 use runend_column::flat_rows;
 use std::alloc::Allocator;
 
-/// Returns the sum of the rows that are not null. Runs and constants are added run by run where the kernel is
-/// registered, a flat array is read where it is: none of these takes memory. Refused as `Unsupported` unless the rows
-/// are integers.
+/// Returns the sum of the rows that are not null. Where the kernel is registered, runs and constants are added run by
+/// run; a flat array is read where it is. Neither takes memory. Refused as `Unsupported` unless the rows are integers.
 pub fn sum<A: Allocator + Copy>(
     column: &ArrayRef<A>,
     ctx: &mut ExecutionCtx<A>,

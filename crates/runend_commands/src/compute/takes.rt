@@ -16,9 +16,9 @@ use runend_array::{ArrayRef, ExecutionCtx, Kernel};
 use runend_select::take_rows;
 use std::alloc::Allocator;
 
-/// Returns the row at each index, null at a null index: flat, or a constant where the kernel serves a run column and
-/// all indices are null. Refused as `OutOfBounds`, with the index and the number of rows, at the first valid index that
-/// is negative or of no row.
+/// Returns the row at each index, null at a null index, as a flat column, or as a constant where the kernel serves a
+/// run column and all indices are null. Refused as `OutOfBounds`, with the index and the number of rows, at the first
+/// valid index that is negative or not below the number of rows.
 #[tactic(auto, using(crate::proofs::FlatForms::flat_if_computed))]
 pub fn take<A: Allocator + Copy>(
     column: &ArrayRef<A>,

@@ -11,7 +11,7 @@ use crate::strategy::TakeThresholds;
 use column_core::{CountedEnds, Mask, NativePType, UnsignedPType, VortexError, VortexResult};
 use std::alloc::Allocator;
 
-/// `physical_indices_linear_sorted` of 6 valid indices over 4 runs: at most 9 tests.
+/// Finds the runs of 6 valid indices over 4 runs by `physical_indices_linear_sorted`: at most 9 tests.
 pub fn merge_of_six_indices<E: UnsignedPType, T: NativePType, A: Allocator + Copy>(
     alloc: A,
     four_runs: &mut CountedEnds<'_, E>,
@@ -34,7 +34,7 @@ pub fn merge_of_six_indices<E: UnsignedPType, T: NativePType, A: Allocator + Cop
     physical_indices_linear_sorted(alloc, four_runs, offset, indices, mask)
 }
 
-/// `physical_indices_binary` of 6 valid indices over 4 runs: at most 18 tests.
+/// Finds the runs of 6 valid indices over 4 runs by `physical_indices_binary`: at most 18 tests.
 pub fn search_of_six_indices<E: UnsignedPType, T: NativePType, A: Allocator + Copy>(
     alloc: A,
     four_runs: &mut CountedEnds<'_, E>,
@@ -56,7 +56,7 @@ pub fn search_of_six_indices<E: UnsignedPType, T: NativePType, A: Allocator + Co
     physical_indices_binary(alloc, four_runs, offset, indices, mask)
 }
 
-/// `physical_indices_linear_unsorted` of 4 valid indices over 4 runs: at most 7 tests.
+/// Finds the runs of 4 valid indices over 4 runs by `physical_indices_linear_unsorted`: at most 7 tests.
 pub fn sort_of_four_indices<E: UnsignedPType, T: NativePType, A: Allocator + Copy>(
     alloc: A,
     four_runs: &mut CountedEnds<'_, E>,
@@ -78,7 +78,7 @@ pub fn sort_of_four_indices<E: UnsignedPType, T: NativePType, A: Allocator + Cop
     physical_indices_linear_unsorted(alloc, four_runs, offset, indices, mask)
 }
 
-/// `physical_indices_binary` of 4 valid indices over 4 runs: at most 12 tests.
+/// Finds the runs of 4 valid indices over 4 runs by `physical_indices_binary`: at most 12 tests.
 pub fn search_of_four_indices<E: UnsignedPType, T: NativePType, A: Allocator + Copy>(
     alloc: A,
     four_runs: &mut CountedEnds<'_, E>,
@@ -100,8 +100,8 @@ pub fn search_of_four_indices<E: UnsignedPType, T: NativePType, A: Allocator + C
     physical_indices_binary(alloc, four_runs, offset, indices, mask)
 }
 
-/// `physical_indices` of 4 valid indices over 4 runs that show 12 rows, by the thresholds 16, 8, 524288
-/// and 4: at most 15 tests. A table is picked unless the indices are sorted.
+/// Finds the runs of 4 valid indices over 4 runs that show 12 rows by `physical_indices`, with the thresholds 16, 8,
+/// 524288 and 4: at most 15 tests. A table is picked unless the indices are sorted.
 pub fn physical_indices_by_table<E: UnsignedPType, T: NativePType, A: Allocator + Copy>(
     alloc: A,
     four_runs: &mut CountedEnds<'_, E>,
@@ -129,8 +129,8 @@ pub fn physical_indices_by_table<E: UnsignedPType, T: NativePType, A: Allocator 
     physical_indices(alloc, four_runs, offset, 12, indices, mask, thresholds)
 }
 
-/// `physical_indices` of 4 valid indices over 4 runs that show 12 rows, with 0 for each threshold: at
-/// most 12 tests, since the search is by halves.
+/// Finds the runs of 4 valid indices over 4 runs that show 12 rows by `physical_indices`, with 0 for each threshold: at
+/// most 12 tests, since each search is binary.
 pub fn physical_indices_by_halves<E: UnsignedPType, T: NativePType, A: Allocator + Copy>(
     alloc: A,
     four_runs: &mut CountedEnds<'_, E>,

@@ -28,7 +28,7 @@ kind-of_bytes : {A : Type 0} (kind : VarBinKind) (nullability : Nullability) (dt
 kind-of_bytes Utf8 nullability dtype shown bytes typed of_type is = absurd (rw (typed, is) at of_type)
 kind-of_bytes Binary nullability dtype shown bytes typed of_type is = refl
 
--- a constant, told by its parts
+-- a constant, given by its parts
 constant-of : (constant : Constant) (dtype : DType) (value : Option FlatValue) (leaf : Leaf) → constant.dtype ≡ dtype → constant.value ≡ value
     → IsConstantLeaf (record { dtype = dtype; value = value; count = constant.count }) leaf → IsConstantLeaf constant leaf
 constant-of constant dtype value leaf typed valued written = rw (← typed, ← valued) at written

@@ -17,7 +17,7 @@ use Rattle.runend_map.proofs.OneKind.{no_column_fault, no_fault}
 use Rattle.runend_map.specs.ComparisonForm.{IsComparisonForm}
 use Rattle.runend_map.proofs.comparisons.compare.Goals as goal
 
--- beside a column that is not a constant the answers are flat
+-- with a column that is not a constant the answers are flat
 beside_form : {A : Type 0} (right : ArrayRef A) (truths : Column) → ((constant : _) → ¬ (right ≡ Constant constant)) → IsComputedFlat truths → IsComparisonForm (column_of right) truths
 beside_form (Constant constant) truths other flat = absurd (other constant refl)
 beside_form right truths other flat = flat
@@ -76,7 +76,7 @@ returns-in_default-right-clause-rows g c = c.compare_beside.ensures.rows
 pub returns-in_default-right-clause-dtype : goal.returns-in_default-right-clause-dtype
 returns-in_default-right-clause-dtype g c = c.compare_beside.ensures.dtype
 
--- beside runs
+-- with runs
 right_runs : {A : Type 0} (right : ArrayRef A) (r : Runs) (runs : _) → right ≡ RunEnd runs → r ≡ arc_value runs → column_of right ≡ column_of_runs r
 right_runs right r runs is same = ap (λ (array : ArrayRef _). column_of array) is ∙ ap column_of_runs (sym same)
 

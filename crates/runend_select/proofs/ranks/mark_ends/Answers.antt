@@ -32,7 +32,7 @@ loop-run-preserved g c =
       cost = omega (arith, c.rows_to_end-reach.ensures.counted, inv.cost);
     }
 
--- the walk stopped at the first run that ends behind the window
+-- the walk stopped at the first run that ends after the window
 pub returns-then-reach-length-clause-marked : goal.returns-then-reach-length-clause-marked
 returns-then-reach-length-clause-marked g c =
     let ends = c.args.ends.now.ends in

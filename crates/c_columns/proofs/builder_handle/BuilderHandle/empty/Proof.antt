@@ -1,4 +1,4 @@
--- An empty handle is a null pointer beside the allocator that is given.
+-- An empty handle is a null pointer with the allocator that is given.
 use Rattle.std.proofs.Common.{◌≡◌, List, [], ◌∷◌, refl}
 use mir.Val.{Val}
 use base.Logic.{SProp, emp}

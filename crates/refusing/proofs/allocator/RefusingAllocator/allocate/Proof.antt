@@ -95,7 +95,7 @@ module _ (Z : Al) {M : Type 1} {𝓤 : Ura M} (𝓛 : Logic 𝓤) (at_mem : Memo
         let inner : Z.row.Denot = heap.now.inner in
         let plan : Plan.Denot = heap.now.plan in
         let inner_at : ℕ × ℕ = (heap.ref_ptr.0, heap.ref_ptr.1 + up (align (α Z)) 0) in
-        -- the plan lies behind the inner allocator, at a multiple of 8 bytes
+        -- the plan lies after the inner allocator, at a multiple of 8 bytes
         let plan_at : ℕ × ℕ = (heap.ref_ptr.0, heap.ref_ptr.1 + up 8 (up (align (α Z)) 0 + size (α Z))) in
         let call : (Takes Z 𝓛 at_mem run).Ghost = at_takes Z 𝓛 at_mem run κ q inner_at inner count alignment τ in
         -- the sizes are those of the type that the block is for
