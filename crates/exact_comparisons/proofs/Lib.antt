@@ -1,0 +1,5 @@
+mod AnsweredRows
+mod Filtering
+mod FloatTypes
+mod NumberTypes
+mod TruthColumns

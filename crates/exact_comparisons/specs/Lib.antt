@@ -1,0 +1,2 @@
+pub mod ExactRows
+pub mod Filtered

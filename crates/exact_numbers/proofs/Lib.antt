@@ -1,0 +1,14 @@
+mod Among
+mod DigitValues
+mod Doubled
+mod ExactOrder
+mod FloatLevels
+mod FloatOrder
+mod FloatPlaces
+mod FloatTruths
+mod Fractions
+mod Levels
+mod Places
+mod Products
+mod QuotientLaws
+mod Ranges

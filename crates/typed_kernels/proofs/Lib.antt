@@ -1,0 +1,2 @@
+pub mod ServedTypes
+mod TypedViews

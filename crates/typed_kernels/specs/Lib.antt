@@ -1,0 +1,4 @@
+pub mod Extremes
+pub mod Served
+pub mod Sums
+pub mod Views
