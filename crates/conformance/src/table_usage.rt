@@ -4,7 +4,7 @@
 use crate::columns::{are_rows, both, full_context, required};
 use std::alloc::{Allocator, Global};
 use std::test::Fail;
-use tables::{KeyOrder, RowOrder, Table, TableError, TypedColumn};
+use tables::{Asked, GroupFold, KeyOrder, RowOrder, Table, TableError, TypedColumn};
 use vortex_runend::compute::CompareOperator;
 use vortex_runend::{
     ArrayRef, DType, ExecutionCtx, Nullability, PType, Scalar, ScalarValue, VortexResult,
@@ -200,6 +200,60 @@ fn a_table_is_sorted_from_the_highest_price_on(rt: HostRuntime) -> Result<(), Fa
             Err(error)
         }
     };
+    assert!(rt; answer == Ok(true));
+    Ok(())
+}
+
+// The lines of `docs/CALLING.md`: the sum of the counts in each group.
+fn sums_of_counts(
+    alloc: Global,
+    total: String<Global>,
+    count: String<Global>,
+) -> VortexResult<Vec<Asked<Global>, Global>> {
+    let mut asked = Vec::new(alloc);
+    asked.push(Asked {
+        name: total,
+        column: count,
+        fold: GroupFold::Sum,
+    })?;
+    Ok(asked)
+}
+
+fn have_totals(
+    table: &Table<Global>,
+    names: &[String<Global>],
+    asked: &[Asked<Global>],
+    ctx: &mut ExecutionCtx<Global>,
+) -> Result<bool, TableError> {
+    let totals = table.group_by(names, asked, ctx)?;
+    let are_due = match (totals.column("price"), totals.column("total")) {
+        (Some(price), Some(total)) => {
+            are_rows(&price.array, &[Some(4), Some(7), Some(2)])
+                && are_rows(&total.array, &[Some(6), Some(9), Some(6)])
+        }
+        _ => false,
+    };
+    drop(totals);
+    Ok(are_due)
+}
+
+#[test]
+fn counts_are_added_up_by_price(rt: HostRuntime) -> Result<(), Fail> {
+    let mut ctx = full_context(rt.alloc());
+    let names = names_of(rt.alloc(), &["price"])?;
+    let total = String::from_str(rt.alloc(), "total")?;
+    let count = String::from_str(rt.alloc(), "count")?;
+    let asked = sums_of_counts(rt.alloc(), total, count)?;
+    let answer = match table_of(rt.alloc(), SIX, 6) {
+        Ok(six) => {
+            let answer = have_totals(&six, &names, &asked, &mut ctx);
+            drop(six);
+            answer
+        }
+        Err(error) => Err(error),
+    };
+    drop(asked);
+    drop(names);
     assert!(rt; answer == Ok(true));
     Ok(())
 }

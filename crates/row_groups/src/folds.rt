@@ -16,7 +16,7 @@ ghost use Rattle.row_groups.specs.Groups.{AreEndsOf};
 
 use column_core::{NativePType, PrimitiveArray, Validity, VortexError, VortexResult};
 use runend_array::{ArrayRef, ExecutionCtx, RunEnd};
-use runend_pairs::{GroupError, GroupFold, fold_by};
+use runend_pairs::{GroupError, GroupFold, Groups, fold_by};
 use std::alloc::Allocator;
 
 /// Returns what is asked of the values in each of the groups that end before these rows, as a column that has null.
@@ -43,7 +43,21 @@ pub fn fold_groups<A: Allocator + Copy>(
     let groups = fold_by(&keys, values, fold, ctx);
     drop(keys);
     let groups = groups?;
-    Ok(groups.answers)
+    Ok(answers_of(groups))
+}
+
+// The answers of groups, without their ends and keys.
+fn answers_of<A: Allocator>(groups: Groups<A>) -> PrimitiveArray<A>
+    ensures { result ≡ groups.answers }
+{
+    let Groups {
+        ends,
+        keys,
+        answers,
+    } = groups;
+    drop(ends);
+    drop(keys);
+    answers
 }
 
 // A column of `count` rows that has the end of its group in each.

@@ -12,3 +12,8 @@ pub mod Ordered
 pub mod ValidMasks
 pub mod ValidTables
 pub mod MaskBits
+pub mod GroupTables
+pub mod GroupNames
+pub mod LargeSums
+pub mod GroupRefusals
+pub mod AnswerColumns

@@ -21,7 +21,7 @@ mapped_at {X} f (y ∷ xs) zero x within here = ap (λ (z : X). Some (f z)) (sym
 mapped_at f (y ∷ xs) (suc k) x within here = mapped_at f xs k x (omega (arith, within)) here
 
 -- an item of the first ones
-mapped_below : {X Z : Type 0} (f : X → Z) (xs : List X) (n k : ℕ) → k < n → slice_get (map f (take n xs)) k ≡ slice_get (map f xs) k
+pub mapped_below : {X Z : Type 0} (f : X → Z) (xs : List X) (n k : ℕ) → k < n → slice_get (map f (take n xs)) k ≡ slice_get (map f xs) k
 mapped_below f xs zero k below = absurd (omega (arith, below))
 mapped_below f [] (suc n) k below = refl
 mapped_below f (x ∷ xs) (suc n) zero below = refl

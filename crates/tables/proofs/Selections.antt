@@ -13,7 +13,7 @@ use Rattle.column_base.specs.declared.error.VortexError.{VortexError}
 use Rattle.column_base.specs.declared.error.VortexError.TheVariants.{OutOfMemory}
 use Rattle.typed_columns.specs.declared.typed_column.TypedColumn.{TypedColumn}
 use Rattle.tables.specs.declared.fault.TableError.{TableError}
-use Rattle.tables.specs.declared.fault.TableError.TheVariants.{Refused, NameCount, RowCount, RepeatedName, UnknownName, NewNameCount, RepeatedNewName, OtherNames, OtherType, NoKeys, UnsupportedKey}
+use Rattle.tables.specs.declared.fault.TableError.TheVariants.{Refused, NameCount, RowCount, RepeatedName, UnknownName, NewNameCount, RepeatedNewName, OtherNames, OtherType, NoKeys, UnsupportedKey, RepeatedAnswer, UnknownColumn, UnsupportedAnswer, SumOverflow}
 use Rattle.tables.specs.Put.{IsPlaceFor}
 use Rattle.tables.specs.TableFaults.{AreAsked, IsFirstUnknown, IsNameFault, IsNamingError, IsRenameError, IsSelectError}
 use Rattle.tables.specs.Tables.{AreDistinct, AreEven, IsKnown, IsNamed, IsPlaceOf, IsRenamedTo, IsRenaming, IsTable, IsUnknown, TableForm, table_with}
@@ -78,7 +78,7 @@ zipped_more {X} {Y} {U} {V} R f h xs kept next k x y within here goes before pus
     subst (λ (l : List U). AllZip R l (map h next)) (sym left) (subst (λ (r : List V). AllZip R (map f (take k xs) ++ f x ∷ []) r) (sym right) zipped)
 
 -- a column of a table has its number of rows
-rows_named : (own : TableForm) (name : List ℕ) (column : TypedForm) → IsTable own → IsNamed own name column → length (column_rows column.column) ≡ own.count
+pub rows_named : (own : TableForm) (name : List ℕ) (column : TypedForm) → IsTable own → IsNamed own name column → length (column_rows column.column) ≡ own.count
 rows_named own name column table at =
     sym (ap (λ (c : TypedForm). length (column_rows c.column)) (get_or_from_slice_get own.columns at.place column column at.column_there))
     ∙ table.even at.place column (omega (arith, at.name_there.within, table.named))
@@ -118,6 +118,10 @@ by_choice own names OtherNames refused = absurd refused
 by_choice own names (OtherType place) refused = absurd refused
 by_choice own names NoKeys refused = absurd refused
 by_choice own names (UnsupportedKey place) refused = absurd refused
+by_choice own names (RepeatedAnswer earlier place) refused = absurd refused
+by_choice own names (UnknownColumn place) refused = absurd refused
+by_choice own names (UnsupportedAnswer place) refused = absurd refused
+by_choice own names (SumOverflow place group) refused = absurd refused
 by_choice own names (Refused error) refused = absurd refused
 
 -- and to rename them
@@ -132,6 +136,10 @@ by_names own names new_names OtherNames paired refused = absurd refused
 by_names own names new_names (OtherType place) paired refused = absurd refused
 by_names own names new_names NoKeys paired refused = absurd refused
 by_names own names new_names (UnsupportedKey place) paired refused = absurd refused
+by_names own names new_names (RepeatedAnswer earlier place) paired refused = absurd refused
+by_names own names new_names (UnknownColumn place) paired refused = absurd refused
+by_names own names new_names (UnsupportedAnswer place) paired refused = absurd refused
+by_names own names new_names (SumOverflow place group) paired refused = absurd refused
 by_names own names new_names (Refused error) paired refused = absurd refused
 
 pub by_new_names : (own names new_names made : List (List ℕ)) (error : TableError) → length names ≡ length new_names → AreAsked own names → AllZip (IsRenamedTo names new_names) own made → IsNamingError made error
@@ -147,6 +155,10 @@ by_new_names own names new_names made OtherNames paired asked renamed refused = 
 by_new_names own names new_names made (OtherType place) paired asked renamed refused = absurd refused
 by_new_names own names new_names made NoKeys paired asked renamed refused = absurd refused
 by_new_names own names new_names made (UnsupportedKey place) paired asked renamed refused = absurd refused
+by_new_names own names new_names made (RepeatedAnswer earlier place) paired asked renamed refused = absurd refused
+by_new_names own names new_names made (UnknownColumn place) paired asked renamed refused = absurd refused
+by_new_names own names new_names made (UnsupportedAnswer place) paired asked renamed refused = absurd refused
+by_new_names own names new_names made (SumOverflow place group) paired asked renamed refused = absurd refused
 
 -- the table under other names
 pub named_table : {A : Type 0} (own : TableForm) (names : List (String A)) (kept : List (TypedColumn A)) (count : ℕ) → length names ≡ length own.names → own.count ≡ count → IsTable own → AreDistinct (map string_bytes names) (length names)

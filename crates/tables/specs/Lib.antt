@@ -7,3 +7,5 @@ pub mod KeyFaults
 pub mod Sorting
 pub mod WithoutNull
 pub mod MaskWords
+pub mod Grouping
+pub mod GroupFaults

@@ -43,6 +43,29 @@ pub enum TableError {
     UnsupportedKey {
         key: usize,
     },
+    /// Has the first answer whose name a key or an earlier answer has, after the place of that. Answers come after the
+    /// keys.
+    #[error("RepeatedAnswer")]
+    RepeatedAnswer {
+        earlier: usize,
+        answer: usize,
+    },
+    /// Has the first answer that is asked of a column that is not there.
+    #[error("UnknownColumn")]
+    UnknownColumn {
+        answer: usize,
+    },
+    /// Has the first answer that is asked of a column whose rows have none.
+    #[error("UnsupportedAnswer")]
+    UnsupportedAnswer {
+        answer: usize,
+    },
+    /// Has the first answer with a sum that does not fit 64 bits, and the first group of which that is so.
+    #[error("SumOverflow")]
+    SumOverflow {
+        answer: usize,
+        group: usize,
+    },
     /// Has how many names and new names there are, where the numbers differ.
     #[error("NewNameCount")]
     NewNameCount {

@@ -11,7 +11,7 @@ ghost use Rattle.tables.specs.TableFaults.{IsRefusedFirstBy};
 ghost use Rattle.tables.specs.Tables.{IsKept, rows_of};
 
 use crate::columns::selected_of_each;
-use crate::comparisons::truths_by;
+use crate::comparisons::compare_value;
 use crate::fault::TableError;
 use crate::masks::mask_by_bits;
 use crate::names::copies_of;
@@ -82,7 +82,7 @@ impl<A: Allocator + Copy> Table<A> {
         if let Some(error) = kind_fault(column.array.dtype(), value.dtype()) {
             return Err(TableError::Refused(error));
         }
-        let mask = truths_by(&column.array, operator, value, ctx)?;
+        let mask = compare_value(&column.array, operator, value, ctx)?;
         let kept = self.filter(&mask, ctx);
         drop(mask);
         Ok(kept?)

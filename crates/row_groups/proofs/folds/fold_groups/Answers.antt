@@ -1,6 +1,6 @@
-use Rattle.std.proofs.Common.{◌∙◌, ℕ, List, length, map, subst}
+use Rattle.std.proofs.Common.{◌∙◌, ℕ, List, length, map, subst, sym}
 use Rattle.column_core.specs.FlatColumn.{leaf_of}
-use Rattle.column_core.specs.PrimitiveForm.{optional_numbers}
+use Rattle.column_core.specs.PrimitiveForm.{PrimitiveForm, optional_numbers}
 use Rattle.column_sums.specs.SumAnswer.{number_in}
 use Rattle.runend_array.specs.Array.{dtype_of, rows}
 use Rattle.runend_pairs.specs.GroupAnswers.{answer_of}
@@ -22,4 +22,5 @@ returns-clause-answers g c =
     let keys = c.in_ok-keys.keys in
     let groups = c.in_ok-groups.groups in
     let same = found_ends (rows keys) (dtype_of keys) groups.ends (leaf_of groups.keys) c.args.ends.now c.in_ok-groups.ensures.groups c.in_ok-keys.ensures.cover in
-    subst (λ (ends : List ℕ). AreGroupAnswers (answer_of c.args.fold) ends (map number_in (rows c.args.values.now)) (optional_numbers groups.answers)) same c.in_ok-groups.ensures.answers
+    subst (λ (answers : PrimitiveForm). AreGroupAnswers (answer_of c.args.fold) c.args.ends.now (map number_in (rows c.args.values.now)) (optional_numbers answers)) (sym c.answers_of.ensures)
+    (subst (λ (ends : List ℕ). AreGroupAnswers (answer_of c.args.fold) ends (map number_in (rows c.args.values.now)) (optional_numbers groups.answers)) same c.in_ok-groups.ensures.answers)

@@ -21,8 +21,8 @@ returns-in-Some-kind_fault-clause-refused g c =
     let same = ap (λ (t : DType). compare_scalar_fault t c.args.value.now.dtype) (sym c.dtype.ensures) ∙ ap (compare_scalar_fault c.dtype.result) (sym c.dtype-2.ensures) in
     (column, c.in-Some.ensures.found, told (compare_scalar_fault (column_dtype column.column) c.args.value.now.dtype) c.in-Some-kind_fault.error (same ∙ sym c.in-Some-kind_fault.ensures))
 
-pub truths_by-requires : goal.truths_by-requires
-truths_by-requires g c =
+pub compare_value-requires : goal.compare_value-requires
+compare_value-requires g c =
     let same = ap (λ (t : DType). compare_scalar_fault t c.args.value.now.dtype) (sym c.dtype.ensures) ∙ ap (compare_scalar_fault c.dtype.result) (sym c.dtype-2.ensures) in
     record { kind = same ∙ sym c.in_default-kind_fault.ensures }
 

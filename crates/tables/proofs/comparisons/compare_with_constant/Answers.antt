@@ -4,7 +4,7 @@ use Rattle.column_ops.specs.Comparing.{compare_dtype}
 use Rattle.runend_array.specs.Array.{dtype_of, rows}
 use Rattle.runend_column.proofs.ComputedRows.{ok_then}
 use Rattle.tables.proofs.SelectedRows.{constant_compared, constant_dtype, constant_fault, only_short}
-use Rattle.tables.proofs.comparisons.truths_by.Goals as goal
+use Rattle.tables.proofs.comparisons.compare_with_constant.Goals as goal
 
 pub returns-clause-only : goal.returns-clause-only
 returns-clause-only g c =
