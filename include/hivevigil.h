@@ -120,15 +120,18 @@ enum { HV_U8, HV_U16, HV_U32, HV_U64, HV_I8, HV_I16, HV_I32, HV_I64, HV_BOOL, HV
 typedef struct hv_kind { uint8_t number, nullable, precision; int8_t scale; } hv_kind;
 
 /* A value. kind HV_NULL: null; HV_UNSIGNED: as_unsigned; HV_SIGNED: as_signed; HV_TRUTH: truth; HV_DECIMAL_VALUE:
- * as_signed * 2^64 + as_unsigned; HV_TEXT and HV_BYTES: as_unsigned bytes, which are in a separate buffer. A value of
- * an unsigned type is HV_UNSIGNED, one of a signed type HV_SIGNED. Where C passes a text, its bytes are those of the
- * buffer, and as_unsigned is not read. */
-enum { HV_NULL, HV_UNSIGNED, HV_SIGNED, HV_TRUTH, HV_DECIMAL_VALUE, HV_TEXT, HV_BYTES };
-typedef struct hv_value { uint64_t as_unsigned; int64_t as_signed; uint8_t kind, truth; } hv_value;
+ * as_signed * 2^64 + as_unsigned; HV_TEXT and HV_BYTES: as_unsigned bytes, which are in a separate buffer; HV_DOUBLE:
+ * the double whose bits are as_unsigned, which only hv_min_max and hv_at answer; HV_SCALED: the decimal
+ * as_signed * 2^64 + as_unsigned, with `scale` of its digits after the point, which no call answers. A value of an
+ * unsigned type is HV_UNSIGNED, one of a signed type HV_SIGNED. Where C passes a text, its bytes are those of the
+ * buffer, and as_unsigned is not read. A column takes no value of the kinds HV_DOUBLE and HV_SCALED. */
+enum { HV_NULL, HV_UNSIGNED, HV_SIGNED, HV_TRUTH, HV_DECIMAL_VALUE, HV_TEXT, HV_BYTES, HV_DOUBLE, HV_SCALED };
+typedef struct hv_value { uint64_t as_unsigned; int64_t as_signed; uint8_t kind, truth; int8_t scale; } hv_value;
 
-/* A sum. kind HV_UNSIGNED: as_unsigned; HV_SIGNED: as_signed; HV_NULL: the sum left the range of 64 bits. empty: no row
- * is valid, and the sum is 0. */
-typedef struct hv_total { uint64_t as_unsigned; int64_t as_signed; uint8_t kind, empty; } hv_total;
+/* A sum. kind HV_UNSIGNED: as_unsigned; HV_SIGNED: as_signed; HV_NULL: the sum left the range of 64 bits; HV_DOUBLE:
+ * the double whose bits are as_unsigned; HV_SCALED: the decimal as_signed * 2^64 + as_unsigned, with `scale` of its
+ * digits after the point. empty: no row is valid, and the sum is 0. */
+typedef struct hv_total { uint64_t as_unsigned; int64_t as_signed; uint8_t kind, empty; int8_t scale; } hv_total;
 
 /* A number of 128 bits: high * 2^64 + low, as in the buffers of Arrow's decimal128 on little-endian machines. */
 typedef struct hv_pair { uint64_t low; int64_t high; } hv_pair;
@@ -283,6 +286,14 @@ HV_ANSWER hv_compare(const hv_session *session, const hv_column *column, uint8_t
 HV_ANSWER hv_compare_scalar(const hv_session *session, const hv_column *column, uint8_t operator_,
                             const hv_value *value, const uint8_t *text, size_t text_len, hv_column *out,
                             hv_error *error);
+/* the same against one number of any type (HV_UNSIGNED, HV_SIGNED, HV_DOUBLE, HV_SCALED), for columns of integers,
+ * decimals and floats, which are those whose format says so (hv_with_type): row and number are compared as the exact
+ * numbers that they are, by IEEE 754 where one is a NaN or an infinity, nothing rounded, at the cost of the runs.
+ * HV_BAD_NUMBER for no operator, before HV_NO_COLUMN; HV_UNSUPPORTED for lists, then HV_TYPE_MISMATCH for other rows
+ * that are not numbers, dates and times among them, and for a value of another kind, all of which take no memory. The
+ * answer for integers and decimals is in the runs of the column, or flat where it is; for floats in the fewest runs */
+HV_ANSWER hv_compare_number(const hv_column *column, uint8_t operator_, const hv_value *value, hv_column *out,
+                            hv_error *error);
 /* a value in place of each null, after which the type has no null; HV_TYPE_MISMATCH as above, HV_UNSUPPORTED for lists,
  * HV_NULL_FILL for null */
 HV_ANSWER hv_fill(const hv_session *session, const hv_column *column, const hv_value *value, const uint8_t *text,
@@ -357,9 +368,15 @@ HV_ANSWER hv_value_counts(const hv_column *column, hv_column *out_values, hv_col
 
 /* ---- Questions ----
  * Refused exactly as is said here, with these fields, or, except for hv_at, as HV_OUT_OF_MEMORY: never as that over a
- * flat column, nor, where the question's kernel is registered, over runs or a constant, except for hv_extreme and
- * hv_min_max of texts or bytes. */
-/* the sum of the rows that are not null; HV_UNSUPPORTED unless they are integers */
+ * flat column, nor, where the question's kernel is registered, over runs or a constant, except for hv_sum of floats and
+ * of decimals, hv_min_max of floats, and hv_extreme and hv_min_max of texts or bytes. */
+/* The sum of the rows that are not null, by the format of the column ("What the rows mean", below). Integers, and
+ * lengths of time by their counts, are added one at a time in 64 bits. Floats are added exactly, and rounded once, to a
+ * double: NaN where a row is, or both infinities are, an infinity past the finite floats, -0.0 where there are rows and
+ * all are -0.0. Decimals are added exactly, at the scale of the column and whatever its precision: HV_CAST_OUT_OF_RANGE
+ * (row) for the first row such that the rows up to it add up to more than 38 digits, also where later rows would bring
+ * the sum back. Floats and decimals at the cost of the runs. HV_UNSUPPORTED for dates, times of a day and timestamps,
+ * and unless the rows are integers or decimals, before any memory is taken. */
 HV_ANSWER hv_sum(const hv_session *session, const hv_column *column, hv_total *total, hv_error *error);
 /* What the rows add to a sum, by which the sum of joined rows is known, also where it overflows on the way: their
  * total, and the least and the greatest sum on the way from row to row, one of which is the 0 before the first row. The
@@ -374,17 +391,20 @@ HV_ANSWER hv_is_constant(const hv_session *session, const hv_column *column, uin
  * lists */
 HV_ANSWER hv_is_sorted(const hv_session *session, const hv_column *column, uint8_t strict, uint8_t *truth,
                        hv_error *error);
-/* the least (greatest: the greatest) row that is not null, HV_NULL where all are; HV_UNSUPPORTED for lists,
- * HV_COLUMN_LENGTH as with hv_at */
+/* the least (greatest: the greatest) row that is not null, as it is stored whatever the format says, HV_NULL where all
+ * are; HV_UNSUPPORTED for lists, HV_COLUMN_LENGTH as with hv_at */
 HV_ANSWER hv_extreme(const hv_session *session, const hv_column *column, uint8_t greatest, hv_value *value,
                      uint8_t *text, size_t text_len, hv_error *error);
-/* both at once, each with a buffer of its own; HV_NULL twice where all rows are null; HV_UNSUPPORTED for lists,
- * HV_COLUMN_LENGTH for the one that has no room in its buffer, and for the least where neither has */
+/* both at once, each with a buffer of its own; HV_NULL twice where all rows are null. Where the rows are floats by the
+ * format of the column, as with hv_sum, the least and the greatest number, as HV_DOUBLE: NaNs have no place, and -0.0
+ * is below 0.0. HV_UNSUPPORTED for lists, HV_COLUMN_LENGTH for the one that has no room in its buffer, and for the
+ * least where neither has. */
 HV_ANSWER hv_min_max(const hv_session *session, const hv_column *column, hv_value *least, uint8_t *least_text,
                      size_t least_text_len, hv_value *greatest, uint8_t *greatest_text, size_t greatest_text_len,
                      hv_error *error);
-/* row `row`, which takes no memory; HV_UNSUPPORTED for lists, then HV_OUT_OF_BOUNDS (row, length). A text goes to the
- * front of `text`: HV_COLUMN_LENGTH (bytes of the text, text_len) where it has no room there. */
+/* row `row`, which takes no memory; HV_UNSUPPORTED for lists, then HV_OUT_OF_BOUNDS (row, length). A float by the
+ * format of the column, as with hv_sum, is HV_DOUBLE, of 16 and 32 bits too: a NaN keeps its sign and its payload. A
+ * text goes to the front of `text`: HV_COLUMN_LENGTH (bytes of the text, text_len) where it has no room there. */
 HV_ANSWER hv_at(const hv_column *column, size_t row, hv_value *value, uint8_t *text, size_t text_len, hv_error *error);
 HV_CALL size_t hv_length(const hv_column *column);     /* rows; 0 without a column */
 /* how many rows are null, by runs and without memory; 0 without a column */
@@ -401,11 +421,6 @@ HV_CALL size_t hv_offset(const hv_column *column);     /* for runs: how many row
 HV_CALL size_t hv_bytes_used(const hv_column *column);
 
 /* ---- Decimals ---- */
-/* the exact sum of the rows that are not null, at the scale of the column and whatever its precision, and whether no
- * row is valid, with the sum 0; at the cost of the runs and not of the rows. HV_UNSUPPORTED unless they are decimals,
- * which takes no memory; then HV_CAST_OUT_OF_RANGE (row) for the first row such that the rows up to it add up to more
- * than 38 digits, also where later rows would bring the sum back; HV_OUT_OF_MEMORY. */
-HV_ANSWER hv_decimal_sum(const hv_column *column, hv_pair *sum, uint8_t *is_empty, hv_error *error);
 /* Integers or decimals, the same numbers as decimals of up to `precision` digits, at most 38, with `scale` of them
  * after the point, or -scale zeros before it, in as few runs as possible and at the cost of the runs; null where the
  * row is. HV_BAD_NUMBER for a precision that is not 1 to 38; HV_UNSUPPORTED unless they are integers or decimals, which
@@ -423,7 +438,8 @@ HV_ANSWER hv_decimal_to_integers(const hv_column *decimals, uint8_t to, hv_colum
  * the floats. Bits are the patterns of floats, in u16, u32 and u64, as memcpy makes them of a float. In calls that take
  * is_ieee, 1 compares numbers by IEEE 754, so that 0.0 equals -0.0, and NaN differs from every number, itself too; 0
  * takes the total order, in which only equal bits are equal, -0.0 is below 0.0, and NaNs lie below and above all
- * numbers, by their signs. */
+ * numbers, by their signs. Under their format hv_sum, hv_min_max and hv_at answer numbers, and without one keys: so the
+ * least and the greatest float by the total order are those of the keys. */
 /* the floats with these bits, in as few runs as possible: as they are, or, where is_canonical is not 0, with one zero
  * and one NaN in place of all; HV_TYPE_MISMATCH unless the bits are u16, u32 or u64, which takes no memory,
  * HV_OUT_OF_MEMORY */
@@ -437,17 +453,6 @@ HV_ANSWER hv_float_decode(const hv_column *floats, hv_column *out, hv_error *err
  * no operator */
 HV_ANSWER hv_float_compare(const hv_column *floats, uint8_t operator_, uint64_t constant, uint8_t is_ieee,
                            hv_column *out, hv_error *error);
-/* row `row`, which takes no memory: 1 and its bits, or 0 twice for null; HV_TYPE_MISMATCH as above, then
- * HV_OUT_OF_BOUNDS (row, length) */
-HV_ANSWER hv_float_at(const hv_column *floats, size_t row, uint8_t *is_valid, uint64_t *bits, hv_error *error);
-/* the least and the greatest float that is not null, with is_ieee only of numbers, where -0.0 is below 0.0: 1 and the
- * bits of both, or 0 three times where there is none; HV_TYPE_MISMATCH as above, HV_OUT_OF_MEMORY */
-HV_ANSWER hv_float_min_max(const hv_column *floats, uint8_t is_ieee, uint8_t *is_found, uint64_t *least,
-                           uint64_t *greatest, hv_error *error);
-/* how many rows are not null, and the bits of their exact sum, rounded once to the nearest float: a NaN where a row is
- * one or both infinities are rows, an infinity past the finite floats, -0.0 where there are rows and all are -0.0. Only
- * of floats of 64 bits: HV_TYPE_MISMATCH unless the column is of i64, which takes no memory, HV_OUT_OF_MEMORY */
-HV_ANSWER hv_float_sum(const hv_column *floats, uint64_t *count, uint64_t *bits, hv_error *error);
 /* The same floats in another format, named by the type of its keys, HV_I16, HV_I32 or HV_I64, in as few runs as
  * possible and at the cost of the runs, null where the row is. A NaN keeps its payload. With is_rounded 0 they are
  * exactly the same: HV_TYPE_MISMATCH as above, then HV_CAST_OUT_OF_RANGE where the format does not have a float; else
@@ -603,8 +608,10 @@ HV_ANSWER hv_is_message(const uint8_t *bytes, size_t bytes_len, uint8_t *truth, 
  * the format of the column, hv_runs and hv_deserialize that of the values, and hv_take_from that of the dictionary;
  * hv_if_else keeps one that both columns have, hv_fold_by that of the keys and, for the least, greatest, first and last
  * row, that of the values, and hv_value_counts that of the values. A message keeps the format, and hv_read_column makes
- * the column under it. Every other call makes columns without a format. No call asks what a format says: rows are
- * compared, added and written as they are stored. */
+ * the column under it. Every other call makes columns without a format. hv_sum, hv_min_max and hv_at ask what a format
+ * says: the rows are floats under "e", "f" and "g", and dates, times of a day, timestamps or durations under a format
+ * of these (docs/TYPES.md), where they are the integers that such rows are stored in. Under any other format, and in
+ * all other calls, rows are compared, added and written as they are stored. */
 /* The column under this format; an empty one says that it has none. HV_TYPE_MISMATCH exactly for one that is not UTF-8,
  * so HV_OUT_OF_MEMORY only for one that is. */
 HV_ANSWER hv_with_type(const hv_column *column, const uint8_t *format, size_t format_len, hv_column *out,

@@ -212,6 +212,11 @@ HV_ANSWER hv_compare_scalar(const hv_session *session, const hv_column *column, 
     return (hv_compare_scalar)(hv_settings_of(session), hv_lent(column), operator_, value, text, text_len, out,
                                HV_FIELDS);
 }
+HV_ANSWER hv_compare_number(const hv_column *column, uint8_t operator_, const hv_value *value, hv_column *out,
+                            hv_error *error) {
+    hv_error ignored;
+    return (hv_compare_number)(hv_lent(column), operator_, value, out, HV_FIELDS);
+}
 HV_ANSWER hv_fill(const hv_session *session, const hv_column *column, const hv_value *value, const uint8_t *text,
                   size_t text_len, hv_column *out, hv_error *error) {
     hv_error ignored;
@@ -328,10 +333,6 @@ HV_CALL size_t hv_bytes_used(const hv_column *column) {
 }
 
 /* Decimals */
-HV_ANSWER hv_decimal_sum(const hv_column *column, hv_pair *sum, uint8_t *is_empty, hv_error *error) {
-    hv_error ignored;
-    return (hv_decimal_sum)(hv_lent(column), sum, is_empty, HV_FIELDS);
-}
 HV_ANSWER hv_decimal_cast(const hv_column *column, uint8_t precision, int8_t scale, hv_column *out, hv_error *error) {
     hv_error ignored;
     return (hv_decimal_cast)(hv_lent(column), precision, scale, out, HV_FIELDS);
@@ -354,19 +355,6 @@ HV_ANSWER hv_float_compare(const hv_column *floats, uint8_t operator_, uint64_t 
                            hv_column *out, hv_error *error) {
     hv_error ignored;
     return (hv_float_compare)(hv_lent(floats), operator_, constant, is_ieee, out, HV_FIELDS);
-}
-HV_ANSWER hv_float_at(const hv_column *floats, size_t row, uint8_t *is_valid, uint64_t *bits, hv_error *error) {
-    hv_error ignored;
-    return (hv_float_at)(hv_lent(floats), row, is_valid, bits, HV_FIELDS);
-}
-HV_ANSWER hv_float_min_max(const hv_column *floats, uint8_t is_ieee, uint8_t *is_found, uint64_t *least,
-                           uint64_t *greatest, hv_error *error) {
-    hv_error ignored;
-    return (hv_float_min_max)(hv_lent(floats), is_ieee, is_found, least, greatest, HV_FIELDS);
-}
-HV_ANSWER hv_float_sum(const hv_column *floats, uint64_t *count, uint64_t *bits, hv_error *error) {
-    hv_error ignored;
-    return (hv_float_sum)(hv_lent(floats), count, bits, HV_FIELDS);
 }
 HV_ANSWER hv_float_cast(const hv_column *floats, uint8_t to, uint8_t is_rounded, hv_column *out, hv_error *error) {
     hv_error ignored;

@@ -85,6 +85,8 @@ HV_EXPORT int32_t hv_compare(const hv_settings *settings, hv_column *column, uin
 HV_EXPORT int32_t hv_compare_scalar(const hv_settings *settings, hv_column *column, uint8_t operator_,
                                     const hv_value *value, const uint8_t *text, size_t text_len, hv_column *out,
                                     hv_error *error);
+HV_EXPORT int32_t hv_compare_number(hv_column *column, uint8_t operator_, const hv_value *value, hv_column *out,
+                                    hv_error *error);
 HV_EXPORT int32_t hv_fill(const hv_settings *settings, hv_column *column, const hv_value *value, const uint8_t *text,
                           size_t text_len, hv_column *out, hv_error *error);
 HV_EXPORT int32_t hv_combine(hv_column *left, uint8_t operator_, hv_column *right, hv_column *out, hv_error *error);
@@ -122,7 +124,6 @@ HV_EXPORT size_t hv_offset(hv_column *column);
 HV_EXPORT size_t hv_bytes_used(hv_column *column);
 
 /* Decimals */
-HV_EXPORT int32_t hv_decimal_sum(hv_column *column, hv_pair *sum, uint8_t *is_empty, hv_error *error);
 HV_EXPORT int32_t hv_decimal_cast(hv_column *column, uint8_t precision, int8_t scale, hv_column *out, hv_error *error);
 HV_EXPORT int32_t hv_decimal_to_integers(hv_column *decimals, uint8_t to, hv_column *out, hv_error *error);
 
@@ -131,10 +132,6 @@ HV_EXPORT int32_t hv_float_encode(hv_column *bits, uint8_t is_canonical, hv_colu
 HV_EXPORT int32_t hv_float_decode(hv_column *floats, hv_column *out, hv_error *error);
 HV_EXPORT int32_t hv_float_compare(hv_column *floats, uint8_t operator_, uint64_t constant, uint8_t is_ieee,
                                    hv_column *out, hv_error *error);
-HV_EXPORT int32_t hv_float_at(hv_column *floats, size_t row, uint8_t *is_valid, uint64_t *bits, hv_error *error);
-HV_EXPORT int32_t hv_float_min_max(hv_column *floats, uint8_t is_ieee, uint8_t *is_found, uint64_t *least,
-                                   uint64_t *greatest, hv_error *error);
-HV_EXPORT int32_t hv_float_sum(hv_column *floats, uint64_t *count, uint64_t *bits, hv_error *error);
 HV_EXPORT int32_t hv_float_cast(hv_column *floats, uint8_t to, uint8_t is_rounded, hv_column *out, hv_error *error);
 HV_EXPORT int32_t hv_float_of_integers(hv_column *integers, uint8_t to, uint8_t is_rounded, hv_column *out,
                                        hv_error *error);
@@ -231,6 +228,7 @@ HV_EXPORT void hv_free(hv_column *column);
 #define hv_take_from(...) hv_call_take_from(__VA_ARGS__)
 #define hv_compare(...) hv_call_compare(__VA_ARGS__)
 #define hv_compare_scalar(...) hv_call_compare_scalar(__VA_ARGS__)
+#define hv_compare_number(...) hv_call_compare_number(__VA_ARGS__)
 #define hv_fill(...) hv_call_fill(__VA_ARGS__)
 #define hv_combine(...) hv_call_combine(__VA_ARGS__)
 #define hv_not(...) hv_call_not(__VA_ARGS__)
@@ -257,15 +255,11 @@ HV_EXPORT void hv_free(hv_column *column);
 #define hv_form(...) hv_call_form(__VA_ARGS__)
 #define hv_offset(...) hv_call_offset(__VA_ARGS__)
 #define hv_bytes_used(...) hv_call_bytes_used(__VA_ARGS__)
-#define hv_decimal_sum(...) hv_call_decimal_sum(__VA_ARGS__)
 #define hv_decimal_cast(...) hv_call_decimal_cast(__VA_ARGS__)
 #define hv_decimal_to_integers(...) hv_call_decimal_to_integers(__VA_ARGS__)
 #define hv_float_encode(...) hv_call_float_encode(__VA_ARGS__)
 #define hv_float_decode(...) hv_call_float_decode(__VA_ARGS__)
 #define hv_float_compare(...) hv_call_float_compare(__VA_ARGS__)
-#define hv_float_at(...) hv_call_float_at(__VA_ARGS__)
-#define hv_float_min_max(...) hv_call_float_min_max(__VA_ARGS__)
-#define hv_float_sum(...) hv_call_float_sum(__VA_ARGS__)
 #define hv_float_cast(...) hv_call_float_cast(__VA_ARGS__)
 #define hv_float_of_integers(...) hv_call_float_of_integers(__VA_ARGS__)
 #define hv_float_to_integers(...) hv_call_float_to_integers(__VA_ARGS__)

@@ -19,9 +19,8 @@
  * takes a session: all kernels are used.
  *
  * Headers next to this one are over these calls, and not proved: names as texts of C in hivevigil_table_helpers.h,
- * sentences in hivevigil_table_errors.h, conditions of any number in hivevigil_table_conditions.h, groups in
- * hivevigil_table_groups.h, files in hivevigil_table_file.h, streams of Arrow in hivevigil_table_arrow.h, and rows of
- * two types that are joined in hivevigil_table_concat.h. */
+ * sentences in hivevigil_table_errors.h, groups in hivevigil_table_groups.h, files in hivevigil_table_file.h, streams of
+ * Arrow in hivevigil_table_arrow.h, and rows of two types that are joined in hivevigil_table_concat.h. */
 #ifndef HIVEVIGIL_TABLES_H
 #define HIVEVIGIL_TABLES_H
 #include "hivevigil.h"
@@ -47,7 +46,12 @@ enum {
     HV_TABLE_OTHER_TYPE = 209,        /* column: the first whose type or format the other table's has not */
     HV_TABLE_NEW_NAME_TWICE = 210,    /* earlier, column: the first column whose name an earlier one would have too */
     HV_TABLE_NO_KEYS = 211,           /* rows are put in order, and in groups, by at least one column */
-    HV_TABLE_KEY_OF_LISTS = 212       /* key: the first whose column has lists */
+    HV_TABLE_KEY_OF_LISTS = 212,      /* key: the first whose column has lists */
+    HV_TABLE_UNKNOWN_COLUMN = 213,    /* answer: the first that is of a column that is not there */
+    HV_TABLE_UNSUPPORTED_ANSWER = 214, /* answer: the first that its column does not have */
+    HV_TABLE_ANSWER_TWICE = 215,      /* earlier, answer: the first whose name a key or an earlier answer has; answers
+                                         come after the keys in the first number */
+    HV_TABLE_SUM_OVERFLOW = 216       /* answer, group: the first group whose sum does not fit 64 bits */
 };
 
 #ifndef HV_EXPORTS_ALONE
@@ -88,6 +92,8 @@ HV_EXPORT int32_t hv_table_append(hv_table *table, hv_table *other, hv_table *ou
 HV_EXPORT int32_t hv_table_drop_null(hv_table *table, hv_column *names, hv_table *out, hv_error *error);
 HV_EXPORT int32_t hv_table_sort(hv_table *table, hv_column *names, const uint8_t *flags, size_t flags_len,
                                 hv_table *out, hv_error *error);
+HV_EXPORT int32_t hv_table_group_by(hv_table *table, hv_column *keys, hv_column *answers, hv_column *columns,
+                                    const uint8_t *folds, size_t folds_len, hv_table *out, hv_error *error);
 HV_EXPORT void hv_table_free(hv_table *table);
 
 #ifndef HV_EXPORTS_ALONE
@@ -108,6 +114,7 @@ HV_EXPORT void hv_table_free(hv_table *table);
 #define hv_table_append(...) hv_call_table_append(__VA_ARGS__)
 #define hv_table_drop_null(...) hv_call_table_drop_null(__VA_ARGS__)
 #define hv_table_sort(...) hv_call_table_sort(__VA_ARGS__)
+#define hv_table_group_by(...) hv_call_table_group_by(__VA_ARGS__)
 #define hv_table_free(...) hv_call_table_free(__VA_ARGS__)
 #endif
 #ifndef HV_EXPORTS_ALONE
@@ -193,6 +200,14 @@ HV_ANSWER hv_table_sort(const hv_table *table, const hv_column *names, const uin
     HV_ITEMS(const uint8_t, flags, flags_len);
     return (hv_table_sort)(hv_lent_table(table), hv_lent(names), flags, flags_len, out, HV_FIELDS);
 }
+HV_ANSWER hv_table_group_by(const hv_table *table, const hv_column *keys, const hv_column *answers,
+                            const hv_column *columns, const uint8_t *folds, size_t folds_len, hv_table *out,
+                            hv_error *error) {
+    hv_error ignored;
+    HV_ITEMS(const uint8_t, folds, folds_len);
+    return (hv_table_group_by)(hv_lent_table(table), hv_lent(keys), hv_lent(answers), hv_lent(columns), folds,
+                               folds_len, out, HV_FIELDS);
+}
 #endif
 /* end of what tools/declarations.py makes */
 #undef HV_FIELDS
@@ -238,9 +253,12 @@ HV_ANSWER hv_table_slice(const hv_table *table, size_t start, size_t stop, hv_ta
  * columns, by its runs where it is in runs. HV_TYPE_MISMATCH unless the mask is of booleans, HV_MASK_LENGTH (mask,
  * rows). */
 HV_ANSWER hv_table_filter(const hv_table *table, const hv_column *mask, hv_table *out, hv_error *error);
-/* The rows at which the operator (HV_EQ to HV_LE) holds of the row of the column of this name and a value of its type:
- * null selects nothing. HV_BAD_NUMBER for no operator, before HV_NO_COLUMN; HV_TABLE_UNKNOWN_NAME (0); HV_UNSUPPORTED
- * where that column has lists; HV_TYPE_MISMATCH where the value is not of its type, or a text not UTF-8. */
+/* The rows at which the operator (HV_EQ to HV_LE) holds of the row of the column of this name and a value: null selects
+ * nothing. Integers, decimals and floats, by the column's format, are compared with a number of any type (HV_UNSIGNED,
+ * HV_SIGNED, HV_DOUBLE, HV_SCALED) as hv_compare_number compares them; any other value has to be of the column's type,
+ * and next to dates and times HV_SIGNED is what these are stored as. HV_BAD_NUMBER for no operator, before
+ * HV_NO_COLUMN; HV_TABLE_UNKNOWN_NAME (0); HV_UNSUPPORTED where that column has lists; HV_TYPE_MISMATCH where the value
+ * is neither, or a text not UTF-8. */
 HV_ANSWER hv_table_filter_by(const hv_table *table, const uint8_t *name, size_t name_len, uint8_t operator_,
                              const hv_value *value, const uint8_t *text, size_t text_len, hv_table *out,
                              hv_error *error);
@@ -263,6 +281,21 @@ HV_ANSWER hv_table_drop_null(const hv_table *table, const hv_column *names, hv_t
 enum { HV_TABLE_DESCENDING = 1, HV_TABLE_NULLS_LAST = 2 };
 HV_ANSWER hv_table_sort(const hv_table *table, const hv_column *names, const uint8_t *flags, size_t flags_len,
                         hv_table *out, hv_error *error);
+
+/* A row for each group of neighbouring rows that are equal in the columns of all keys, null equal to null: sort first
+ * where each key is to come once. It has the keys under their names and formats, and then for each name in `answers`
+ * what is answered of the rows of the group: by the fold of its number, HV_FOLD_SUM to HV_FOLD_LAST (hivevigil.h), in
+ * the column that `columns` names at its place. That column has integers, or is any, such as a key, for HV_FOLD_ROWS.
+ * Values are looked at as they are stored, whatever the format says; the least, greatest, first and last keep the
+ * format, sums and numbers have none. HV_BAD_NUMBER for no fold, before HV_NO_COLUMN; HV_TYPE_MISMATCH and
+ * HV_NULL_NOT_ALLOWED as for hv_table_select for the keys; HV_TYPE_MISMATCH unless the answers are texts,
+ * HV_COLUMN_LENGTH (answers, folds), the same for the columns, HV_NULL_NOT_ALLOWED where one of these is null;
+ * HV_TABLE_NO_KEYS, HV_TABLE_NAME_TWICE, HV_TABLE_UNKNOWN_NAME, HV_TABLE_KEY_OF_LISTS, HV_TABLE_ANSWER_TWICE, then
+ * HV_TABLE_UNKNOWN_COLUMN or HV_TABLE_UNSUPPORTED_ANSWER for the first answer that its column does not have, then
+ * HV_TABLE_SUM_OVERFLOW, before which memory may be refused. */
+HV_ANSWER hv_table_group_by(const hv_table *table, const hv_column *keys, const hv_column *answers,
+                            const hv_column *columns, const uint8_t *folds, size_t folds_len, hv_table *out,
+                            hv_error *error);
 
 /* Frees the table of a handle, which is empty then; nothing where there is none, or the pointer is null. */
 HV_CALL void hv_table_free(hv_table *table);

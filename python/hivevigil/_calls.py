@@ -74,6 +74,7 @@ CALLS: dict[str, tuple[list[Any], Any]] = {
         POINTER(Session), POINTER(Handle), c_uint8, POINTER(Value), c_char_p, c_size_t, POINTER(Handle),
         POINTER(Fields),
     ], c_int32),
+    "hv_compare_number": ([POINTER(Handle), c_uint8, POINTER(Value), POINTER(Handle), POINTER(Fields)], c_int32),
     "hv_fill": ([
         POINTER(Session), POINTER(Handle), POINTER(Value), c_char_p, c_size_t, POINTER(Handle), POINTER(Fields),
     ], c_int32),
@@ -109,17 +110,11 @@ CALLS: dict[str, tuple[list[Any], Any]] = {
     "hv_form": ([POINTER(Handle)], c_uint8),
     "hv_offset": ([POINTER(Handle)], c_size_t),
     "hv_bytes_used": ([POINTER(Handle)], c_size_t),
-    "hv_decimal_sum": ([POINTER(Handle), POINTER(Pair), POINTER(c_uint8), POINTER(Fields)], c_int32),
     "hv_decimal_cast": ([POINTER(Handle), c_uint8, c_int8, POINTER(Handle), POINTER(Fields)], c_int32),
     "hv_decimal_to_integers": ([POINTER(Handle), c_uint8, POINTER(Handle), POINTER(Fields)], c_int32),
     "hv_float_encode": ([POINTER(Handle), c_uint8, POINTER(Handle), POINTER(Fields)], c_int32),
     "hv_float_decode": ([POINTER(Handle), POINTER(Handle), POINTER(Fields)], c_int32),
     "hv_float_compare": ([POINTER(Handle), c_uint8, c_uint64, c_uint8, POINTER(Handle), POINTER(Fields)], c_int32),
-    "hv_float_at": ([POINTER(Handle), c_size_t, POINTER(c_uint8), POINTER(c_uint64), POINTER(Fields)], c_int32),
-    "hv_float_min_max": ([
-        POINTER(Handle), c_uint8, POINTER(c_uint8), POINTER(c_uint64), POINTER(c_uint64), POINTER(Fields),
-    ], c_int32),
-    "hv_float_sum": ([POINTER(Handle), POINTER(c_uint64), POINTER(c_uint64), POINTER(Fields)], c_int32),
     "hv_float_cast": ([POINTER(Handle), c_uint8, c_uint8, POINTER(Handle), POINTER(Fields)], c_int32),
     "hv_float_of_integers": ([POINTER(Handle), c_uint8, c_uint8, POINTER(Handle), POINTER(Fields)], c_int32),
     "hv_float_to_integers": ([POINTER(Handle), c_uint8, POINTER(Handle), POINTER(Fields)], c_int32),
@@ -204,6 +199,10 @@ CALLS: dict[str, tuple[list[Any], Any]] = {
     "hv_table_drop_null": ([POINTER(TableHandle), POINTER(Handle), POINTER(TableHandle), POINTER(Fields)], c_int32),
     "hv_table_sort": ([
         POINTER(TableHandle), POINTER(Handle), c_char_p, c_size_t, POINTER(TableHandle), POINTER(Fields),
+    ], c_int32),
+    "hv_table_group_by": ([
+        POINTER(TableHandle), POINTER(Handle), POINTER(Handle), POINTER(Handle), c_char_p, c_size_t,
+        POINTER(TableHandle), POINTER(Fields),
     ], c_int32),
     "hv_table_free": ([POINTER(TableHandle)], None),
 }

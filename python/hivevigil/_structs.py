@@ -26,11 +26,15 @@ class Kind(ctypes.Structure):
 
 
 class Value(ctypes.Structure):
-    _fields_ = [("as_unsigned", c_uint64), ("as_signed", c_int64), ("kind", c_uint8), ("truth", c_uint8)]
+    _fields_ = [
+        ("as_unsigned", c_uint64), ("as_signed", c_int64), ("kind", c_uint8), ("truth", c_uint8), ("scale", c_int8),
+    ]
 
 
 class Total(ctypes.Structure):
-    _fields_ = [("as_unsigned", c_uint64), ("as_signed", c_int64), ("kind", c_uint8), ("empty", c_uint8)]
+    _fields_ = [
+        ("as_unsigned", c_uint64), ("as_signed", c_int64), ("kind", c_uint8), ("empty", c_uint8), ("scale", c_int8),
+    ]
 
 
 class Pair(ctypes.Structure):

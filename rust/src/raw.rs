@@ -26,6 +26,7 @@ pub struct RawValue {
     pub as_signed: i64,
     pub kind: u8,
     pub truth: u8,
+    pub scale: i8,
 }
 
 #[repr(C)]
@@ -35,6 +36,7 @@ pub struct RawTotal {
     pub as_signed: i64,
     pub kind: u8,
     pub empty: u8,
+    pub scale: i8,
 }
 
 #[repr(C)]
@@ -277,6 +279,13 @@ extern "C" {
         out: *mut Handle,
         error: *mut Fields,
     ) -> i32;
+    pub fn hv_compare_number(
+        column: *mut Handle,
+        operator: u8,
+        value: *const RawValue,
+        out: *mut Handle,
+        error: *mut Fields,
+    ) -> i32;
     pub fn hv_fill(
         settings: *const Session,
         column: *mut Handle,
@@ -392,12 +401,6 @@ extern "C" {
     pub fn hv_form(column: *mut Handle) -> u8;
     pub fn hv_offset(column: *mut Handle) -> usize;
     pub fn hv_bytes_used(column: *mut Handle) -> usize;
-    pub fn hv_decimal_sum(
-        column: *mut Handle,
-        sum: *mut Pair,
-        is_empty: *mut u8,
-        error: *mut Fields,
-    ) -> i32;
     pub fn hv_decimal_cast(
         column: *mut Handle,
         precision: u8,
@@ -424,27 +427,6 @@ extern "C" {
         constant: u64,
         is_ieee: u8,
         out: *mut Handle,
-        error: *mut Fields,
-    ) -> i32;
-    pub fn hv_float_at(
-        floats: *mut Handle,
-        row: usize,
-        is_valid: *mut u8,
-        bits: *mut u64,
-        error: *mut Fields,
-    ) -> i32;
-    pub fn hv_float_min_max(
-        floats: *mut Handle,
-        is_ieee: u8,
-        is_found: *mut u8,
-        least: *mut u64,
-        greatest: *mut u64,
-        error: *mut Fields,
-    ) -> i32;
-    pub fn hv_float_sum(
-        floats: *mut Handle,
-        count: *mut u64,
-        bits: *mut u64,
         error: *mut Fields,
     ) -> i32;
     pub fn hv_float_cast(
@@ -780,6 +762,16 @@ extern "C" {
         names: *mut Handle,
         flags: *const u8,
         flags_len: usize,
+        out: *mut TableHandle,
+        error: *mut Fields,
+    ) -> i32;
+    pub fn hv_table_group_by(
+        table: *mut TableHandle,
+        keys: *mut Handle,
+        answers: *mut Handle,
+        columns: *mut Handle,
+        folds: *const u8,
+        folds_len: usize,
         out: *mut TableHandle,
         error: *mut Fields,
     ) -> i32;

@@ -1,12 +1,11 @@
 -- What is passed to C of a row, from what its view shows.
-use Rattle.std.proofs.Common.{◌≡◌, ◌∙◌, ◌⊎◌, inl, inr, sym, ap, subst, pos, ℤ, ℕ, Bor, List, length, take, arith}
+use Rattle.std.proofs.Common.{◌≡◌, ◌∙◌, inr, sym, ap, subst, pos, ℤ, ℕ, Bor, List, length, take, arith}
 use Rattle.std.specs.Prelude.{All, Bool, true, false, Option, Some, None, Result, Ok, Err, IfErr, IfOk, slice_get}
 use Rattle.std.proofs.lemmas.Bool.{false≢true}
 use Rattle.std.specs.Global.{Global}
 use Rattle.column_base.specs.declared.dtype.DType.{DType}
 use Rattle.column_base.specs.declared.error.VortexError.{VortexError}
 use Rattle.column_base.specs.declared.dtype.DType.TheVariants as column
-use Rattle.column_core.specs.Refusal.{IsErrorFor}
 use Rattle.column_core.specs.ScalarForm.{ScalarForm}
 use Rattle.column_core.specs.ScalarView.{IsViewOf, sees}
 use Rattle.column_core.specs.Value.{PlainColumn, Value, Single, Items, Number, DecimalNumber, Truth, Text, Bytes}
@@ -15,13 +14,12 @@ use Rattle.column_core.specs.declared.view.ScalarView.TheVariants as view
 use Rattle.runend_array.specs.Array.{dtype_of, rows}
 use Rattle.runend_array.specs.declared.array_ref.ArrayRef.{ArrayRef}
 use Rattle.column_ops.specs.OrderFacts as order
-use Rattle.runend_commands.specs.Extremes.{AreExtremes, IsExtreme, shown}
+use Rattle.runend_commands.specs.Extremes.{IsExtreme, shown}
 use Rattle.runend_commands.specs.Refusal.{refusal}
 use Rattle.runend_commands.specs.declared.command.Command.TheVariants.{MinMax}
-use Rattle.c_columns.specs.Ending.{HasNoRoomFor, HasRoomFor, IsEndsFault, IsExtremeFault}
+use Rattle.c_columns.specs.Ending.{IsExtremeFault}
 use Rattle.c_columns.specs.Flags.{byte_of}
-use Rattle.c_columns.specs.declared.questions.Extremes.{Extremes}
-use Rattle.c_columns.specs.Values.{IsExtremeOf, IsFurthestRow, IsRoomFault, IsRoomThere, IsScalarTold, IsShownAt, IsTold, TellsView, halves, side_in}
+use Rattle.c_columns.specs.Values.{IsExtremeOf, IsFurthestRow, IsRoomFault, IsRoomThere, IsShownAt, IsTold, TellsView, halves, side_in}
 use Rattle.c_columns.specs.declared.row_value.RowValue.{RowValue}
 
 pub null_told : (value : RowValue) (text : List ℕ) → value.kind ≡ 0 → TellsView value text view.Null
@@ -106,38 +104,3 @@ extreme_short greatest before room (Err error) scalar seen accepted extreme same
 -- all rows are null
 pub none_told : (greatest : Bool) (before : PlainColumn) (text : List ℕ) (value : RowValue) → All (λ row. row ≡ None) before.rows → value.kind ≡ 0 → IsExtremeOf greatest before text value
 none_told greatest before text value nulls kind = record { row = None; furthest = nulls; told = kind }
-
--- both at once, each passed from its scalar
-pub least_of_both : (before : PlainColumn) (text : List ℕ) (outcome : Result Extremes VortexError) (scalar other : ScalarForm) → AreExtremes before scalar other → IfOk outcome (λ ends. IsScalarTold scalar ends.least text) → IfOk outcome (λ ends. IsExtremeOf false before text ends.least)
-least_of_both before text (Ok both) scalar other ends told =
-    record { row = shown scalar; furthest = least_row before.rows (shown scalar) ends.least; told = subst (λ (t : DType). IsTold t (shown scalar) both.least text) ends.first_dtype told }
-least_of_both before text (Err error) scalar other ends told = tt
-
-pub greatest_of_both : (before : PlainColumn) (text : List ℕ) (outcome : Result Extremes VortexError) (scalar other : ScalarForm) → AreExtremes before other scalar → IfOk outcome (λ ends. IsScalarTold scalar ends.greatest text) → IfOk outcome (λ ends. IsExtremeOf true before text ends.greatest)
-greatest_of_both before text (Ok both) scalar other ends told =
-    record { row = shown scalar; furthest = greatest_row before.rows (shown scalar) ends.greatest; told = subst (λ (t : DType). IsTold t (shown scalar) both.greatest text) ends.last_dtype told }
-greatest_of_both before text (Err error) scalar other ends told = tt
-
--- one of both has no room
-short_ends : (before : PlainColumn) (least_room greatest_room : ℕ) (error : VortexError) (first last : ScalarForm) → refusal {A = Global} before MinMax ≡ None → AreExtremes before first last
-    → IsRoomFault (shown first) least_room error ⊎ (IsRoomThere (shown first) least_room × IsRoomFault (shown last) greatest_room error) → IsEndsFault before least_room greatest_room error
-short_ends before least_room greatest_room error first last accepted ends (inl short) =
-    inl (inr (accepted, record { value = shown first; furthest = least_row before.rows (shown first) ends.least; short = short }))
-short_ends before least_room greatest_room error first last accepted ends (inr short) =
-    let least : HasRoomFor false before.rows least_room = record { value = shown first; furthest = least_row before.rows (shown first) ends.least; fits = short.0 } in
-    let greatest : HasNoRoomFor true before.rows greatest_room error = record { value = shown last; furthest = greatest_row before.rows (shown last) ends.greatest; short = short.1 } in
-    inr (accepted, record { least = least; greatest = greatest })
-
-pub both_short : (before : PlainColumn) (least_room greatest_room : ℕ) (outcome : Result Extremes VortexError) (first last : ScalarForm) → refusal {A = Global} before MinMax ≡ None → AreExtremes before first last
-    → IfErr outcome (λ error. IsRoomFault (shown first) least_room error ⊎ (IsRoomThere (shown first) least_room × IsRoomFault (shown last) greatest_room error)) → IfErr outcome (λ error. IsEndsFault before least_room greatest_room error)
-both_short before least_room greatest_room (Ok both) first last accepted ends short = tt
-both_short before least_room greatest_room (Err error) first last accepted ends short = short_ends before least_room greatest_room error first last accepted ends short
-
--- the question is refused
-pub both_refused : (before : PlainColumn) (least_room greatest_room : ℕ) (error : VortexError) → IsErrorFor (refusal {A = Global} before MinMax) error → IsEndsFault before least_room greatest_room error
-both_refused before least_room greatest_room error why = inl (inl why)
-
--- it was not
-pub both_accepted : (before : PlainColumn) (outcome : Result Extremes VortexError) → refusal {A = Global} before MinMax ≡ None → IfOk outcome (λ _. refusal {A = Global} before MinMax ≡ None)
-both_accepted before (Ok both) accepted = accepted
-both_accepted before (Err error) accepted = tt

@@ -12,12 +12,12 @@ pub mod Kinds
 pub mod Lists
 pub mod Makers
 pub mod Messages
+pub mod Numbers
 pub mod Pairs
 pub mod ReadFaults
 pub mod Reads
 pub mod RunParts
 pub mod RunReads
 pub mod Sessions
-pub mod Totals
 pub mod TwoColumns
 pub mod Values

@@ -1,49 +1,27 @@
 //! Questions about a column, which copy none of it.
-ghost use Rattle.std.specs.Prelude.{◌≡◌, ◌≢◌, ◌⊎◌, false, true, length, None, Some, Err, IfOk, IfErr, OnErr};
+ghost use Rattle.std.specs.Prelude.{◌≡◌, ◌≢◌, length, None, Some, Err, IfOk, IfErr, OnErr};
 ghost use Rattle.std.specs.Global.{Global};
-ghost use Rattle.column_core.specs.Refusal.{IsErrorFor, IsRefusedBy};
+ghost use Rattle.column_core.specs.Refusal.{IsRefusedBy};
 ghost use Rattle.column_ops.specs.OrderFacts as order;
 ghost use Rattle.runend_array.specs.Array.{column_of, dtype_of, rows};
 ghost use Rattle.runend_array.specs.declared.session.Kernel.TheVariants as kernel;
-ghost use Rattle.runend_commands.specs.declared.command.Command.TheVariants.{At, MinMax, Sum, IsConstant, IsSorted};
+ghost use Rattle.runend_commands.specs.declared.command.Command.TheVariants.{At, MinMax, IsConstant, IsSorted};
 ghost use Rattle.runend_commands.specs.Meaning.{plain};
 ghost use Rattle.column_core.specs.Kinds.{list_fault};
 ghost use Rattle.runend_commands.specs.Refusal.{refusal};
 ghost use Rattle.c_columns.specs.Flags.{Tells, byte_of as byte_of_truth};
 ghost use Rattle.c_columns.specs.Sessions.{IsReadInPlaceIn};
-ghost use Rattle.c_columns.specs.Totals.{IsTotalOf};
-ghost use Rattle.runend_commands.specs.Extremes.{HasBytes, shown as shown_by};
-ghost use Rattle.c_columns.specs.Values.{IsExtremeOf, IsRoomFault, IsRoomThere, IsScalarTold, IsShownAt, side_in};
-ghost use Rattle.c_columns.specs.Ending.{IsEndsFault, IsExtremeFault, IsLookUpFault};
+ghost use Rattle.runend_commands.specs.Extremes.{HasBytes};
+ghost use Rattle.c_columns.specs.Values.{IsExtremeOf, IsShownAt, side_in};
+ghost use Rattle.c_columns.specs.Ending.{IsExtremeFault, IsLookUpFault};
 
-use crate::row_value::{self, RowValue, check_room_of, row_value_of};
+use crate::row_value::{self, RowValue, row_value_of};
 use crate::sessions::{Session, context};
-use crate::totals::{Total, total_of};
-use column_core::{DType, Scalar, VortexError, VortexResult, fault_of_lists};
+use column_core::{DType, VortexError, VortexResult, fault_of_lists};
 use runend_array::ArrayRef;
 use runend_commands::compute;
 use std::alloc::Global;
 use std::cmp::Ordering;
-
-/// Holds the least and the greatest row.
-#[derive(Clone, Copy)]
-pub struct Extremes {
-    pub least: RowValue,
-    pub greatest: RowValue,
-}
-
-/// Returns the sum of the rows. Refused as the command is, and never for memory where the rows are read in
-/// place.
-pub fn sum_of(alloc: Global, session: &Session, array: &ArrayRef<Global>) -> VortexResult<Total>
-    ensures told { IfOk result (λ total. IsTotalOf (dtype_of array.now) (rows array.now) total) }
-    ensures refused { IsRefusedBy (refusal {A = Global} (plain array.now) Sum) result }
-    ensures memory { IsReadInPlaceIn session.now kernel.Sum (column_of array.now)
-        → result ≢ Err VortexError.OutOfMemory }
-{
-    let mut ctx = context(alloc, session);
-    let sum = compute::sum(array, &mut ctx)?;
-    Ok(total_of(sum))
-}
 
 /// Returns whether all rows are equal, as a byte. Refused as the command is, and never for memory where the rows are
 /// read in place.
@@ -119,44 +97,6 @@ fn side_of(greatest: bool) -> Ordering
     }
 }
 
-/// Returns the least and the greatest row that are not null, or null twice where all are. A text or bytes of each go to
-/// the front of a buffer of its own. Refused as `Unsupported` for lists, and as `row_value_of` is, for the least row
-/// where neither fits; except for texts and bytes never for memory where the rows are read in place.
-#[tactic(auto, using(crate::proofs::Told::least_of_both, crate::proofs::Told::greatest_of_both, crate::proofs::Told::both_short, crate::proofs::Told::both_refused, crate::proofs::Told::both_accepted, crate::proofs::Told::none_told))]
-pub fn extremes_of(
-    alloc: Global,
-    session: &Session,
-    array: &ArrayRef<Global>,
-    least_text: &mut [u8],
-    greatest_text: &mut [u8],
-) -> VortexResult<Extremes>
-    ensures least { IfOk result (λ ends. IsExtremeOf false (plain array.now) least_text.new ends.least) }
-    ensures greatest { IfOk result (λ ends. IsExtremeOf true (plain array.now) greatest_text.new ends.greatest) }
-    ensures accepted { IfOk result (λ _. refusal {A = Global} (plain array.now) MinMax ≡ None) }
-    ensures refused { IfErr result
-        (λ error. IsEndsFault (plain array.now) (length least_text.old) (length greatest_text.old) error) }
-    ensures kept_least { OnErr result (least_text.new ≡ least_text.old) }
-    ensures least_len { length least_text.new ≡ length least_text.old }
-    ensures kept_greatest { OnErr result (greatest_text.new ≡ greatest_text.old) }
-    ensures greatest_len { length greatest_text.new ≡ length greatest_text.old }
-    ensures memory { ¬ HasBytes (dtype_of array.now) → IsReadInPlaceIn session.now kernel.MinMax (column_of array.now)
-        → result ≢ Err VortexError.OutOfMemory }
-{
-    let mut ctx = context(alloc, session);
-    match compute::min_max(array, &mut ctx)? {
-        Some((least, greatest)) => {
-            let told = both_told(&least, &greatest, least_text, greatest_text);
-            drop(least);
-            drop(greatest);
-            told
-        }
-        None => Ok(Extremes {
-            least: row_value::null(),
-            greatest: row_value::null(),
-        }),
-    }
-}
-
 /// Returns the row at `row`, which takes no memory. A text or bytes go to the front of `text`. Refused as the look-up
 /// of a row is, and then as `row_value_of` is.
 #[tactic(auto, using(crate::proofs::LookUps::refused_lists, crate::proofs::LookUps::outside_fault, crate::proofs::LookUps::room_fault, crate::proofs::LookUps::no_fault, crate::proofs::Told::row_told))]
@@ -170,42 +110,6 @@ pub fn row_at(array: &ArrayRef<Global>, row: usize, text: &mut [u8]) -> VortexRe
     check_no_lists(array.dtype())?;
     let view = array.scalar_at(row)?;
     row_value_of(view, text)
-}
-
-// Both scalars, each with a buffer of its own, the least first. Nothing is written where one of them has no room.
-#[tactic(auto, using(crate::proofs::Told::never_short))]
-fn both_told(
-    least: &Scalar<Global>,
-    greatest: &Scalar<Global>,
-    least_text: &mut [u8],
-    greatest_text: &mut [u8],
-) -> VortexResult<Extremes>
-    ensures least { IfOk result (λ ends. IsScalarTold least.now ends.least least_text.new) }
-    ensures greatest { IfOk result (λ ends. IsScalarTold greatest.now ends.greatest greatest_text.new) }
-    ensures refused { IfErr result
-        (λ error. IsRoomFault (shown_by least.now) (length least_text.old) error
-        ⊎ (IsRoomThere (shown_by least.now) (length least_text.old)
-        × IsRoomFault (shown_by greatest.now) (length greatest_text.old) error)) }
-    ensures kept_least { OnErr result (least_text.new ≡ least_text.old) }
-    ensures least_len { length least_text.new ≡ length least_text.old }
-    ensures kept_greatest { OnErr result (greatest_text.new ≡ greatest_text.old) }
-    ensures greatest_len { length greatest_text.new ≡ length greatest_text.old }
-{
-    check_room_of(least.view(), least_text.len())?;
-    check_room_of(greatest.view(), greatest_text.len())?;
-    let least = scalar_told(least, least_text)?;
-    let greatest = scalar_told(greatest, greatest_text)?;
-    Ok(Extremes { least, greatest })
-}
-
-fn scalar_told(scalar: &Scalar<Global>, text: &mut [u8]) -> VortexResult<RowValue>
-    ensures told { IfOk result (λ value. IsScalarTold scalar.now value text.new) }
-    ensures room { IfErr result (λ error. IsRoomFault (shown_by scalar.now) (length text.old) error) }
-    ensures fits { IfOk result (λ _. IsRoomThere (shown_by scalar.now) (length text.old)) }
-    ensures kept { OnErr result (text.new ≡ text.old) }
-    ensures len { length text.new ≡ length text.old }
-{
-    row_value_of(scalar.view(), text)
 }
 
 // Refused as `Unsupported` for lists.

@@ -17,7 +17,8 @@ use std::alloc::Global;
 
 /// Holds a value, by `kind`: 0 null; 1 the number `as_unsigned`; 2 the number `as_signed`; 3 `truth`, false where it is
 /// 0; 4 the decimal whose high 64 bits are `as_signed` and whose low 64 bits are `as_unsigned`; 5 a text and 6 bytes,
-/// in a separate buffer.
+/// in a separate buffer; 7 the float of 64 bits whose bits are `as_unsigned`; 8 a decimal in the bits of 4, with
+/// `scale` of its digits after the point. Rows are answered by the kinds up to 7, whose `scale` is 0.
 #[repr(C)]
 #[derive(Clone, Copy)]
 pub struct RowValue {
@@ -25,6 +26,7 @@ pub struct RowValue {
     pub as_signed: i64,
     pub kind: u8,
     pub truth: u8,
+    pub scale: i8,
 }
 
 /// Returns what a view shows, for C. A text or bytes go to the front of `text`, and `as_unsigned` says how many bytes
@@ -193,5 +195,6 @@ fn row_value(kind: u8, as_unsigned: u64, as_signed: i64, truth: u8) -> RowValue
         as_signed,
         kind,
         truth,
+        scale: 0,
     }
 }

@@ -1,6 +1,6 @@
 -- How the calls end, and what they make and answer.
-use Rattle.std.proofs.Common.{◌≡◌, ◌≢◌, ◌∙◌, ℕ, ℤ, pos, ap, refl, sym, subst, inl, inr, Bool, true, false, map, if◌then◌else◌}
-use Rattle.std.specs.Prelude.{IfErr, IfOk, IsErrOf, IsSomeAnd, MatchOption, Option, Some, None, Result, Ok, Err, slice_get}
+use Rattle.std.proofs.Common.{◌≡◌, ◌≢◌, ◌∙◌, ℕ, ℤ, pos, ap, refl, sym, subst, inl, inr, Bool, true, false, if◌then◌else◌}
+use Rattle.std.specs.Prelude.{IfErr, IfOk, IsErrOf, Option, Some, None, Result, Ok, Err}
 use Rattle.std.specs.Global.{Global}
 use Rattle.column_base.specs.Types.{nullability_of}
 use Rattle.column_ops.specs.declared.operator.CompareOperator.{CompareOperator}
@@ -11,19 +11,13 @@ use Rattle.column_base.specs.declared.error.VortexError.{VortexError}
 use Rattle.column_base.specs.declared.error.VortexError.TheVariants.{OutOfMemory, TypeMismatch}
 use Rattle.column_base.specs.Error.{number_of}
 use Rattle.column_core.specs.Refusal.{IsErrorFor, IsRefusedBy}
-use Rattle.column_sums.specs.SumAnswer.{number_in}
-use Rattle.column_floats.specs.Extremes.{AreExtremes, NoneCounts}
-use Rattle.column_floats.specs.FloatRows.{floats_of}
-use Rattle.column_floats.specs.Formats.{IsRefusedOnlyBy, bits_fault, constant_fault, doubles_fault, floats_fault, format_of, is_bits, is_doubles, is_floats}
+use Rattle.column_floats.specs.Formats.{bits_fault, constant_fault, floats_fault, format_of, is_bits, is_floats}
 use Rattle.runend_array.specs.Array.{column_of, dtype_of, rows}
 use Rattle.runend_array.specs.declared.array_ref.ArrayRef.{ArrayRef}
 use Rattle.c_columns.specs.Ending.{HasFields, IsRefusedAs, WhereBoth}
-use Rattle.c_columns.specs.ReadFaults.{EndsOnlyBy}
 use Rattle.c_columns.specs.declared.error_fields.ErrorFields.{ErrorFields}
 use Rattle.c_columns.proofs.Endings.{as_error}
-use Rattle.c_kernels.specs.Floats.{AreComparedBy, AreExtremesShown, CountsBy, EndsFirstBy, EndsOnFloats, EndsOnLookUp, HoldsBy, IsFloatAt, IsFloatShown, IsSumShown, look_up_fault}
-use Rattle.c_kernels.specs.declared.float_questions.FloatExtremes.{FloatExtremes}
-use Rattle.c_kernels.specs.declared.float_questions.RoundedSum.{RoundedSum}
+use Rattle.c_kernels.specs.Floats.{AreComparedBy, EndsFirstBy, EndsOnFloats, HoldsBy}
 
 abbrev pub Held : Type 0
 Held = Option (ArrayRef Global)
@@ -42,9 +36,6 @@ no_bits t outcome error = first_of (is_bits t) outcome error
 
 pub no_floats : {B : Type 0} (t : DType) (outcome : Result B VortexError) (error : VortexError) → (is_floats t ≡ false → IsErrOf outcome TypeMismatch) → floats_fault t ≡ Some error → IsErrOf outcome error
 no_floats t outcome error = first_of (is_floats t) outcome error
-
-pub no_doubles : {B : Type 0} (t : DType) (outcome : Result B VortexError) (error : VortexError) → (is_doubles t ≡ false → IsErrOf outcome TypeMismatch) → doubles_fault t ≡ Some error → IsErrOf outcome error
-no_doubles t outcome error = first_of (is_doubles t) outcome error
 
 -- ---- Endings ----
 
@@ -110,108 +101,3 @@ pub truths_boxed : {B : Type 0} (is_ieee by : Bool) (operator : CompareOperator)
 truths_boxed is_ieee by operator constant floats runs (Ok made) value same are form =
     subst (λ (b : Bool). AreComparedBy b operator constant floats (value made)) (sym same) (record { runs = runs; compared = are; is = form })
 truths_boxed is_ieee by operator constant floats runs (Err why) value same are form = form
-
--- ---- A row ----
-
-pub row_empty : (row : ℕ) (c : Held) (code : ℤ) (fields : ErrorFields) → c ≡ None → code ≡ pos 22 → EndsOnLookUp row c code fields
-row_empty row c code fields none is = subst (λ (h : Held). EndsOnLookUp row h code fields) (sym none) is
-
-abbrev Shown : ℕ → ℕ → Option ℕ → ℤ → Type 0
-Shown is_valid bits float code = (code ≡ pos 0) × IsFloatShown float is_valid bits
-
-only_ends : (fault : Option VortexError) (outcome : Result (Option ℕ) VortexError) (is_valid bits old_valid old_bits : ℕ) (code : ℤ) (fields : ErrorFields) → IsRefusedOnlyBy fault outcome → IfOk outcome (λ float. Shown is_valid bits float code)
-    → IfErr outcome (λ why. (code ≢ pos 0) × IsRefusedAs why code fields × (is_valid ≡ old_valid) × (bits ≡ old_bits)) → EndsOnlyBy fault code fields
-only_ends fault (Ok float) is_valid bits old_valid old_bits code fields refused ok err = subst (λ (f : Option VortexError). EndsOnlyBy f code fields) (sym refused) ok.0
-only_ends fault (Err why) is_valid bits old_valid old_bits code fields refused ok err = subst (λ (f : Option VortexError). EndsOnlyBy f code fields) (sym refused) err.1
-
-pub row_ends : (row : ℕ) (c : Held) (a : ArrayRef Global) (outcome : Result (Option ℕ) VortexError) (is_valid bits old_valid old_bits : ℕ) (code : ℤ) (fields : ErrorFields) → c ≡ Some a → IsRefusedOnlyBy (look_up_fault row a) outcome
-    → IfOk outcome (λ float. (code ≡ pos 0) × IsFloatShown float is_valid bits)
-    → IfErr outcome (λ why. (code ≢ pos 0) × IsRefusedAs why code fields × (is_valid ≡ old_valid) × (bits ≡ old_bits)) → EndsOnLookUp row c code fields
-row_ends row c a outcome is_valid bits old_valid old_bits code fields some refused ok err =
-    subst (λ (h : Held). EndsOnLookUp row h code fields) (sym some) (only_ends (look_up_fault row a) outcome is_valid bits old_valid old_bits code fields refused ok err)
-
-shown_at : (found : Option (Option ℕ)) (float : Option ℕ) (is_valid bits : ℕ) → found ≡ Some float → IsFloatShown float is_valid bits → IsSomeAnd found (λ one. IsFloatShown one is_valid bits)
-shown_at found float is_valid bits is shown = subst (λ (one : Option (Option ℕ)). IsSomeAnd one (λ x. IsFloatShown x is_valid bits)) (sym is) shown
-
-pub row_shown : (row : ℕ) (c : Held) (a : ArrayRef Global) (outcome : Result (Option ℕ) VortexError) (is_valid bits old_valid old_bits : ℕ) (code : ℤ) (fields : ErrorFields) → c ≡ Some a
-    → IfOk outcome (λ float. slice_get (floats_of (dtype_of a) (rows a)) row ≡ Some float) → IfOk outcome (λ float. (code ≡ pos 0) × IsFloatShown float is_valid bits)
-    → IfErr outcome (λ why. (code ≢ pos 0) × IsRefusedAs why code fields × (is_valid ≡ old_valid) × (bits ≡ old_bits)) → code ≡ pos 0 → IsSomeAnd c (λ x. IsFloatAt row x is_valid bits)
-row_shown row c a (Ok float) is_valid bits old_valid old_bits code fields some is ok err zero =
-    subst (λ (h : Held). IsSomeAnd h (λ x. IsFloatAt row x is_valid bits)) (sym some) (shown_at (slice_get (floats_of (dtype_of a) (rows a)) row) float is_valid bits is ok.1)
-row_shown row c a (Err why) is_valid bits old_valid old_bits code fields some is ok err zero = absurd (err.0 zero)
-
--- ---- The least and the greatest ----
-
-abbrev AreWritten : Option FloatExtremes → ℕ → ℕ → ℕ → Type 0
-AreWritten found is_found least greatest =
-    MatchOption found ((is_found ≡ 0) × (least ≡ 0) × (greatest ≡ 0)) (λ ends. (is_found ≡ 1) × (least ≡ ends.least) × (greatest ≡ ends.greatest))
-
-abbrev IsExtremesError : VortexError → ℕ → ℕ → ℕ → ℕ → ℕ → ℕ → ℤ → ErrorFields → Type 0
-IsExtremesError why is_found least greatest old_found old_least old_greatest code fields =
-    (code ≢ pos 0) × IsRefusedAs why code fields × (is_found ≡ old_found) × (least ≡ old_least) × (greatest ≡ old_greatest)
-
-extremes_ok : (outcome : Result (Option FloatExtremes) VortexError) (is_found least greatest : ℕ) (code : ℤ) → IfOk outcome (λ found. (code ≡ pos 0) × AreWritten found is_found least greatest) → IfOk outcome (λ _. code ≡ pos 0)
-extremes_ok (Ok found) is_found least greatest code ok = ok.0
-extremes_ok (Err why) is_found least greatest code ok = ok
-
-extremes_err : (outcome : Result (Option FloatExtremes) VortexError) (is_found least greatest old_found old_least old_greatest : ℕ) (code : ℤ) (fields : ErrorFields)
-    → IfErr outcome (λ why. IsExtremesError why is_found least greatest old_found old_least old_greatest code fields) → IfErr outcome (λ why. IsRefusedAs why code fields)
-extremes_err (Ok found) is_found least greatest old_found old_least old_greatest code fields err = err
-extremes_err (Err why) is_found least greatest old_found old_least old_greatest code fields err = err.1
-
-pub extremes_ends : (c : Held) (a : ArrayRef Global) (outcome : Result (Option FloatExtremes) VortexError) (is_found least greatest old_found old_least old_greatest : ℕ) (code : ℤ) (fields : ErrorFields) → c ≡ Some a
-    → IsRefusedBy (floats_fault (dtype_of a)) outcome → ((error : VortexError) → floats_fault (dtype_of a) ≡ Some error → IsErrOf outcome error)
-    → IfOk outcome (λ found. (code ≡ pos 0) × MatchOption found ((is_found ≡ 0) × (least ≡ 0) × (greatest ≡ 0)) (λ ends. (is_found ≡ 1) × (least ≡ ends.least) × (greatest ≡ ends.greatest)))
-    → IfErr outcome (λ why. (code ≢ pos 0) × IsRefusedAs why code fields × (is_found ≡ old_found) × (least ≡ old_least) × (greatest ≡ old_greatest)) → EndsOnFloats floats_fault c code fields
-extremes_ends c a outcome is_found least greatest old_found old_least old_greatest code fields some refused first ok err =
-    ends_held floats_fault c a outcome code fields some refused first (extremes_ok outcome is_found least greatest code ok) (extremes_err outcome is_found least greatest old_found old_least old_greatest code fields err)
-
-abbrev AreFound : Bool → ArrayRef Global → Option FloatExtremes → Type 0
-AreFound is_ieee a found =
-    MatchOption found (NoneCounts (CountsBy is_ieee (format_of (dtype_of a))) (format_of (dtype_of a)) (map number_in (rows a)))
-    (λ ends. AreExtremes (CountsBy is_ieee (format_of (dtype_of a))) (format_of (dtype_of a)) (map number_in (rows a)) ends.least ends.greatest)
-
-found_shown : (is_ieee : Bool) (a : ArrayRef Global) (found : Option FloatExtremes) (is_found least greatest : ℕ) → AreFound is_ieee a found → AreWritten found is_found least greatest → AreExtremesShown is_ieee a is_found least greatest
-found_shown is_ieee a None is_found least greatest none written =
-    subst (λ (n : ℕ). AreExtremesShown is_ieee a n least greatest) (sym written.0) (none, written.1, written.2)
-found_shown is_ieee a (Some ends) is_found least greatest are written =
-    subst (λ (n : ℕ). AreExtremesShown is_ieee a n least greatest) (sym written.0)
-    (subst (λ (n : ℕ). AreExtremesShown is_ieee a 1 n greatest) (sym written.1) (subst (λ (n : ℕ). AreExtremesShown is_ieee a 1 ends.least n) (sym written.2) are))
-
-pub extremes_shown : (is_ieee : Bool) (c : Held) (a : ArrayRef Global) (outcome : Result (Option FloatExtremes) VortexError) (is_found least greatest old_found old_least old_greatest : ℕ) (code : ℤ) (fields : ErrorFields) → c ≡ Some a
-    → IfOk outcome (λ found. MatchOption found (NoneCounts (CountsBy is_ieee (format_of (dtype_of a))) (format_of (dtype_of a)) (map number_in (rows a)))
-    (λ ends. AreExtremes (CountsBy is_ieee (format_of (dtype_of a))) (format_of (dtype_of a)) (map number_in (rows a)) ends.least ends.greatest))
-    → IfOk outcome (λ found. (code ≡ pos 0) × MatchOption found ((is_found ≡ 0) × (least ≡ 0) × (greatest ≡ 0)) (λ ends. (is_found ≡ 1) × (least ≡ ends.least) × (greatest ≡ ends.greatest)))
-    → IfErr outcome (λ why. (code ≢ pos 0) × IsRefusedAs why code fields × (is_found ≡ old_found) × (least ≡ old_least) × (greatest ≡ old_greatest)) → code ≡ pos 0
-    → IsSomeAnd c (λ x. AreExtremesShown is_ieee x is_found least greatest)
-extremes_shown is_ieee c a (Ok found) is_found least greatest old_found old_least old_greatest code fields some are ok err zero =
-    subst (λ (h : Held). IsSomeAnd h (λ x. AreExtremesShown is_ieee x is_found least greatest)) (sym some) (found_shown is_ieee a found is_found least greatest are ok.1)
-extremes_shown is_ieee c a (Err why) is_found least greatest old_found old_least old_greatest code fields some are ok err zero = absurd (err.0 zero)
-
--- ---- The sum ----
-
-abbrev IsSumError : VortexError → ℕ → ℕ → ℕ → ℕ → ℤ → ErrorFields → Type 0
-IsSumError why count bits old_count old_bits code fields = (code ≢ pos 0) × IsRefusedAs why code fields × (count ≡ old_count) × (bits ≡ old_bits)
-
-sum_ok : (outcome : Result RoundedSum VortexError) (count bits : ℕ) (code : ℤ) → IfOk outcome (λ sum. (code ≡ pos 0) × (count ≡ sum.count) × (bits ≡ sum.bits)) → IfOk outcome (λ _. code ≡ pos 0)
-sum_ok (Ok sum) count bits code ok = ok.0
-sum_ok (Err why) count bits code ok = ok
-
-sum_err : (outcome : Result RoundedSum VortexError) (count bits old_count old_bits : ℕ) (code : ℤ) (fields : ErrorFields)
-    → IfErr outcome (λ why. (code ≢ pos 0) × IsRefusedAs why code fields × (count ≡ old_count) × (bits ≡ old_bits)) → IfErr outcome (λ why. IsRefusedAs why code fields)
-sum_err (Ok sum) count bits old_count old_bits code fields err = err
-sum_err (Err why) count bits old_count old_bits code fields err = err.1
-
-pub sum_ends : (c : Held) (a : ArrayRef Global) (outcome : Result RoundedSum VortexError) (count bits old_count old_bits : ℕ) (code : ℤ) (fields : ErrorFields) → c ≡ Some a → IsRefusedBy (doubles_fault (dtype_of a)) outcome
-    → ((error : VortexError) → doubles_fault (dtype_of a) ≡ Some error → IsErrOf outcome error) → IfOk outcome (λ sum. (code ≡ pos 0) × (count ≡ sum.count) × (bits ≡ sum.bits))
-    → IfErr outcome (λ why. (code ≢ pos 0) × IsRefusedAs why code fields × (count ≡ old_count) × (bits ≡ old_bits)) → EndsOnFloats doubles_fault c code fields
-sum_ends c a outcome count bits old_count old_bits code fields some refused first ok err =
-    ends_held doubles_fault c a outcome code fields some refused first (sum_ok outcome count bits code ok) (sum_err outcome count bits old_count old_bits code fields err)
-
-pub sum_shown : (c : Held) (a : ArrayRef Global) (outcome : Result RoundedSum VortexError) (count bits old_count old_bits : ℕ) (code : ℤ) (fields : ErrorFields) → c ≡ Some a → IfOk outcome (λ sum. IsSumShown a sum.count sum.bits)
-    → IfOk outcome (λ sum. (code ≡ pos 0) × (count ≡ sum.count) × (bits ≡ sum.bits))
-    → IfErr outcome (λ why. (code ≢ pos 0) × IsRefusedAs why code fields × (count ≡ old_count) × (bits ≡ old_bits)) → code ≡ pos 0 → IsSomeAnd c (λ x. IsSumShown x count bits)
-sum_shown c a (Ok sum) count bits old_count old_bits code fields some is ok err zero =
-    subst (λ (h : Held). IsSomeAnd h (λ x. IsSumShown x count bits)) (sym some)
-    (subst (λ (n : ℕ). IsSumShown a n bits) (sym ok.1) (subst (λ (n : ℕ). IsSumShown a sum.count n) (sym ok.2) is))
-sum_shown c a (Err why) count bits old_count old_bits code fields some is ok err zero = absurd (err.0 zero)

@@ -7,9 +7,12 @@ pub mod Grouped
 pub mod Floats
 pub mod FloatPairs
 pub mod Ordered
-pub mod Decimals
 pub mod DecimalPairs
 pub mod SumParts
 pub mod FloatCasts
 pub mod Totals
 pub mod DecimalCasts
+pub mod Numbers
+pub mod TypedEnds
+pub mod TypedRows
+pub mod TypedSums

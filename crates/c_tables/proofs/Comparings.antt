@@ -1,4 +1,4 @@
--- A value of the type of a column is compared with its rows, but for lists.
+-- Rows of tables are compared with a number, or with a value of the type of their column, but for lists.
 use Rattle.std.proofs.Common.{◌≡◌, ◌∙◌, ℕ, zero, suc, Bool, true, false, List, Option, None, Some, ap, inl, inr, refl, subst, sym}
 use Rattle.std.specs.Prelude.{◌⊎◌, if◌then◌else◌, option_map, slice_get}
 use Rattle.std.specs.Option.{option_or}
@@ -15,16 +15,20 @@ use Rattle.column_core.specs.SameType.{same_dtype-decides}
 use Rattle.column_core.specs.Value.{Single}
 use Rattle.column_ops.specs.CompareFault.{compare_scalar_fault}
 use Rattle.column_ops.specs.declared.operator.CompareOperator.{CompareOperator}
+use Rattle.exact_comparisons.specs.ExactRows.{number_fault}
+use Rattle.exact_comparisons.specs.Filtered.{IsFilteredByNumber, IsNumberFilterError}
+use Rattle.exact_numbers.specs.declared.numbers.ExactNumber.{ExactNumber}
 use Rattle.runend_array.specs.Column.{column_dtype}
 use Rattle.c_columns.specs.Values.{IsPassed, scalar_in}
 use Rattle.c_columns.specs.declared.row_value.RowValue.{RowValue}
-use Rattle.c_tables.specs.TableCalls.{IsFilterBy, IsFilterByRefusal}
+use Rattle.c_tables.specs.Filters.{IsFilterAs, IsFilterBy, IsFilterByRefusal, compared_number, number_without}
 use Rattle.c_tables.proofs.TableCopies.{one_place, some_same}
 use Rattle.tables.specs.Selected.{IsFilterByError, IsFilteredBy}
 use Rattle.tables.specs.Tables.{IsKept, IsNamed, IsTable, TableForm}
 use Rattle.tables.specs.declared.fault.TableError.{TableError}
-use Rattle.tables.specs.declared.fault.TableError.TheVariants.{Refused, NameCount, RowCount, RepeatedName, UnknownName, NewNameCount, RepeatedNewName, OtherNames, OtherType, NoKeys, UnsupportedKey}
+use Rattle.tables.specs.declared.fault.TableError.TheVariants.{Refused, NameCount, RowCount, RepeatedName, UnknownName, NewNameCount, RepeatedNewName, OtherNames, OtherType, NoKeys, UnsupportedKey, RepeatedAnswer, UnknownColumn, UnsupportedAnswer, SumOverflow}
 use Rattle.typed_columns.specs.Typed.{TypedForm}
+use Rattle.typed_kernels.specs.Served.{served}
 
 without_null : (t : DType) (m : Nullability) → with_nullability (with_nullability t m) NonNullable ≡ with_nullability t NonNullable
 without_null (column.Bool n) m = refl
@@ -80,6 +84,15 @@ module _ (t : TableForm) (table : IsTable t) (name : List ℕ) (value : RowValue
   filter_short column (OtherType place) named single refused = absurd refused
   filter_short column NoKeys named single refused = absurd refused
   filter_short column (UnsupportedKey key) named single refused = absurd refused
+  filter_short column (RepeatedAnswer earlier answer) named single refused = absurd refused
+  filter_short column (UnknownColumn answer) named single refused = absurd refused
+  filter_short column (UnsupportedAnswer answer) named single refused = absurd refused
+  filter_short column (SumOverflow answer group) named single refused = absurd refused
+
+-- what is compared with numbers has no fault
+no_number_fault : (fault : Option VortexError) (value : RowValue) (number : ExactNumber) → number_without fault value ≡ Some number → fault ≡ None
+no_number_fault None value number is = refl
+no_number_fault (Some why) value number is = cc
 
 -- the same under a name that is equal
 module _ (t : TableForm) (table : IsTable t) (name under : List ℕ) (same : under ≡ name) (value : RowValue) (text : List ℕ) (column : TypedForm) (found : IsNamed t under column) where
@@ -89,10 +102,44 @@ module _ (t : TableForm) (table : IsTable t) (name under : List ℕ) (same : und
   pub filter_lists : (error : VortexError) → list_fault (column_dtype column.column) ≡ Some error → IsFilterByRefusal name value text t (Refused error)
   filter_lists error listed = (column, named, inl listed)
 
-  pub filter_other : (error : VortexError) → list_fault (column_dtype column.column) ≡ None → (error ≡ OutOfMemory) ⊎ ((error ≡ TypeMismatch) × (¬ IsPassed (column_dtype column.column) value.kind value text))
-      → IsFilterByRefusal name value text t (Refused error)
-  filter_other error single (inl short) = (column, named, inr (single, inr short))
-  filter_other error single (inr other) = (column, named, inr (single, inl other))
+  -- a number next to numbers: only memory is refused
+  pub exact_refused : (number : ExactNumber) (error : TableError) → compared_number column value ≡ Some number → list_fault (column_dtype column.column) ≡ None → IsNumberFilterError t under error → IsFilterByRefusal name value text t error
+  exact_refused number (Refused error) given single (other, there, refused) =
+      let own : other ≡ column = one_column t table under value text other column there found in
+      let fault : option_or (number_fault (served column) (column_dtype column.column)) (Some OutOfMemory) ≡ Some error =
+      subst (λ (c : TypedForm). option_or (number_fault (served c) (column_dtype c.column)) (Some OutOfMemory) ≡ Some error) own refused in
+      let none = no_number_fault (number_fault (served column) (column_dtype column.column)) value number given in
+      (column, named, inr (single, inr (short_only t table under value text (number_fault (served column) (column_dtype column.column)) error none fault)))
+  exact_refused number (UnknownName place) given single (zeroth, unknown) = absurd (unknown found.place found.name_there)
+  exact_refused number (NameCount n m) given single refused = absurd refused
+  exact_refused number (RowCount place count wanted) given single refused = absurd refused
+  exact_refused number (RepeatedName earlier place) given single refused = absurd refused
+  exact_refused number (NewNameCount n m) given single refused = absurd refused
+  exact_refused number (RepeatedNewName earlier place) given single refused = absurd refused
+  exact_refused number OtherNames given single refused = absurd refused
+  exact_refused number (OtherType place) given single refused = absurd refused
+  exact_refused number NoKeys given single refused = absurd refused
+  exact_refused number (UnsupportedKey key) given single refused = absurd refused
+  exact_refused number (RepeatedAnswer earlier answer) given single refused = absurd refused
+  exact_refused number (UnknownColumn answer) given single refused = absurd refused
+  exact_refused number (UnsupportedAnswer answer) given single refused = absurd refused
+  exact_refused number (SumOverflow answer group) given single refused = absurd refused
+
+  pub exact_made : (operator : CompareOperator) (number : ExactNumber) (kept after : TableForm) → after ≡ kept → compared_number column value ≡ Some number → IsFilteredByNumber t under operator number kept → IsKept t kept
+      → IsFilterBy name operator value text t after
+  exact_made operator number kept after back given filtered stays =
+      subst (λ (u : TableForm). IsFilterBy name operator value text t u) (sym back) (record {
+        column = column;
+        named = named;
+        filtered = subst (λ (n : Option ExactNumber). IsFilterAs n column name operator value text t kept) (sym given) (subst (λ (n : List ℕ). IsFilteredByNumber t n operator number kept) same filtered);
+        kept = stays;
+      })
+
+  -- a value of the column's type
+  pub filter_other : (error : VortexError) → compared_number column value ≡ None → list_fault (column_dtype column.column) ≡ None
+      → (error ≡ OutOfMemory) ⊎ ((error ≡ TypeMismatch) × (¬ IsPassed (column_dtype column.column) value.kind value text)) → IsFilterByRefusal name value text t (Refused error)
+  filter_other error none single (inl short) = (column, named, inr (single, inr short))
+  filter_other error none single (inr (mismatch, other)) = (column, named, inr (single, inl (mismatch, none, other)))
 
   pub filter_boxed : (error : VortexError) → list_fault (column_dtype column.column) ≡ None → error ≡ OutOfMemory → IsFilterByRefusal name value text t (Refused error)
   filter_boxed error single short = (column, named, inr (single, inr short))
@@ -103,13 +150,13 @@ module _ (t : TableForm) (table : IsTable t) (name under : List ℕ) (same : und
       filter_short t table name value text column error named single
       (subst (λ (n : List ℕ). IsFilterByError t n (scalar_in (column_dtype column.column) value.kind value text).dtype error) same (subst (λ (s : ScalarForm). IsFilterByError t under s.dtype error) is refused))
 
-  pub filter_made : (operator : CompareOperator) (scalar : ScalarForm) (kept after : TableForm) → after ≡ kept → scalar ≡ scalar_in (column_dtype column.column) value.kind value text → IsPassed (column_dtype column.column) value.kind value text
-      → IsFilteredBy t under operator scalar.dtype (option_map Single scalar.value) kept → IsKept t kept → IsFilterBy name operator value text t after
-  filter_made operator scalar kept after back is passed filtered stays =
+  pub filter_made : (operator : CompareOperator) (scalar : ScalarForm) (kept after : TableForm) → after ≡ kept → scalar ≡ scalar_in (column_dtype column.column) value.kind value text → compared_number column value ≡ None
+      → IsPassed (column_dtype column.column) value.kind value text → IsFilteredBy t under operator scalar.dtype (option_map Single scalar.value) kept → IsKept t kept → IsFilterBy name operator value text t after
+  filter_made operator scalar kept after back is none passed filtered stays =
+      let compared = subst (λ (s : ScalarForm). IsFilteredBy t name operator s.dtype (option_map Single s.value) kept) is (subst (λ (n : List ℕ). IsFilteredBy t n operator scalar.dtype (option_map Single scalar.value) kept) same filtered) in
       subst (λ (u : TableForm). IsFilterBy name operator value text t u) (sym back) (record {
         column = column;
         named = named;
-        passed = passed;
-        filtered = subst (λ (s : ScalarForm). IsFilteredBy t name operator s.dtype (option_map Single s.value) kept) is (subst (λ (n : List ℕ). IsFilteredBy t n operator scalar.dtype (option_map Single scalar.value) kept) same filtered);
+        filtered = subst (λ (n : Option ExactNumber). IsFilterAs n column name operator value text t kept) (sym none) (passed, compared);
         kept = stays;
       })

@@ -7,3 +7,4 @@ mod IndexRows
 mod Comparings
 mod Refusals
 mod SortKeys
+mod AskedNames

@@ -14,8 +14,8 @@ use Rattle.c_columns.specs.Reads.{bytes_of}
 use Rattle.c_tables.specs.TableCalls.{names_fault, row_name_fault, text_fault}
 
 -- the rows so far, and one more
-pub rows_more : (all : List (Option Value)) (row : ℕ) (item : Option Value) → row < length all → slice_get all row ≡ Some item → take (row + 1) all ≡ take row all ++ item ∷ []
-rows_more all row item within there = take_more all row item within ∙ ap (λ (o : Option Value). take row all ++ o ∷ []) (get_or_from_slice_get all row item item there)
+pub rows_more : {B : Type 0} (all : List B) (row : ℕ) (item : B) → row < length all → slice_get all row ≡ Some item → take (row + 1) all ≡ take row all ++ item ∷ []
+rows_more {B} all row item within there = take_more all row item within ∙ ap (λ (o : B). take row all ++ o ∷ []) (get_or_from_slice_get all row item item there)
 
 or_none : (fault : Option VortexError) → option_or fault None ≡ fault
 or_none None = refl
@@ -29,17 +29,18 @@ faults_append : {B : Type 0} (fault : B → Option VortexError) (left : List B) 
 faults_append fault [] item = or_none (fault item)
 faults_append fault (x ∷ left) item = ap (option_or (fault x)) (faults_append fault left item) ∙ or_or (fault x) (first_fault fault left) (fault item)
 
--- no row so far is without a name, nor the next one
-pub faults_more : (all : List (Option Value)) (row : ℕ) (item : Option Value) → row < length all → slice_get all row ≡ Some item → first_fault row_name_fault (take row all) ≡ None → row_name_fault item ≡ None
-    → first_fault row_name_fault (take (row + 1) all) ≡ None
-faults_more all row item within there none fine =
-    ap (first_fault row_name_fault) (rows_more all row item within there) ∙ faults_append row_name_fault (take row all) item ∙ ap (λ (f : Option VortexError). option_or f (row_name_fault item)) none ∙ fine
+-- no row so far has a fault, nor the next one
+pub faults_more : {B : Type 0} (fault : B → Option VortexError) (all : List B) (row : ℕ) (item : B) → row < length all → slice_get all row ≡ Some item → first_fault fault (take row all) ≡ None → fault item ≡ None
+    → first_fault fault (take (row + 1) all) ≡ None
+faults_more fault all row item within there none fine =
+    ap (first_fault fault) (rows_more all row item within there) ∙ faults_append fault (take row all) item ∙ ap (λ (f : Option VortexError). option_or f (fault item)) none ∙ fine
 
 pub after_none : (first second : Option VortexError) → option_or first second ≡ None → (first ≡ None) × (second ≡ None)
 after_none None second none = (refl, none)
 after_none (Some why) second none = cc
 
-fault_front : {B : Type 0} (fault : B → Option VortexError) (xs : List B) (k : ℕ) (item : B) (why : VortexError) → slice_get xs k ≡ Some item → first_fault fault (take k xs) ≡ None → fault item ≡ Some why → first_fault fault xs ≡ Some why
+-- the fault of an item is the first, where there is none before
+pub fault_front : {B : Type 0} (fault : B → Option VortexError) (xs : List B) (k : ℕ) (item : B) (why : VortexError) → slice_get xs k ≡ Some item → first_fault fault (take k xs) ≡ None → fault item ≡ Some why → first_fault fault xs ≡ Some why
 fault_front fault [] k item why there none has = cc
 fault_front {B} fault (x ∷ xs) zero item why there none has =
     let same : x ≡ item = ap (λ (o : Option B). unwrap_or o x) there in
@@ -47,11 +48,6 @@ fault_front {B} fault (x ∷ xs) zero item why there none has =
 fault_front fault (x ∷ xs) (suc k) item why there none has =
     let both = after_none (fault x) (first_fault fault (take k xs)) none in
     ap (λ (f : Option VortexError). option_or f (first_fault fault xs)) both.0 ∙ fault_front fault xs k item why there both.1 has
-
--- the fault of a row is the first, where there is none before
-pub fault_found : (all : List (Option Value)) (row : ℕ) (item : Option Value) (why : VortexError) → slice_get all row ≡ Some item → first_fault row_name_fault (take row all) ≡ None → row_name_fault item ≡ Some why
-    → first_fault row_name_fault all ≡ Some why
-fault_found all row item why there none has = fault_front row_name_fault all row item why there none has
 
 -- the names so far, and one more
 pub names_more : (all : List (Option Value)) (row : ℕ) (item : Option Value) (names : List (List ℕ)) (name : List ℕ) → row < length all → slice_get all row ≡ Some item → names ≡ map bytes_of (take row all) → name ≡ bytes_of item
@@ -66,4 +62,4 @@ pub row_refused : {T : Type 0} (c : ArrayRef Global) (row : ℕ) (item : Option 
 row_refused c row item error (Ok value) text there none refused passed = absurd passed
 row_refused c row item error (Err other) text there none (inl short) passed = inl (passed ∙ short)
 row_refused c row item error (Err other) text there none (inr has) passed =
-    inr (ap (λ (f : Option VortexError). option_or f (first_fault row_name_fault (rows c))) text ∙ fault_found (rows c) row item other there none (has ∙ ap Some (sym passed)))
+    inr (ap (λ (f : Option VortexError). option_or f (first_fault row_name_fault (rows c))) text ∙ fault_front row_name_fault (rows c) row item other there none (has ∙ ap Some (sym passed)))

@@ -22,15 +22,15 @@ abbrev Kind : Type 1
 Kind = TableError → Type 0
 
 -- the first fault of two
-first_of_two : (first second : Option VortexError) (error : VortexError) → IsErrorFor first error → IsErrorFor (option_or first second) error
+pub first_of_two : (first second : Option VortexError) (error : VortexError) → IsErrorFor first error → IsErrorFor (option_or first second) error
 first_of_two first second error (inl short) = inl short
 first_of_two None second error (inr has) = cc
 first_of_two (Some why) second error (inr has) = inr has
 
-second_of_two : (first second : Option VortexError) (error : VortexError) → first ≡ None → IsErrorFor second error → IsErrorFor (option_or first second) error
+pub second_of_two : (first second : Option VortexError) (error : VortexError) → first ≡ None → IsErrorFor second error → IsErrorFor (option_or first second) error
 second_of_two first second error none refused = subst (λ (f : Option VortexError). IsErrorFor (option_or f second) error) (sym none) refused
 
-no_two : (first second : Option VortexError) → first ≡ None → second ≡ None → option_or first second ≡ None
+pub no_two : (first second : Option VortexError) → first ≡ None → second ≡ None → option_or first second ≡ None
 no_two first second none other = ap (λ (f : Option VortexError). option_or f second) none ∙ other
 
 pub by_fault : (fault : Option VortexError) (Why : Kind) (error : VortexError) → IsErrorFor fault error → IsNamesRefusal fault Why (Refused error)

@@ -17,7 +17,7 @@ use Rattle.runend_array.specs.declared.array_ref.ArrayRef.{ArrayRef}
 use Rattle.row_groups.specs.declared.keys.RowOrder.{RowOrder}
 use Rattle.c_tables.specs.Sorts.{IsSortRefusal, IsSortedBy, keys_fault, order_by, shape_fault}
 use Rattle.c_tables.specs.TableCalls.{names_in, row_name_fault, text_fault}
-use Rattle.c_tables.proofs.NameRows.{after_none, fault_found}
+use Rattle.c_tables.proofs.NameRows.{after_none, fault_front}
 use Rattle.c_tables.proofs.Refusals.{by_fault, by_memory, by_table}
 use Rattle.tables.specs.KeyFaults.{IsKeysError}
 use Rattle.tables.specs.Sorting.{IsSorting, KeyForm, key_of}
@@ -44,7 +44,7 @@ module _ (names : ArrayRef Global) (flags : List ℕ) where
   key_refused row item error (Ok value) none there fine refused passed = absurd passed
   key_refused row item error (Err other) none there fine (inl short) passed = inl (passed ∙ short)
   key_refused row item error (Err other) none there fine (inr has) passed =
-      inr (ap (λ (f : Option VortexError). option_or f (first_fault row_name_fault (rows names))) none ∙ fault_found (rows names) row item other there fine (has ∙ ap Some (sym passed)))
+      inr (ap (λ (f : Option VortexError). option_or f (first_fault row_name_fault (rows names))) none ∙ fault_front row_name_fault (rows names) row item other there fine (has ∙ ap Some (sym passed)))
 
   pub keys_fine : shape ≡ None → first_fault row_name_fault (rows names) ≡ None → keys_fault names flags ≡ None
   keys_fine none fine = ap (λ (f : Option VortexError). option_or f (first_fault row_name_fault (rows names))) none ∙ fine

@@ -6,7 +6,7 @@ use Rattle.std.proofs.lemmas.Bool.{cases_lt}
 use Rattle.tables.specs.TableFaults.{IsFirstRepeated, IsFirstUnknown, IsSelectError}
 use Rattle.tables.specs.Tables.{AreDistinct, IsNamed, IsSelection, IsTable, TableForm, table_with}
 use Rattle.tables.specs.declared.fault.TableError.{TableError}
-use Rattle.tables.specs.declared.fault.TableError.TheVariants.{Refused, NameCount, RowCount, RepeatedName, UnknownName, NewNameCount, RepeatedNewName, OtherNames, OtherType, NoKeys, UnsupportedKey}
+use Rattle.tables.specs.declared.fault.TableError.TheVariants.{Refused, NameCount, RowCount, RepeatedName, UnknownName, NewNameCount, RepeatedNewName, OtherNames, OtherType, NoKeys, UnsupportedKey, UnknownColumn, UnsupportedAnswer, RepeatedAnswer, SumOverflow}
 use Rattle.typed_columns.specs.Typed.{TypedForm}
 use Rattle.c_tables.specs.TableEnding.{IsMemory}
 
@@ -81,6 +81,10 @@ module _ (t : TableForm) (table : IsTable t) where
   own_short (OtherType place) refused = absurd refused
   own_short NoKeys refused = absurd refused
   own_short (UnsupportedKey key) refused = absurd refused
+  own_short (UnknownColumn answer) refused = absurd refused
+  own_short (UnsupportedAnswer answer) refused = absurd refused
+  own_short (RepeatedAnswer earlier answer) refused = absurd refused
+  own_short (SumOverflow answer group) refused = absurd refused
 
   -- that is refused only for memory
   pub selection_short : (asked : List (List ℕ)) (error : TableError) → asked ≡ t.names → IsSelectError t.names asked error → IsMemory error

@@ -3,7 +3,7 @@ use Rattle.std.proofs.Common.{◌≡◌, inl, inr, sym, ap, subst, pos, ℤ}
 use Rattle.std.specs.Prelude.{Option, Some, None}
 use Rattle.std.specs.Global.{Global}
 use Rattle.c_columns.specs.declared.error_fields.ErrorFields.{ErrorFields}
-use Rattle.c_tables.specs.TableEnding.{EndsFor, EndsOnBoth, EndsOnOne, EndsOnThree, HasTableFields, table_number}
+use Rattle.c_tables.specs.TableEnding.{EndsFor, EndsOnBoth, EndsOnFour, EndsOnOne, EndsOnThree, HasTableFields, table_number}
 use Rattle.c_tables.specs.TableHandle.{typed_in}
 use Rattle.tables.specs.declared.fault.TableError.{TableError}
 use Rattle.typed_columns.specs.Typed.{typed_of}
@@ -85,3 +85,38 @@ module _ {X Y Z : Type 0} (Why : X → Y → Z → Kind) (c : Option X) (d : Opt
   pub three_refused : (x : X) (y : Y) (z : Z) (error : TableError) (code : ℤ) (fields : ErrorFields)
       → c ≡ Some x → d ≡ Some y → e ≡ Some z → Why x y z error → code ≡ pos (table_number error) → HasTableFields error fields → EndsOnThree Why c d e code fields
   three_refused x y z error code fields some other third why is has = on_three x y z code fields some other third (for_refused (Why x y z) error code fields why is has)
+
+-- of four
+module _ {W X Y Z : Type 0} (Why : W → X → Y → Z → Kind) (b : Option W) (c : Option X) (d : Option Y) (e : Option Z) where
+  of_first : (w : W) (code : ℤ) (fields : ErrorFields) → b ≡ Some w → EndsOnFour Why (Some w) c d e code fields → EndsOnFour Why b c d e code fields
+  of_first w code fields some ends = subst (λ (h : Option W). EndsOnFour Why h c d e code fields) (sym some) ends
+
+  of_two : (w : W) (x : X) (code : ℤ) (fields : ErrorFields) → b ≡ Some w → c ≡ Some x → EndsOnFour Why (Some w) (Some x) d e code fields → EndsOnFour Why b c d e code fields
+  of_two w x code fields some other ends = of_first w code fields some (subst (λ (k : Option X). EndsOnFour Why (Some w) k d e code fields) (sym other) ends)
+
+  of_three : (w : W) (x : X) (y : Y) (code : ℤ) (fields : ErrorFields) → b ≡ Some w → c ≡ Some x → d ≡ Some y → EndsOnFour Why (Some w) (Some x) (Some y) e code fields → EndsOnFour Why b c d e code fields
+  of_three w x y code fields some other third ends = of_two w x code fields some other (subst (λ (k : Option Y). EndsOnFour Why (Some w) (Some x) k e code fields) (sym third) ends)
+
+  pub none_of_four : (code : ℤ) (fields : ErrorFields) → b ≡ None → code ≡ pos 22 → EndsOnFour Why b c d e code fields
+  none_of_four code fields none is = subst (λ (h : Option W). EndsOnFour Why h c d e code fields) (sym none) is
+
+  pub one_of_four : (w : W) (code : ℤ) (fields : ErrorFields) → b ≡ Some w → c ≡ None → code ≡ pos 22 → EndsOnFour Why b c d e code fields
+  one_of_four w code fields some none is = of_first w code fields some (subst (λ (k : Option X). EndsOnFour Why (Some w) k d e code fields) (sym none) is)
+
+  pub two_of_four : (w : W) (x : X) (code : ℤ) (fields : ErrorFields) → b ≡ Some w → c ≡ Some x → d ≡ None → code ≡ pos 22 → EndsOnFour Why b c d e code fields
+  two_of_four w x code fields some other none is = of_two w x code fields some other (subst (λ (k : Option Y). EndsOnFour Why (Some w) (Some x) k e code fields) (sym none) is)
+
+  pub three_of_four : (w : W) (x : X) (y : Y) (code : ℤ) (fields : ErrorFields) → b ≡ Some w → c ≡ Some x → d ≡ Some y → e ≡ None → code ≡ pos 22 → EndsOnFour Why b c d e code fields
+  three_of_four w x y code fields some other third none is =
+      of_three w x y code fields some other third (subst (λ (l : Option Z). EndsOnFour Why (Some w) (Some x) (Some y) l code fields) (sym none) is)
+
+  on_four : (w : W) (x : X) (y : Y) (z : Z) (code : ℤ) (fields : ErrorFields) → b ≡ Some w → c ≡ Some x → d ≡ Some y → e ≡ Some z → EndsFor (Why w x y z) code fields → EndsOnFour Why b c d e code fields
+  on_four w x y z code fields some other third fourth ends =
+      of_three w x y code fields some other third (subst (λ (l : Option Z). EndsOnFour Why (Some w) (Some x) (Some y) l code fields) (sym fourth) ends)
+
+  pub four_done : (w : W) (x : X) (y : Y) (z : Z) (code : ℤ) (fields : ErrorFields) → b ≡ Some w → c ≡ Some x → d ≡ Some y → e ≡ Some z → code ≡ pos 0 → EndsOnFour Why b c d e code fields
+  four_done w x y z code fields some other third fourth is = on_four w x y z code fields some other third fourth (inl is)
+
+  pub four_refused : (w : W) (x : X) (y : Y) (z : Z) (error : TableError) (code : ℤ) (fields : ErrorFields)
+      → b ≡ Some w → c ≡ Some x → d ≡ Some y → e ≡ Some z → Why w x y z error → code ≡ pos (table_number error) → HasTableFields error fields → EndsOnFour Why b c d e code fields
+  four_refused w x y z error code fields some other third fourth why is has = on_four w x y z code fields some other third fourth (for_refused (Why w x y z) error code fields why is has)

@@ -1,31 +1,27 @@
 -- What the calls on tables make and read, and why they are refused.
-use Rattle.std.specs.Prelude.{◌≡◌, ◌⊎◌, ◌-◌, ℕ, List, Option, Some, None, cond, count_by, length, map, nat_lt, option_map, slice_get, slice_range, take}
+use Rattle.std.specs.Prelude.{◌≡◌, ◌⊎◌, ◌-◌, ℕ, List, Option, Some, None, cond, count_by, length, map, nat_lt, slice_get, slice_range, take}
 use Rattle.std.specs.Option.{option_or}
 use Rattle.std.specs.Global.{Global}
 use Rattle.std.specs.Str.{IsUtf8}
 use Rattle.column_base.specs.declared.dtype.DType.{DType}
 use Rattle.column_base.specs.declared.dtype.DType.TheVariants as column
 use Rattle.column_base.specs.declared.error.VortexError.{VortexError}
-use Rattle.column_base.specs.declared.error.VortexError.TheVariants.{ColumnLength, NullNotAllowed, OutOfMemory, TypeMismatch}
-use Rattle.column_core.specs.Kinds.{is_numbers, list_fault}
+use Rattle.column_base.specs.declared.error.VortexError.TheVariants.{ColumnLength, NullNotAllowed, TypeMismatch}
+use Rattle.column_core.specs.Kinds.{is_numbers}
 use Rattle.column_core.specs.Refusal.{first_fault, range_fault, row_fault}
 use Rattle.column_core.specs.Value.{Single, Text, Value}
 use Rattle.column_ops.specs.Codes.{code_fault, code_numbers}
 use Rattle.column_ops.specs.Filter.{filter_fault, filter_rows}
-use Rattle.column_ops.specs.declared.operator.CompareOperator.{CompareOperator}
 use Rattle.runend_array.specs.Array.{dtype_of, rows}
-use Rattle.runend_array.specs.Column.{column_dtype}
 use Rattle.runend_array.specs.declared.array_ref.ArrayRef.{ArrayRef}
 use Rattle.runend_commands.specs.Meaning.{plain}
 use Rattle.row_stretches.specs.Masks.{mask_fault, truths_of}
 use Rattle.c_columns.specs.Reads.{bytes_of}
-use Rattle.c_columns.specs.Values.{IsPassed, scalar_in}
-use Rattle.c_columns.specs.declared.row_value.RowValue.{RowValue}
 use Rattle.c_tables.specs.TableEnding.{IsFault, IsMemoryOr}
 use Rattle.tables.specs.Put.{IsPut, IsPutError}
-use Rattle.tables.specs.Selected.{IsFilteredBy, IsTaken}
+use Rattle.tables.specs.Selected.{IsTaken}
 use Rattle.tables.specs.TableFaults.{AreAsked, IsRenameError, IsSelectError}
-use Rattle.tables.specs.Tables.{IsKept, IsNamed, IsRenaming, IsSelection, IsUnknown, TableForm, rows_of}
+use Rattle.tables.specs.Tables.{IsKept, IsRenaming, IsSelection, IsUnknown, TableForm, rows_of}
 use Rattle.tables.specs.WithoutNull.{IsWithoutNull, chosen_names}
 use Rattle.tables.specs.declared.fault.TableError.{TableError}
 use Rattle.tables.specs.declared.fault.TableError.TheVariants.{Refused, UnknownName}
@@ -48,28 +44,6 @@ pub record IsFilterOf (before : TableForm) (mask : ArrayRef Global) (after : Tab
   pub count : after.count ≡ count_by (λ bit. bit) (truths_of (rows mask))
   pub rows : rows_of after ≡ map (filter_rows (truths_of (rows mask))) (rows_of before)
   pub kept : IsKept before after
-
--- the rows of each column at which the operator holds of the row of the named column and the value that is passed
-pub record IsFilterBy (name : List ℕ) (operator : CompareOperator) (value : RowValue) (text : List ℕ) (before after : TableForm) : Type 0 where
-  pub column : TypedForm
-  pub named : IsNamed before name column
-  pub passed : IsPassed (column_dtype column.column) value.kind value text
-  pub filtered : IsFilteredBy before name operator (scalar_in (column_dtype column.column) value.kind value text).dtype
-      (option_map Single (scalar_in (column_dtype column.column) value.kind value text).value) after
-  pub kept : IsKept before after
-
--- why rows of this type are not compared with the value that is passed: they are lists, or it is not a value of the
--- type, else memory was refused
-abbrev pub IsComparingError : DType → RowValue → List ℕ → VortexError → Type 0
-IsComparingError dtype value text error =
-    (list_fault dtype ≡ Some error)
-    ⊎ ((list_fault dtype ≡ None) × (((error ≡ TypeMismatch) × (¬ IsPassed dtype value.kind value text)) ⊎ (error ≡ OutOfMemory)))
-
--- why a table is not filtered by a column of this name and a value that is passed
-abbrev pub IsFilterByRefusal : List ℕ → RowValue → List ℕ → TableForm → TableError → Type 0
-IsFilterByRefusal name value text t (Refused error) = (column : TypedForm) × IsNamed t name column × IsComparingError (column_dtype column.column) value text error
-IsFilterByRefusal name value text t (UnknownName place) = (place ≡ 0) × IsUnknown t.names name
-IsFilterByRefusal name value text t error = ⊥
 
 -- only integers are indices
 abbrev pub numbers_fault : DType → Option VortexError

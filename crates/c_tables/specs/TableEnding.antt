@@ -5,7 +5,7 @@ use Rattle.column_base.specs.Error.{number_of}
 use Rattle.column_base.specs.declared.error.VortexError.{VortexError}
 use Rattle.column_base.specs.declared.error.VortexError.TheVariants.{OutOfMemory}
 use Rattle.tables.specs.declared.fault.TableError.{TableError}
-use Rattle.tables.specs.declared.fault.TableError.TheVariants.{Refused, NameCount, RowCount, RepeatedName, UnknownName, NoKeys, UnsupportedKey, NewNameCount, OtherNames, OtherType, RepeatedNewName}
+use Rattle.tables.specs.declared.fault.TableError.TheVariants.{Refused, NameCount, RowCount, RepeatedName, UnknownName, NoKeys, UnsupportedKey, NewNameCount, OtherNames, OtherType, RepeatedNewName, UnknownColumn, UnsupportedAnswer, RepeatedAnswer, SumOverflow}
 use Rattle.c_columns.specs.Ending.{AreFields, HasFields}
 use Rattle.c_columns.specs.declared.error_fields.ErrorFields.{ErrorFields}
 
@@ -22,6 +22,10 @@ table_number (OtherType column) = 209
 table_number (RepeatedNewName earlier column) = 210
 table_number NoKeys = 211
 table_number (UnsupportedKey key) = 212
+table_number (UnknownColumn answer) = 213
+table_number (UnsupportedAnswer answer) = 214
+table_number (RepeatedAnswer earlier answer) = 215
+table_number (SumOverflow answer group) = 216
 
 -- the fields of a refusal, in their order, and 0 for each that it does not have
 abbrev pub HasTableFields : TableError → ErrorFields → Type 0
@@ -36,6 +40,10 @@ HasTableFields (OtherType column) f = AreFields f column 0 0
 HasTableFields (RepeatedNewName earlier column) f = AreFields f earlier column 0
 HasTableFields NoKeys f = AreFields f 0 0 0
 HasTableFields (UnsupportedKey key) f = AreFields f key 0 0
+HasTableFields (UnknownColumn answer) f = AreFields f answer 0 0
+HasTableFields (UnsupportedAnswer answer) f = AreFields f answer 0 0
+HasTableFields (RepeatedAnswer earlier answer) f = AreFields f earlier answer 0
+HasTableFields (SumOverflow answer group) f = AreFields f answer group 0
 
 -- the call is refused for this error: with its number and its fields
 abbrev pub IsTableRefusedAs : TableError → ℤ → ErrorFields → Type 0
@@ -78,3 +86,11 @@ EndsOnThree Why None y z code fields = code ≡ pos 22
 EndsOnThree Why (Some x) None z code fields = code ≡ pos 22
 EndsOnThree Why (Some x) (Some y) None code fields = code ≡ pos 22
 EndsOnThree Why (Some x) (Some y) (Some z) code fields = EndsFor (Why x y z) code fields
+
+-- on what four handles hold
+abbrev pub EndsOnFour : {W X Y Z : Type 0} → (W → X → Y → Z → TableError → Type 0) → Option W → Option X → Option Y → Option Z → ℤ → ErrorFields → Type 0
+EndsOnFour Why None x y z code fields = code ≡ pos 22
+EndsOnFour Why (Some w) None y z code fields = code ≡ pos 22
+EndsOnFour Why (Some w) (Some x) None z code fields = code ≡ pos 22
+EndsOnFour Why (Some w) (Some x) (Some y) None code fields = code ≡ pos 22
+EndsOnFour Why (Some w) (Some x) (Some y) (Some z) code fields = EndsFor (Why w x y z) code fields

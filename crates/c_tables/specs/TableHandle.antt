@@ -35,3 +35,8 @@ typed_in (Some held) = Some (typed_of held)
 abbrev pub WhereFour : {W X Y Z : Type 0} → (W → X → Y → Z → Type 0) → Option W → Option X → Option Y → Option Z → Type 0
 WhereFour P (Some w) (Some x) (Some y) (Some z) = P w x y z
 WhereFour P w x y z = ⊥
+
+-- each of five
+abbrev pub WhereFive : {V W X Y Z : Type 0} → (V → W → X → Y → Z → Type 0) → Option V → Option W → Option X → Option Y → Option Z → Type 0
+WhereFive P (Some v) (Some w) (Some x) (Some y) (Some z) = P v w x y z
+WhereFive P v w x y z = ⊥

@@ -108,6 +108,12 @@ fn refuse_table(why: TableError, fields: &mut ErrorFields) -> i32
         ),
         TableError::NoKeys => refused_with(211, 0, 0, 0, fields),
         TableError::UnsupportedKey { key } => refused_with(212, key, 0, 0, fields),
+        TableError::UnknownColumn { answer } => refused_with(213, answer, 0, 0, fields),
+        TableError::UnsupportedAnswer { answer } => refused_with(214, answer, 0, 0, fields),
+        TableError::RepeatedAnswer { earlier, answer } => refused_with(
+            215, earlier, answer, 0, fields,
+        ),
+        TableError::SumOverflow { answer, group } => refused_with(216, answer, group, 0, fields),
     }
 }
 

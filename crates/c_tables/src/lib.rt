@@ -5,6 +5,7 @@
 pub mod answers;
 mod boxed;
 pub mod columns;
+pub mod groups;
 mod indices;
 pub mod names;
 mod raw_box;

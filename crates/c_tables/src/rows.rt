@@ -3,20 +3,26 @@ ghost use Rattle.std.specs.Prelude.{◌≡◌, IfErr, IfOk, OnOk, None};
 ghost use Rattle.column_core.specs.PrimitiveForm.{optional_numbers, primitive_dtype};
 ghost use Rattle.column_core.specs.Refusal.{range_fault};
 ghost use Rattle.column_ops.specs.Take.{take_fault};
-ghost use Rattle.c_tables.specs.TableCalls.{IsFilterBy, IsFilterByRefusal, IsFilterOf, IsSliceOf, IsTakeRefusal, IsTakenAt, masking_fault};
+ghost use Rattle.c_tables.specs.Filters.{IsFilterBy, IsFilterByRefusal, compared_number};
+ghost use Rattle.c_tables.specs.TableCalls.{IsFilterOf, IsSliceOf, IsTakeRefusal, IsTakenAt, masking_fault};
 ghost use Rattle.c_tables.specs.TableEnding.{IsFaultFirst};
 ghost use Rattle.tables.specs.Appended.{IsAppendError, IsAppendable, IsAppended};
 ghost use Rattle.tables.specs.Selected.{IsTaken};
+ghost use Rattle.typed_columns.specs.Typed.{typed_of};
 
 use crate::boxed::{BoxedTable, boxed, usual_context};
 use crate::indices::numbers_of;
 use crate::names::text_of;
+use c_columns::numbers::number_passed;
 use c_columns::row_value::{RowValue, scalar_of};
 use column_core::{PrimitiveArray, fault_of_lists};
 use column_ops::CompareOperator;
+use exact_comparisons::{filter_by_number, number_fault};
+use exact_numbers::ExactNumber;
 use runend_array::ArrayRef;
 use std::alloc::Global;
 use tables::{Table, TableError};
+use typed_columns::TypedColumn;
 
 /// Returns the rows from `start` to `stop` - 1 of each column. Refused as `BadRange` exactly where these are not rows,
 /// else only for memory.
@@ -47,10 +53,11 @@ pub fn filtered(
     Ok(boxed(alloc, kept)?)
 }
 
-/// Returns the rows at which the operator holds of the row of the column of this name and a value of its type, which C
-/// passes. Refused as `UnknownName` where no column has the name, then as `Unsupported` where that column has lists,
-/// then as `TypeMismatch` where the value is none of its type, else only for memory.
-#[tactic(auto, using(crate::proofs::Comparings::filter_lists, crate::proofs::Comparings::filter_other, crate::proofs::Comparings::filter_boxed, crate::proofs::Comparings::filter_failed, crate::proofs::Comparings::filter_made))]
+/// Returns the rows at which the operator holds of the row of the column of this name and what C passes: a number of
+/// any type next to integers, decimals and floats, both as the exact numbers that they are, and else a value of the
+/// column's type. Refused as `UnknownName` where no column has the name, then as `Unsupported` where that column has
+/// lists, then as `TypeMismatch` where the value is neither, else only for memory.
+#[tactic(auto, using(crate::proofs::Comparings::filter_lists, crate::proofs::Comparings::exact_refused, crate::proofs::Comparings::exact_made, crate::proofs::Comparings::filter_other, crate::proofs::Comparings::filter_boxed, crate::proofs::Comparings::filter_failed, crate::proofs::Comparings::filter_made))]
 pub fn filtered_by(
     alloc: Global,
     table: &Table<Global>,
@@ -69,6 +76,10 @@ pub fn filtered_by(
     };
     if let Some(error) = fault_of_lists(column.array.dtype()) {
         return Err(TableError::Refused(error));
+    }
+    if let Some(number) = compared_number(column, value) {
+        let kept = filter_by_number(table, name, operator, number, &mut usual_context(alloc))?;
+        return Ok(boxed(alloc, kept)?);
     }
     let scalar = scalar_of(alloc, &column.array, value, text)?;
     let kept = table.filter_by(name, operator, &scalar, &mut usual_context(alloc));
@@ -124,4 +135,14 @@ fn taken_at(
 {
     let taken = table.take(numbers, &mut usual_context(alloc))?;
     Ok(boxed(alloc, taken)?)
+}
+
+// Returns the number as which a value is compared with the rows of a column, where both are numbers.
+fn compared_number(column: &TypedColumn<Global>, value: &RowValue) -> Option<ExactNumber>
+    ensures { result ≡ compared_number (typed_of column.now) value.now }
+{
+    match number_fault(column) {
+        Some(_) => None,
+        None => number_passed(value),
+    }
 }

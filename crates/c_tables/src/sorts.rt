@@ -60,8 +60,8 @@ fn keys_of(
     Ok(keys)
 }
 
-// `TypeMismatch` unless the names are texts, then `ColumnLength` unless there are `count`.
-fn fault_of_shape(names: &ArrayRef<Global>, count: usize) -> Option<VortexError>
+/// Returns `TypeMismatch` unless the names are texts, then `ColumnLength` unless there are `count`.
+pub(crate) fn fault_of_shape(names: &ArrayRef<Global>, count: usize) -> Option<VortexError>
     ensures { result ≡ shape_fault (dtype_of names.now) (length (rows names.now)) count }
 {
     if let Some(error) = fault_of_texts(names.dtype()) {

@@ -1,5 +1,4 @@
 pub mod BuilderEndings
-pub mod EndsEndings
 pub mod TableAnswers
 pub mod FormatEndings
 pub mod PartEndings

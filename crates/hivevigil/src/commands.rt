@@ -6,6 +6,7 @@ ghost use Rattle.c_columns.specs.Ending.{EndsOn, EndsOnPassed, LeavesPassed, Whe
 ghost use Rattle.c_columns.specs.Handle.{array_in, format_in};
 ghost use Rattle.c_columns.specs.Kinds.{dtype_by, operator_by};
 ghost use Rattle.c_columns.specs.TwoColumns.{EndsOnTwo, IsComparedIn, IsFilteredIn, IsLookedUpIn, IsTakenIn, LeavesPlain, beside_fault, code_look_up_fault, compared_by, filtered_by, looked_up_by, mask_filter_fault};
+ghost use Rattle.c_kernels.specs.Numbers.{AreComparedWith, EndsOnComparing};
 
 use c_columns::arguments::{compare_scalar_command, fill_command};
 use c_columns::commands::{answer, apply};
@@ -16,6 +17,7 @@ use c_columns::row_value::RowValue;
 use c_columns::sessions::Session;
 use c_columns::slices::slice;
 use c_columns::two_columns;
+use c_kernels::compare_number_handle;
 use column_ops::CompareOperator;
 use runend_commands::Command;
 use std::alloc::Global;
@@ -269,6 +271,29 @@ pub extern "C" fn hv_compare_scalar(
         }
         None => BAD_NUMBER,
     }
+}
+
+/// Says row by row whether the operator, by its number as to `hv_compare`, holds of the row and a number of any type,
+/// both as the exact numbers that they are; rows are what the column's format says. Refused as `Unsupported` for lists,
+/// then as `TypeMismatch` where the rows or the value are not numbers.
+#[unsafe(no_mangle)]
+pub extern "C" fn hv_compare_number(
+    alloc: Global,
+    column: &mut Handle,
+    operator: u8,
+    value: &RowValue,
+    out: &mut Handle,
+    error: &mut ErrorFields,
+) -> i32
+    ensures same { column.new.column ≡ column.old.column }
+    ensures made { result ≡ pos 0 → IsSomeAnd (operator_by operator)
+        (λ op. WhereBoth (AreComparedWith op value.now) column.old.column (array_in out.new.column)) }
+    ensures untyped { result ≡ pos 0 → format_in out.new.column ≡ [] }
+    ensures kept { result ≢ pos 0 → out.new.column ≡ out.old.column }
+    ensures ended { MatchOption (operator_by operator) (result ≡ pos 23)
+        (λ op. EndsOnComparing value.now column.old.column result error.new) }
+{
+    compare_number_handle(alloc, column, operator, value, out, error)
 }
 
 /// Returns a value of the column's type in place of each null. Refused as `TypeMismatch` where it is none of the type.

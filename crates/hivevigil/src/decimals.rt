@@ -5,34 +5,12 @@ ghost use Rattle.c_columns.specs.Ending.{WhereBoth};
 ghost use Rattle.c_columns.specs.Handle.{array_in, format_in};
 ghost use Rattle.c_columns.specs.Kinds.{ptype_by};
 ghost use Rattle.c_kernels.specs.DecimalCasts.{exact_fault, AreDecimals, AreWholes, EndsOnRescale, FailsAsDecimals, FailsAsWholes, IsPrecision};
-ghost use Rattle.c_kernels.specs.Decimals.{EndsOnDecimals, IsDecimalSum};
 
 use c_columns::error_fields::ErrorFields;
 use c_columns::handle::Handle;
-use c_columns::pairs::Pair;
-use c_kernels::{cast_decimals_handle, cast_wholes_handle, decimal_sum_in_handle};
+use c_kernels::{cast_decimals_handle, cast_wholes_handle};
 use column_core::DecimalDType;
 use std::alloc::Global;
-
-/// Reports the exact sum of the rows that are not null, at the scale of the column, and whether no row is valid.
-/// Refused as `Unsupported` exactly unless the rows are decimals, then as `CastOutOfRange`, with the first row such
-/// that the rows up to it add up to more than 38 digits.
-#[unsafe(no_mangle)]
-pub extern "C" fn hv_decimal_sum(
-    alloc: Global,
-    column: &mut Handle,
-    sum: &mut Pair,
-    is_empty: &mut u8,
-    error: &mut ErrorFields,
-) -> i32
-    ensures same { column.new.column ≡ column.old.column }
-    ensures shown { result ≡ pos 0 → IsSomeAnd (array_in column.old.column) (λ c. IsDecimalSum c sum.new is_empty.new) }
-    ensures kept_sum { result ≢ pos 0 → sum.new ≡ sum.old }
-    ensures kept_empty { result ≢ pos 0 → is_empty.new ≡ is_empty.old }
-    ensures ended { EndsOnDecimals (array_in column.old.column) result error.new }
-{
-    decimal_sum_in_handle(alloc, column, sum, is_empty, error)
-}
 
 /// Makes the same numbers as decimals of this precision and scale. Returns 23 for a precision that is not 1 to 38;
 /// refused as `Unsupported` exactly unless the rows are integers or decimals, then as `CastOutOfRange`, with the first

@@ -3,29 +3,35 @@ ghost use Rattle.std.specs.Prelude.{◌≡◌, ◌≢◌, false, true, IsSomeAnd
 ghost use Rattle.column_ops.specs.OrderFacts as order;
 ghost use Rattle.runend_array.specs.Array.{column_of, dtype_of, rows};
 ghost use Rattle.runend_array.specs.declared.session.Kernel.TheVariants as kernel;
-ghost use Rattle.runend_commands.specs.declared.command.Command.TheVariants.{Sum, IsConstant, IsSorted};
+ghost use Rattle.runend_commands.specs.declared.command.Command.TheVariants.{IsConstant, IsSorted};
 ghost use Rattle.runend_commands.specs.Meaning.{plain};
 ghost use Rattle.c_columns.specs.Ending.{EndsOn, EndsOnEnds, EndsOnExtreme, EndsOnRow};
 ghost use Rattle.c_columns.specs.Flags.{Tells, flag_of};
+ghost use Rattle.typed_columns.specs.Typed.{typed_of};
 ghost use Rattle.c_columns.specs.Handle.{array_in};
 ghost use Rattle.c_columns.specs.InPlace.{IsExtremeNeverShortOn, IsNeverShortOn};
 ghost use Rattle.c_columns.specs.Kinds.{IsKindOf};
 ghost use Rattle.c_columns.specs.Reads.{form_number, offset_in};
-ghost use Rattle.c_columns.specs.Totals.{IsTotalOf};
-ghost use Rattle.c_columns.specs.Values.{IsExtremeOf, IsShownAt};
+ghost use Rattle.c_columns.specs.Values.{IsExtremeOf};
+ghost use Rattle.c_kernels.specs.TypedEnds.{IsEndNeverShortOn, IsEndOf};
+ghost use Rattle.c_kernels.specs.TypedRows.{IsRowTold};
+ghost use Rattle.c_kernels.specs.TypedSums.{EndsOnSum, IsSumNeverShortOn, IsSumOf};
 
-use c_columns::error_fields::{ErrorFields, NO_COLUMN, refuse, write_answer};
+use c_columns::error_fields::{ErrorFields, NO_COLUMN, write_answer};
 use c_columns::handle::Handle;
 use c_columns::kinds::{self, Kind};
 use c_columns::row_value::RowValue;
 use c_columns::sessions::Session;
-use c_columns::totals::Total;
 use c_columns::{questions, runs};
+use c_kernels::{Total, typed_min_max_in_handle, typed_row_in_handle, typed_sum_in_handle};
 use std::alloc::Global;
 
-/// Returns the sum of the rows that are not null. Refused as `Unsupported` unless they are integers. Never 21 over a
-/// flat column, nor, where the kernel is registered, over runs or a constant.
-#[tactic(auto, using(c_columns::proofs::Endings::asked_empty, c_columns::proofs::Endings::asked_done, c_columns::proofs::Endings::asked_refused, c_columns::proofs::Short::short_empty))]
+/// Returns the sum of the rows that are not null, by what they are worked as: of integers and of lengths of time, added
+/// one at a time in 64 bits; of floats exactly, rounded once to 64 bits; of decimals exactly, at the scale of the
+/// column. Refused as `Unsupported` for dates, times of a day and timestamps, and for rows that are neither integers
+/// nor decimals; decimals then as `CastOutOfRange`, with the first row such that the rows up to it add up to more than
+/// 38 digits. Never 21 over a flat column of integers, nor, where the kernel is registered, over runs of them or a
+/// constant.
 #[unsafe(no_mangle)]
 pub extern "C" fn hv_sum(
     alloc: Global,
@@ -35,18 +41,12 @@ pub extern "C" fn hv_sum(
     error: &mut ErrorFields,
 ) -> i32
     ensures same { column.new.column ≡ column.old.column }
-    ensures told { result ≡ pos 0 →
-        IsSomeAnd (array_in column.old.column) (λ c. IsTotalOf (dtype_of c) (rows c) total.new) }
+    ensures told { result ≡ pos 0 → IsSomeAnd column.old.column (λ c. IsSumOf (typed_of c) total.new) }
     ensures kept { result ≢ pos 0 → total.new ≡ total.old }
-    ensures ended { EndsOn (array_in column.old.column) (Some Sum) result error.new }
-    ensures memory { IsNeverShortOn session.now kernel.Sum (array_in column.old.column) result }
+    ensures ended { EndsOnSum column.old.column result error.new }
+    ensures memory { IsSumNeverShortOn session.now column.old.column result }
 {
-    let Some(held) = column.take(alloc) else {
-        return NO_COLUMN;
-    };
-    let outcome = questions::sum_of(alloc, session, &held.array);
-    column.put(held);
-    write_answer(outcome, total, error)
+    typed_sum_in_handle(alloc, session, column, total, error)
 }
 
 /// Returns whether any two rows are equal, null equal to null: 1, or 0. Refused as `Unsupported` for lists. Never 21
@@ -133,10 +133,11 @@ pub extern "C" fn hv_extreme(
     write_answer(outcome, value, error)
 }
 
-/// Returns the least and the greatest row that are not null; null twice where all are. A text or bytes of each go to
-/// the front of a buffer of its own: 11, with their number and the room, where they have no room there. But for texts
-/// and bytes never 21 over a flat column, nor, where the kernel is registered, over runs or a constant.
-#[tactic(auto, using(crate::proofs::EndsEndings::ends_empty, crate::proofs::EndsEndings::ends_done, crate::proofs::EndsEndings::ends_refused, c_columns::proofs::Short::extreme_short_empty, c_columns::proofs::Short::extremes_done_never_short))]
+/// Returns the least and the greatest row that are not null, null twice where all are: of floats the least and the
+/// greatest number, in which NaNs have no place, as floats of 64 bits. A text or bytes of each go to the front of a
+/// buffer of its own: 11, with their number and the room, where they have no room there. Refused as `Unsupported` for
+/// lists. But for floats, texts and bytes never 21 over a flat column, nor, where the kernel is registered, over runs
+/// or a constant.
 #[unsafe(no_mangle)]
 pub extern "C" fn hv_min_max(
     alloc: Global,
@@ -149,36 +150,32 @@ pub extern "C" fn hv_min_max(
     error: &mut ErrorFields,
 ) -> i32
     ensures same { column.new.column ≡ column.old.column }
-    ensures told_least { result ≡ pos 0
-        → IsSomeAnd (array_in column.old.column) (λ c. IsExtremeOf false (plain c) least_text.new least.new) }
-    ensures told_greatest { result ≡ pos 0
-        → IsSomeAnd (array_in column.old.column) (λ c. IsExtremeOf true (plain c) greatest_text.new greatest.new) }
+    ensures told_least { result ≡ pos 0 → IsSomeAnd column.old.column (λ c. IsEndOf false c least_text.new least.new) }
+    ensures told_greatest { result ≡ pos 0 →
+        IsSomeAnd column.old.column (λ c. IsEndOf true c greatest_text.new greatest.new) }
     ensures kept_least { result ≢ pos 0 → least.new ≡ least.old }
     ensures kept_least_text { result ≢ pos 0 → least_text.new ≡ least_text.old }
     ensures kept_greatest { result ≢ pos 0 → greatest.new ≡ greatest.old }
     ensures kept_greatest_text { result ≢ pos 0 → greatest_text.new ≡ greatest_text.old }
     ensures ended { EndsOnEnds (length least_text.old) (length greatest_text.old)
         (array_in column.old.column) result error.new }
-    ensures memory { IsExtremeNeverShortOn session.now (array_in column.old.column) result }
+    ensures memory { IsEndNeverShortOn session.now column.old.column result }
 {
-    let Some(held) = column.take(alloc) else {
-        return NO_COLUMN;
-    };
-    let outcome = questions::extremes_of(alloc, session, &held.array, least_text, greatest_text);
-    column.put(held);
-    match outcome {
-        Ok(ends) => {
-            *least = ends.least;
-            *greatest = ends.greatest;
-            0
-        }
-        Err(why) => refuse(why, error),
-    }
+    typed_min_max_in_handle(
+        alloc,
+        session,
+        column,
+        least,
+        least_text,
+        greatest,
+        greatest_text,
+        error,
+    )
 }
 
-/// Returns the row at `row`, which takes no memory. A text or bytes go to the front of `text`: 11, with their number
-/// and the room, where they have no room there. Refused as `Unsupported` for lists, and then as `OutOfBounds`.
-#[tactic(auto, using(c_columns::proofs::LookUps::row_empty, c_columns::proofs::LookUps::row_done, c_columns::proofs::LookUps::row_refused))]
+/// Returns the row at `row`, which takes no memory: a float as the one of 64 bits that it is. A text or bytes go to the
+/// front of `text`: 11, with their number and the room, where they have no room there. Refused as `Unsupported` for
+/// lists, and then as `OutOfBounds`.
 #[unsafe(no_mangle)]
 pub extern "C" fn hv_at(
     alloc: Global,
@@ -189,17 +186,12 @@ pub extern "C" fn hv_at(
     error: &mut ErrorFields,
 ) -> i32
     ensures same { column.new.column ≡ column.old.column }
-    ensures told { result ≡ pos 0 → IsSomeAnd (array_in column.old.column) (λ c. IsShownAt row c text.new value.new) }
+    ensures told { result ≡ pos 0 → IsSomeAnd column.old.column (λ c. IsRowTold row c text.new value.new) }
     ensures kept_value { result ≢ pos 0 → value.new ≡ value.old }
     ensures kept_text { result ≢ pos 0 → text.new ≡ text.old }
     ensures ended { EndsOnRow row (length text.old) (array_in column.old.column) result error.new }
 {
-    let Some(held) = column.take(alloc) else {
-        return NO_COLUMN;
-    };
-    let outcome = questions::row_at(&held.array, row, text);
-    column.put(held);
-    write_answer(outcome, value, error)
+    typed_row_in_handle(alloc, column, row, value, text, error)
 }
 
 /// Returns how many rows there are; 0 of no column.

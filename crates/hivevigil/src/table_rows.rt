@@ -1,13 +1,15 @@
 //! Calls that make a table of some of the columns or of the rows of another one.
-ghost use Rattle.std.specs.Prelude.{◌≡◌, ◌≢◌, IsSomeAnd, MatchOption, pos};
+ghost use Rattle.std.specs.Prelude.{◌≡◌, ◌≢◌, All, IsSomeAnd, MatchOption, pos};
 ghost use Rattle.column_core.specs.Refusal.{range_fault};
 ghost use Rattle.c_columns.specs.Ending.{WhereAll, WhereBoth};
 ghost use Rattle.c_columns.specs.Handle.{array_in};
 ghost use Rattle.c_columns.specs.Kinds.{operator_by};
+ghost use Rattle.c_tables.specs.Groups.{IsFold, IsGroupRefusal, IsGroupedBy};
 ghost use Rattle.c_tables.specs.Sorts.{IsSortRefusal, IsSortedBy};
-ghost use Rattle.c_tables.specs.TableCalls.{IsFilterBy, IsFilterByRefusal, IsFilterOf, IsNullDropped, IsRenameRefusal, IsRenamedBy, IsSelectRefusal, IsSelectedBy, IsSliceOf, IsTakeRefusal, IsTakenAt, masking_fault};
-ghost use Rattle.c_tables.specs.TableEnding.{EndsOnBoth, EndsOnOne, EndsOnThree, IsFaultFirst};
-ghost use Rattle.c_tables.specs.TableHandle.{WhereFour};
+ghost use Rattle.c_tables.specs.Filters.{IsFilterBy, IsFilterByRefusal};
+ghost use Rattle.c_tables.specs.TableCalls.{IsFilterOf, IsNullDropped, IsRenameRefusal, IsRenamedBy, IsSelectRefusal, IsSelectedBy, IsSliceOf, IsTakeRefusal, IsTakenAt, masking_fault};
+ghost use Rattle.c_tables.specs.TableEnding.{EndsOnBoth, EndsOnFour, EndsOnOne, EndsOnThree, IsFaultFirst};
+ghost use Rattle.c_tables.specs.TableHandle.{WhereFive, WhereFour};
 ghost use Rattle.tables.specs.Appended.{IsAppendError, IsAppended};
 
 use c_columns::error_fields::{BAD_NUMBER, ErrorFields, NO_COLUMN};
@@ -16,6 +18,7 @@ use c_columns::kinds;
 use c_columns::row_value::RowValue;
 use c_tables::answers::answer_table;
 use c_tables::columns::{renamed, selected, without_null};
+use c_tables::groups::{are_folds, grouped};
 use c_tables::rows::{appended, filtered, filtered_by, sliced, taken};
 use c_tables::sorts::sorted;
 use c_tables::table_handle::TableHandle;
@@ -299,6 +302,39 @@ pub extern "C" fn hv_table_sort(
     answer_table(outcome, out, error)
 }
 
+/// Returns a row for each group of neighbouring rows that are equal in the columns of the names in `keys`, with an
+/// answer for each name in `answers`: that of the fold of its number in the column that `columns` names. Answers 23
+/// where a number is of no fold, then 22 for an empty handle; else refused as `grouped` is.
+#[unsafe(no_mangle)]
+pub extern "C" fn hv_table_group_by(
+    alloc: Global,
+    table: &mut TableHandle,
+    keys: &mut Handle,
+    answers: &mut Handle,
+    columns: &mut Handle,
+    folds: &[u8],
+    out: &mut TableHandle,
+    error: &mut ErrorFields,
+) -> i32
+    ensures same { table.new.table ≡ table.old.table }
+    ensures same_keys { keys.new.column ≡ keys.old.column }
+    ensures same_answers { answers.new.column ≡ answers.old.column }
+    ensures same_columns { columns.new.column ≡ columns.old.column }
+    ensures made { result ≡ pos 0 → WhereFive (λ before k a c after. IsGroupedBy k a c folds.now before after)
+        table.old.table (array_in keys.old.column) (array_in answers.old.column) (array_in columns.old.column)
+        out.new.table }
+    ensures kept { result ≢ pos 0 → out.new.table ≡ out.old.table }
+    ensures number { ¬ All IsFold folds.now → result ≡ pos 23 }
+    ensures ended { All IsFold folds.now → EndsOnFour (λ t k a c. IsGroupRefusal k a c folds.now t) table.old.table
+        (array_in keys.old.column) (array_in answers.old.column) (array_in columns.old.column) result error.new }
+{
+    if are_folds(folds) {
+        group_held(alloc, table, keys, answers, columns, folds, out, error)
+    } else {
+        BAD_NUMBER
+    }
+}
+
 // The same, of an operator.
 #[tactic(auto, using(c_tables::proofs::TableEndings::one_empty, c_tables::proofs::TableEndings::one_done, c_tables::proofs::TableEndings::one_refused))]
 fn filter_held(
@@ -322,5 +358,62 @@ fn filter_held(
     };
     let outcome = filtered_by(alloc, &held, name, operator, value, text);
     table.put(held);
+    answer_table(outcome, out, error)
+}
+
+// The same, of numbers of folds.
+#[tactic(auto, using(c_tables::proofs::TableEndings::none_of_four, c_tables::proofs::TableEndings::one_of_four, c_tables::proofs::TableEndings::two_of_four, c_tables::proofs::TableEndings::three_of_four, c_tables::proofs::TableEndings::four_done, c_tables::proofs::TableEndings::four_refused))]
+fn group_held(
+    alloc: Global,
+    table: &mut TableHandle,
+    keys: &mut Handle,
+    answers: &mut Handle,
+    columns: &mut Handle,
+    folds: &[u8],
+    out: &mut TableHandle,
+    error: &mut ErrorFields,
+) -> i32
+    requires { All IsFold folds.now }
+    ensures same { table.new.table ≡ table.old.table }
+    ensures same_keys { keys.new.column ≡ keys.old.column }
+    ensures same_answers { answers.new.column ≡ answers.old.column }
+    ensures same_columns { columns.new.column ≡ columns.old.column }
+    ensures made { result ≡ pos 0 → WhereFive (λ before k a c after. IsGroupedBy k a c folds.now before after)
+        table.old.table (array_in keys.old.column) (array_in answers.old.column) (array_in columns.old.column)
+        out.new.table }
+    ensures kept { result ≢ pos 0 → out.new.table ≡ out.old.table }
+    ensures ended { EndsOnFour (λ t k a c. IsGroupRefusal k a c folds.now t) table.old.table
+        (array_in keys.old.column) (array_in answers.old.column) (array_in columns.old.column) result error.new }
+{
+    let Some(held) = table.take(alloc) else {
+        return NO_COLUMN;
+    };
+    let Some(named) = keys.take(alloc) else {
+        table.put(held);
+        return NO_COLUMN;
+    };
+    let Some(asked) = answers.take(alloc) else {
+        table.put(held);
+        keys.put(named);
+        return NO_COLUMN;
+    };
+    let Some(given) = columns.take(alloc) else {
+        table.put(held);
+        keys.put(named);
+        answers.put(asked);
+        return NO_COLUMN;
+    };
+    let outcome = grouped(
+        alloc,
+        &held,
+        &named.array,
+        &asked.array,
+        &given.array,
+        folds,
+    );
+    table.put(held);
+    keys.put(named);
+    answers.put(asked);
+    columns.put(given);
     answer_table(outcome, out, error)
 }

@@ -80,6 +80,7 @@ inline Command read_sum(const Words &words, const Workspace &workspace) {
     require(words.size() == 1);
     return [session = &workspace.session](const Column &column) {
         hv_total total{};
+        if (column.kind().number == HV_DECIMAL) throw NotServed("a sum of decimals that is refused", true);
         ask([&](hv_error *error) { return hv_sum(session, column.get(), &total, error); });
         return Answer{total_text(total), nullptr};
     };

@@ -46,6 +46,17 @@ inline uint64_t half_bits(double number) {
     return sign | std::min(static_cast<uint64_t>(step + 24) * 1024 + static_cast<uint64_t>(steps), most);
 }
 
+// The bits in a format of a float of it that is given as a double. A NaN has its payload from the highest bit on.
+inline uint64_t narrowed(int format, uint64_t bits) {
+    const FloatLayout narrow = layout_of(format), wide = layout_of(HV_I64);
+    const uint64_t places = bits & ((uint64_t{1} << wide.places) - 1);
+    if ((bits & (wide.sign() - 1)) > wide.infinity())
+        return (bits & wide.sign() ? narrow.sign() : 0) | narrow.infinity() | places >> (wide.places - narrow.places);
+    const double number = float_of<double>(bits);
+    if (format == HV_I16) return half_bits(number);
+    return format == HV_I32 ? bits_of<uint32_t>(static_cast<float>(number)) : bits;
+}
+
 inline float half_number(uint64_t bits) {
     const int power = static_cast<int>(bits >> 10 & 31), places = static_cast<int>(bits & 1023);
     const float size = power == 31 ? HUGE_VALF

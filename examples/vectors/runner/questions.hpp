@@ -106,57 +106,69 @@ inline Command read_floats_question(const Words &words, const Workspace &) {
     };
 }
 
+// The floats whose keys a column has, under their format. The calls work other columns as what these mean.
+inline Shared floats_of(const Column &column) {
+    const uint8_t type = column.kind().number;
+    if (type != HV_I16 && type != HV_I32 && type != HV_I64) throw NotServed("floats of a column of another type", true);
+    return under(column, type == HV_I16 ? "e" : type == HV_I32 ? "f" : "g");
+}
+
+// What a call answers of floats whose keys have this type: each as the double with its number.
+inline std::string float_word_of(int format, const Found &found) {
+    if (found.value.kind != HV_DOUBLE) return word_of(found);
+    return float_word(format, narrowed(format, found.value.as_unsigned));
+}
+
 inline Command read_float_at(const Words &words, const Workspace &) {
     require(words.size() == 2);
     const uint64_t row = read_count(words[1]);
     return [row](const Column &column) {
-        uint8_t is_valid = 0;
-        uint64_t bits = 0;
-        ask([&](hv_error *error) { return hv_float_at(column.get(), row, &is_valid, &bits, error); });
-        return said(is_valid ? float_word(column.kind().number, bits) : "null");
+        const Shared floats = floats_of(column);
+        Found found;
+        ask([&](hv_error *error) { return hv_at(floats->get(), row, &found.value, nullptr, 0, error); });
+        return said(float_word_of(column.kind().number, found));
     };
 }
 
-template <bool is_ieee> Command read_float_min_max(const Words &words, const Workspace &) {
+inline Command read_min_max_numbers(const Words &words, const Workspace &workspace) {
     require(words.size() == 1);
-    return [](const Column &column) {
-        uint8_t is_found = 0;
-        uint64_t least = 0, greatest = 0;
+    return [session = &workspace.session](const Column &column) {
+        const Shared floats = floats_of(column);
+        Found least, greatest;
         ask([&](hv_error *error) {
-            return hv_float_min_max(column.get(), is_ieee, &is_found, &least, &greatest, error);
+            return hv_min_max(session, floats->get(), &least.value, nullptr, 0, &greatest.value, nullptr, 0, error);
         });
         const int format = column.kind().number;
-        return said(is_found ? float_word(format, least) + " " + float_word(format, greatest) : "none");
+        return said(least.value.kind == HV_NULL ? "none"
+                                                : float_word_of(format, least) + " " + float_word_of(format, greatest));
     };
 }
 
-inline std::string float_sum(const Column &column) {
-    uint64_t count = 0, bits = 0;
-    ask([&](hv_error *error) { return hv_float_sum(column.get(), &count, &bits, error); });
-    return float_word(HV_I64, bits);
+inline Command read_min_max_total(const Words &words, const Workspace &) {
+    require(words.size() == 1);
+    return [](const Column &) -> Answer { throw NotServed("the total order of floats, as minmax of their keys", true); };
 }
 
-// The call sums floats of 64 bits, which those of fewer bits are cast to.
-inline Command read_float_sum(const Words &words, const Workspace &) {
+inline hv_total sum_of(const hv_session &session, const Column &column, bool has_row = false) {
+    hv_total total{};
+    ask([&](hv_error *error) { return hv_sum(&session, column.get(), &total, error); }, has_row);
+    return total;
+}
+
+inline Command read_float_sum(const Words &words, const Workspace &workspace) {
     require(words.size() == 1);
-    return [](const Column &column) {
-        const uint8_t type = column.kind().number;
-        if (type != HV_I16 && type != HV_I32) return said(float_sum(column));
-        const Shared wide = made([&](hv_column *out, hv_error *error) {
-            return hv_float_cast(column.get(), HV_I64, 0, out, error);
-        });
-        return said(float_sum(*wide));
+    return [session = &workspace.session](const Column &column) {
+        return said(float_word(HV_I64, sum_of(*session, *floats_of(column)).as_unsigned));
     };
 }
 
-inline Command read_decimal_sum(const Words &words, const Workspace &) {
+inline Command read_decimal_sum(const Words &words, const Workspace &workspace) {
     require(words.size() == 1);
-    return [](const Column &column) {
-        hv_pair sum{};
-        uint8_t is_empty = 0;
-        ask([&](hv_error *error) { return hv_decimal_sum(column.get(), &sum, &is_empty, error); }, true);
-        const UnsignedWide bits = static_cast<UnsignedWide>(sum.high) << 64 | sum.low;
-        return said(word_of(static_cast<Wide>(bits)) + (is_empty ? " empty" : ""));
+    return [session = &workspace.session](const Column &column) {
+        if (column.kind().number != HV_DECIMAL) throw NotServed("a sum of decimals of a column of another type", true);
+        const hv_total total = sum_of(*session, column, true);
+        const UnsignedWide bits = static_cast<UnsignedWide>(total.as_signed) << 64 | total.as_unsigned;
+        return said(word_of(static_cast<Wide>(bits)) + (total.empty ? " empty" : ""));
     };
 }
 
@@ -174,8 +186,8 @@ inline const std::map<std::string, QuestionReader> &questions() {
         {"typed_bytes", read_typed_bytes},
         {"floats", read_floats_question},
         {"float_at", read_float_at},
-        {"min_max_numbers", read_float_min_max<true>},
-        {"min_max_total", read_float_min_max<false>},
+        {"min_max_numbers", read_min_max_numbers},
+        {"min_max_total", read_min_max_total},
         {"sum_floats", read_float_sum},
         {"sum_decimals", read_decimal_sum},
     };

@@ -2,7 +2,7 @@ use Rattle.std.proofs.Common.{◌∙◌, ap, arith, map, sym}
 use Rattle.std.specs.String.{string_bytes}
 use Rattle.std.proofs.lemmas.List.{map-append}
 use Rattle.runend_array.specs.Array.{rows}
-use Rattle.c_tables.specs.TableCalls.{text_fault}
+use Rattle.c_tables.specs.TableCalls.{row_name_fault, text_fault}
 use Rattle.c_tables.proofs.NameRows.{faults_more, names_more, row_refused}
 use Rattle.c_tables.proofs.names.names_of.Goals as goal
 
@@ -20,7 +20,7 @@ loop-row-preserved c =
     record {
       same = ap (map string_bytes) c.push_reserved.ensures.items ∙ map-append string_bytes l.names.items _
           ∙ names_more all l.row item (map string_bytes l.names.items) (string_bytes c.in_ok-name.name) (omega arith) there l.invariant.same c.in_ok-name.ensures.3;
-      named = faults_more all l.row item (omega arith) there l.invariant.named c.in_ok-name.ensures.2;
+      named = faults_more row_name_fault all l.row item (omega arith) there l.invariant.named c.in_ok-name.ensures.2;
       room = omega (arith, c.push_reserved.ensures.capacity, l.invariant.room);
       counted = omega (arith, c.push_reserved.ensures.len, l.invariant.counted);
     }

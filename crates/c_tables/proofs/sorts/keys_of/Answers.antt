@@ -2,6 +2,7 @@ use Rattle.std.proofs.Common.{◌∙◌, ap, arith, map, sym}
 use Rattle.std.specs.String.{string_bytes}
 use Rattle.std.proofs.lemmas.List.{map-append}
 use Rattle.runend_array.specs.Array.{dtype_of, rows}
+use Rattle.c_tables.specs.TableCalls.{row_name_fault}
 use Rattle.c_tables.proofs.NameRows.{faults_more, names_more}
 use Rattle.c_tables.proofs.SortKeys.{key_refused, one_flag_each, orders_more}
 use Rattle.c_tables.proofs.sorts.keys_of.Goals as goal
@@ -24,7 +25,7 @@ loop-row-preserved c =
           ∙ names_more all l.row item (map (λ key. string_bytes key.name) l.keys.items) (string_bytes c.in_ok-name.name) (omega (arith, each)) there l.invariant.names_so_far c.in_ok-name.ensures.3;
       orders_so_far = ap (map (λ key. key.order)) c.push_reserved.ensures.items ∙ map-append (λ key. key.order) l.keys.items _
           ∙ orders_more flags l.row (map (λ key. key.order) l.keys.items) c.order_of.result (omega arith) l.invariant.orders_so_far c.order_of.ensures;
-      named = faults_more all l.row item (omega (arith, each)) there l.invariant.named c.in_ok-name.ensures.2;
+      named = faults_more row_name_fault all l.row item (omega (arith, each)) there l.invariant.named c.in_ok-name.ensures.2;
       room = omega (arith, c.push_reserved.ensures.capacity, l.invariant.room);
       counted = omega (arith, c.push_reserved.ensures.len, l.invariant.counted);
     }
