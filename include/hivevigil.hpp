@@ -220,17 +220,20 @@ public:
     }
     // Row by row, in runs unless both are flat; null where either is null. Decimals of two scales are compared exactly.
     Column compare(Operator by, const Column &right, const hv_session &session = initial_session()) const;
-    // The same with one value, in runs where the column is. Any number is compared with integers and decimals: each i8
-    // is less than 300.
+    // The same with one value, in the form of the column. Any number is compared with integers, decimals and floats, as
+    // the exact numbers that they are, of which NaN is unequal to each: each i8 is less than 300. Next to dates and times
+    // an integer is what is stored.
     Column compare(Operator by, const Value &right, const hv_session &session = initial_session()) const {
-        const detail::Comparison asked = detail::comparison(by, right, kind());
-        const detail::Passed passed(asked.right);
+        const detail::Passed passed = detail::compared_with(right);
+        const uint8_t operator_ = static_cast<uint8_t>(by);
         return made(
             [&](auto *out, auto *error) {
-                return hv_compare_value(&session, &handle, static_cast<uint8_t>(asked.by), &passed.value, passed.text,
-                                        passed.size, out, error);
+                const int32_t answer = hv_compare_number(&handle, operator_, &passed.value, out, error);
+                if (answer != HV_TYPE_MISMATCH) return answer;
+                return hv_compare_value(&session, &handle, operator_, &passed.value, passed.text, passed.size, out,
+                                        error);
             },
-            detail::words_of_compared(right, kind()));
+            detail::words_of_compared(right, *this));
     }
     // The same with an integer or a text as it is written: column.compare(hv::Operator::less, 4).
     template <class T, class = std::enable_if_t<detail::is_number<T> || detail::is_text<T>>>
@@ -306,8 +309,8 @@ public:
     bool empty() const { return size() == 0; }
     hv_kind kind() const { return hv_kind_of(&handle); }
     Form form() const { return static_cast<Form>(hv_form(&handle)); }
-    // The format of Arrow that says what the rows mean; empty where there is none. The numbers of floats ("e", "f", "g")
-    // are their keys, as hv::Floats has them.
+    // The format of Arrow that says what the rows mean; empty where there is none. Floats ("e", "f", "g") are stored by
+    // their keys, which numbers() and ends of runs read (hivevigil_floats.hpp); a row and a sum of them is a double.
     std::string logical_type() const;
     size_t offset() const { return hv_offset(&handle); }
     // How many rows are null.
@@ -321,7 +324,7 @@ public:
         });
     }
     Value operator[](size_t row) const { return at(row); }
-    // The row as T (any integer, bool, Decimal, std::string, Bytes), none where it is null. Refused as
+    // The row as T (any integer, bool, Decimal, double, std::string, Bytes), none where it is null. Refused as
     // HV_CAST_OUT_OF_RANGE where T does not have the integer, and as HV_TYPE_MISMATCH where the row is of another sort.
     template <class T> std::optional<T> get(size_t row) const { return detail::optional_of<T>(at(row), row); }
 
@@ -347,11 +350,12 @@ public:
         found.value = shown([&](auto *value, auto *text, size_t room, auto *error) {
             return hv_run(&handle, index, &found.start, &found.stop, value, text, room, error);
         });
+        if (std::holds_alternative<int64_t>(found.value)) found.value = values().at(index); // it may be a float's key
         return found;
     }
-    // The least row that is not null; Null where there is none.
-    Value least(const hv_session &session = initial_session()) const { return extreme(0, session); }
-    Value greatest(const hv_session &session = initial_session()) const { return extreme(1, session); }
+    // The least row that is not null, of floats the least number, which NaN is not; Null where there is none.
+    Value least(const hv_session &session = initial_session()) const { return least_and_greatest(session).first; }
+    Value greatest(const hv_session &session = initial_session()) const { return least_and_greatest(session).second; }
     // Both at once.
     std::pair<Value, Value> least_and_greatest(const hv_session &session = initial_session()) const {
         hv_error fields{};
@@ -364,29 +368,11 @@ public:
             if (answer != HV_COLUMN_LENGTH) throw Error(answer, fields);
         }
     }
-    // The rows that are not null, added one at a time. Refused as HV_CAST_OUT_OF_RANGE where the sum leaves the range
-    // of 64 bits; the first field is the row with which it does.
-    Sum sum(const hv_session &session = initial_session()) const {
-        hv_total total{};
-        detail::ask([&](auto *error) { return hv_sum(&session, &handle, &total, error); },
-                    detail::words_of_type(kind(), " has no sum"));
-        const bool empty = total.empty != 0;
-        if (total.kind == HV_UNSIGNED) return {total.as_unsigned, empty};
-        if (total.kind == HV_SIGNED) return {total.as_signed, empty};
-        throw overflow();
-    }
-    // The same of decimals, exactly, at the scale of the column and whatever its precision. Refused as HV_UNSUPPORTED
-    // unless the rows are decimals, and as HV_CAST_OUT_OF_RANGE where the sum leaves 38 digits; the first field is the
-    // row with which it does.
-    DecimalSum decimal_sum() const {
-        hv_pair sum{};
-        uint8_t is_empty = 0;
-        hv_error fields{};
-        const int32_t answer = hv_decimal_sum(&handle, &sum, &is_empty, &fields);
-        detail::ask([&](auto *error) { return *error = fields, answer; },
-                    [&](int32_t number) { return detail::words_of_decimals(kind(), number, fields); });
-        return {{sum.low, sum.high, kind().scale}, is_empty != 0};
-    }
+    // The rows that are not null, added up: integers and durations in 64 bits, one at a time, decimals exactly, at the
+    // scale of the column and whatever its precision, floats exactly, and rounded once to a double, which is NaN where a
+    // row is or both infinities are. Refused as HV_UNSUPPORTED for dates, times, timestamps and all other rows, and as
+    // HV_CAST_OUT_OF_RANGE where the sum leaves 64 bits or 38 digits; the first field is the row with which it does.
+    Sum sum(const hv_session &session = initial_session()) const;
     // What the rows add to a sum, by which the sum of joined rows is known, also where it overflows on the way.
     SumParts sum_parts() const {
         SumParts parts{};
@@ -532,7 +518,6 @@ private:
     static Column cut(bool binary, const std::vector<std::string_view> &rows, const std::vector<bool> *valid);
     Column compared(Operator by, const Column &right) const;
     template <class Right> Column compared(Operator by, const Right &right) const { return compare(by, right); }
-    Error overflow() const;
     // A row, asked for again with more room where its text has none.
     template <class Call> Value shown(Call call) const {
         Bytes text(64);
@@ -545,11 +530,6 @@ private:
         }
         if (answer) throw Error(answer, fields);
         return detail::value_of(value, text, value.kind == HV_DECIMAL_VALUE ? kind() : hv_kind{});
-    }
-    Value extreme(uint8_t greatest, const hv_session &session) const {
-        return shown([&](auto *value, auto *text, size_t room, auto *error) {
-            return hv_extreme(&session, &handle, greatest, value, text, room, error);
-        });
     }
     template <class Call> std::vector<bool> flags(Call call) const {
         if (!*this) return {};

@@ -2,7 +2,6 @@
 #ifndef HIVEVIGIL_DECIMAL_HPP
 #define HIVEVIGIL_DECIMAL_HPP
 #include <algorithm>
-#include <cmath>
 #include <cstdint>
 #include <string>
 
@@ -34,28 +33,6 @@ constexpr AtScale at_scale(Wide number, int from, int to) {
         number = number / 10 - (digit < 0);
     }
     return {number, rest, 0};
-}
-
-// The same of a double that is not NaN, exactly, at a scale of 0 to 38. It is 53 bits times a power of two, and these
-// bits times 10^to are high * 2^64 + low.
-inline AtScale at_scale(double number, int to) {
-    const AtScale past{0, false, number < 0 ? -1 : 1};
-    int power = 0;
-    Wide tens = 1;
-    for (int place = 0; place < to; place++) tens *= 10;
-    if (std::isinf(number)) return past;
-    const Wide bits = static_cast<Wide>(std::ldexp(std::frexp(std::fabs(number), &power), 53));
-    const Wide lowest = bits * static_cast<uint64_t>(tens);
-    Wide floor = bits * (tens >> 64) + (lowest >> 64);
-    uint64_t low = static_cast<uint64_t>(lowest);
-    bool rest = false;
-    // the point is 64 bits to the right of `floor`, and goes to where it belongs
-    for (power += 64 - 53; power > 0 && (floor || low); power--) {
-        if (floor > wide_greatest / 2) return past;
-        floor = floor * 2 + (low >> 63), low <<= 1;
-    }
-    for (rest = low != 0; power < 0 && floor; power++) rest = rest || floor % 2, floor /= 2;
-    return {number < 0 ? -floor - rest : floor, rest, 0};
 }
 
 } // namespace detail

@@ -110,7 +110,7 @@ static inline uint8_t hv_decimal_holds(int order, uint8_t operator_) {
 static inline hv_value hv_decimal_truth(const hv_value *left, int scale, uint8_t operator_, const hv_value *right,
                                         int other_scale) {
     const hv_decimal_wide number = hv_decimal_digits(left), other = hv_decimal_digits(right);
-    hv_value truth = {0, 0, HV_NULL, 0};
+    hv_value truth = {0, 0, HV_NULL, 0, 0};
     if (left->kind == HV_NULL || right->kind == HV_NULL) return truth;
     const int order = scale <= other_scale ? hv_decimal_order(number, other, other_scale - scale)
                                            : -hv_decimal_order(other, number, scale - other_scale);
@@ -131,7 +131,7 @@ static inline int32_t hv_decimal_next(const hv_column *runs, hv_decimal_run *run
 static inline int32_t hv_decimal_compare_runs(const hv_column *left, uint8_t operator_, const hv_column *right,
                                               hv_builder *builder, hv_error *error) {
     const int scale = hv_kind_of(left).scale, other_scale = hv_kind_of(right).scale;
-    hv_decimal_run one = {0, 0, {0, 0, HV_NULL, 0}}, other = one;
+    hv_decimal_run one = {0, 0, {0, 0, HV_NULL, 0, 0}}, other = one;
     int32_t answer = HV_OK;
     size_t stop;
     for (size_t row = 0; !answer && row < hv_length(left); row = stop) {

@@ -1,9 +1,7 @@
-// Which values fit a type, and how a column is compared with a number that its type does not have. Part of
-// hivevigil.hpp, which includes it.
+// Which values fit a type, and what a call refused in words. Part of hivevigil.hpp, which includes it.
 #ifndef HIVEVIGIL_FITS_HPP
 #define HIVEVIGIL_FITS_HPP
 #include "hivevigil_values.hpp"
-#include <cmath>
 
 namespace hv {
 
@@ -40,8 +38,8 @@ inline Range range_of_values(hv_kind kind) {
 // ---- Values ----
 
 inline const char *sort_of(const Value &value) {
-    static constexpr const char *sorts[] = {"null", "an integer", "an integer", "a boolean", "a decimal", "a text",
-                                            "bytes"};
+    static constexpr const char *sorts[] = {"null",      "an integer", "an integer", "a boolean",
+                                            "a decimal", "a text",     "bytes",      "a float"};
     return sorts[value.index()];
 }
 
@@ -131,11 +129,14 @@ inline auto words_of_value(const Value &value, hv_kind kind) {
     };
 }
 
-inline auto words_of_compared(const Value &value, hv_kind kind) {
-    return [&value, kind](int32_t answer) -> std::string {
+// A column, with its type and its logical type, and a value with which its rows are not compared.
+template <class Rows> auto words_of_compared(const Value &value, const Rows &column) {
+    return [&](int32_t answer) -> std::string {
         if (answer != HV_TYPE_MISMATCH) return "";
-        const bool are_texts = kind.number == HV_UTF8 && std::holds_alternative<std::string>(value);
-        return are_texts ? "the text is not UTF-8" : to_string(kind) + " is not compared with " + sort_of(value);
+        const hv_kind kind = column.kind();
+        const std::string format = column.logical_type(), rows = format.empty() ? "" : " of the logical type " + format;
+        if (kind.number == HV_UTF8 && std::holds_alternative<std::string>(value)) return "the text is not UTF-8";
+        return to_string(kind) + rows + " is not compared with " + sort_of(value);
     };
 }
 
@@ -168,9 +169,10 @@ inline std::string words_of_total(hv_kind values, const hv_error &fields) {
     return "integer overflow: the total at the end of run " + std::to_string(fields.first) + " does not fit " + type;
 }
 
-// A sum of decimals of a column that has none, or that leaves 38 digits.
-inline std::string words_of_decimals(hv_kind kind, int32_t answer, const hv_error &fields) {
-    if (answer == HV_UNSUPPORTED) return to_string(kind) + " has no sum of decimals";
+// A sum that rows of a type under a format do not have, or that leaves 38 digits.
+inline std::string words_of_sum(hv_kind kind, const std::string &format, int32_t answer, const hv_error &fields) {
+    if (answer == HV_UNSUPPORTED && is_integer(kind)) return "rows of the logical type " + format + " have no sum";
+    if (answer == HV_UNSUPPORTED) return to_string(kind) + " has no sum";
     if (answer != HV_CAST_OUT_OF_RANGE) return "";
     return "decimal overflow: with row " + std::to_string(fields.first) + " the sum leaves 38 digits";
 }
@@ -196,45 +198,6 @@ inline auto words_of_texts(const std::vector<std::string_view> &rows, const std:
         }
         return "";
     };
-}
-
-// ---- Comparisons ----
-
-// A comparison with a value of the column's type that answers what one with any other number would.
-struct Comparison {
-    Operator by;
-    Value right;
-};
-
-// `row by number` for rows of a type, of a number at its scale. One that lies past the type, or between two of its
-// numbers, is decided by a number that the type has: each row is below 300 where each is at most 127, and above 0.505
-// where it is above 0.50.
-inline Comparison comparison(Operator by, AtScale at, hv_kind kind) {
-    const Range range = range_of(kind);
-    const bool below = by == Operator::less || by == Operator::less_or_equal;
-    const bool above = by == Operator::greater || by == Operator::greater_or_equal;
-    const bool is_past = at.past > 0 || (!at.past && at.floor > range.greatest);
-    const bool is_before = at.past < 0 || (!at.past && at.floor < range.least);
-    if (!is_past && !is_before && (below || above) && at.rest)
-        return {below ? Operator::less_or_equal : Operator::greater, value_of(at.floor, kind)};
-    if (!is_past && !is_before && !at.rest) return {by, value_of(at.floor, kind)};
-    const bool holds = by == Operator::not_equal || (is_past && below) || (is_before && above);
-    return {holds ? Operator::less_or_equal : Operator::greater, value_of(range.greatest, kind)};
-}
-
-inline bool has_numbers(hv_kind kind) { return is_integer(kind) || kind.number == HV_DECIMAL; }
-
-inline Comparison comparison(Operator by, const Value &value, hv_kind kind) {
-    const std::optional<Number> number = number_of(value);
-    if (!number || !has_numbers(kind)) return {by, value};
-    return comparison(by, at_scale(number->digits, number->scale, scale_of(kind)), kind);
-}
-
-// The same of a double, by the exact number that it is; NaN is unequal to each row.
-inline Comparison comparison(Operator by, double number, hv_kind kind) {
-    const AtScale nowhere{0, true, 0};
-    if (!std::isnan(number)) return comparison(by, at_scale(number, scale_of(kind)), kind);
-    return comparison(by == Operator::not_equal ? by : Operator::equal, nowhere, kind);
 }
 
 } // namespace detail

@@ -1,17 +1,13 @@
 // Columns of floats, over hivevigil.hpp: each float is stored by its key, the place of its bits in the total order of
-// IEEE 754, in a column of i32 (float) or i64 (double). Slices, takes, filters and bytes of the keys are those of the
-// floats.
+// IEEE 754, in a column of i32 under the format "f" (float) or of i64 under "g" (double). Slices, takes, filters and
+// bytes of the keys are those of the floats.
 //
 //     const auto prices = hv::Floats<double>::of({1.5, 1.5, std::nan("")});
 //     prices.sum(), prices.at(0), prices.compare(hv::Operator::greater, 1.0), prices * 1.19 + prices;
 #ifndef HIVEVIGIL_FLOATS_HPP
 #define HIVEVIGIL_FLOATS_HPP
 #include "hivevigil.hpp"
-#include "hivevigil_float_bits.hpp"
 #include <cmath>
-#include <cstdio>
-#include <cstdlib>
-#include <cstring>
 
 namespace hv {
 
@@ -35,18 +31,27 @@ struct FloatSum {
 
 namespace detail {
 
-// A float in the fewest digits that no other has.
-template <class T> std::string words_of_float(T number) {
+inline uint64_t sign_bit(int width) { return uint64_t{1} << (width - 1); }
+
+// The place of a float in the total order of IEEE 754, counted from 0.0, and the float in a place.
+inline int64_t key_of_bits(uint64_t bits, int width) {
+    const uint64_t sign = sign_bit(width);
+    return bits < sign ? static_cast<int64_t>(bits) : -static_cast<int64_t>(bits - sign) - 1;
+}
+
+inline uint64_t bits_of_key(int64_t key, int width) {
+    return key >= 0 ? static_cast<uint64_t>(key) : static_cast<uint64_t>(-(key + 1)) + sign_bit(width);
+}
+
+// A float of a column as the double that the library answers; a NaN keeps its sign and its payload.
+template <class T> T narrowed(double number) {
+    if (sizeof(T) == sizeof number || !std::isnan(number)) return static_cast<T>(number);
     uint64_t bits = 0;
-    std::memcpy(&bits, &number, sizeof number);
-    const int above_payload = sizeof number == sizeof bits ? 13 : 42; // the sign, the power and whether it is quiet
-    if (std::isnan(number)) return bits << above_payload ? "a NaN with a payload" : "NaN";
-    char text[32];
-    for (int digits = std::numeric_limits<T>::digits10; digits <= std::numeric_limits<T>::max_digits10; digits++) {
-        std::snprintf(text, sizeof text, "%.*g", digits, static_cast<double>(number));
-        if (static_cast<T>(std::strtod(text, nullptr)) == number) break;
-    }
-    return text;
+    std::memcpy(&bits, &number, sizeof bits);
+    const uint32_t narrow = static_cast<uint32_t>(bits >> 63 << 31 | (bits >> 29 & 0x7FFFFFFF));
+    T nan{};
+    std::memcpy(&nan, &narrow, sizeof narrow);
+    return nan;
 }
 
 // The first row with which a conversion is refused: those before it are converted.
@@ -99,26 +104,17 @@ public:
     static Floats constant(T number, size_t rows) {
         return Floats(Column::constant(detail::not_nullable(detail::Native<Key>::kind), key_of(number), rows));
     }
-    // The floats that have these keys. Refused as HV_TYPE_MISMATCH unless the column has integers of T's width.
-    explicit Floats(Column keys) : stored(std::move(keys)) {
-        if (stored.kind().number != detail::Native<Key>::kind.number)
-            throw Error(HV_TYPE_MISMATCH, {},
-                        to_string(detail::not_nullable(stored.kind())) +
-                            " rows are not keys of these floats, which are " + to_string(detail::Native<Key>::kind));
-    }
+    // The floats that have these keys, whatever their logical type is. Refused as HV_TYPE_MISMATCH unless the column has
+    // integers of T's width.
+    explicit Floats(const Column &keys) : stored(checked(keys)) {}
 
     // ---- Read ----
 
-    // The keys, whose commands are those of the floats.
+    // The keys under the format of the floats, whose commands are those of the floats.
     const Column &keys() const { return stored; }
     size_t size() const { return stored.size(); }
     // Row `row`, none where it is null; refused as HV_OUT_OF_BOUNDS past the end.
-    std::optional<T> at(size_t row) const {
-        uint8_t is_valid = 0;
-        uint64_t bits = 0;
-        detail::ask([&](auto *error) { return hv_float_at(&stored.handle, row, &is_valid, &bits, error); });
-        return is_valid ? std::optional<T>(float_of(bits)) : std::nullopt;
-    }
+    std::optional<T> at(size_t row) const { return float_in(stored.at(row)); }
     // All rows, none where a row is null.
     std::vector<std::optional<T>> optionals() const {
         std::vector<std::optional<T>> rows;
@@ -129,41 +125,28 @@ public:
 
     // ---- Asked ----
 
-    // Row by row whether `row by right`, null where the row is: as numbers, unless the total order is asked for.
+    // Row by row whether `row by right`, null where the row is: as numbers, unless the total order is asked for, which
+    // is that of the keys.
     Column compare(Operator by, T right, FloatOrder order = FloatOrder::ieee) const {
-        return Column::made([&](auto *out, auto *error) {
-            return hv_float_compare(&stored.handle, static_cast<uint8_t>(by), bits_of(right),
-                                    static_cast<uint8_t>(order), out, error);
-        });
+        if (order == FloatOrder::total) return stored.with_logical_type("").compare(by, key_of(right));
+        return stored.compare(by, Value(double{right}));
     }
-    // The same with an integer, exactly, also with one that no float is: none is equal to 2^53 + 1.
+    // The same with any number, exactly, also with one that no float is: none is equal to 2^53 + 1.
     template <class N, class = std::enable_if_t<detail::is_number<N>>> Column compare(Operator by, N right) const {
-        const detail::FloatComparison asked = detail::float_comparison(by, detail::Wide{right}, 8 * int{sizeof(T)});
-        return Column::made([&](auto *out, auto *error) {
-            return hv_float_compare(&stored.handle, static_cast<uint8_t>(asked.by), asked.bits, 1, out, error);
-        });
+        return stored.compare(by, right);
     }
     // The least and the greatest row that is not null, none where there is none: of numbers, unless the total order is
     // asked for.
     std::optional<std::pair<T, T>> least_and_greatest(FloatOrder order = FloatOrder::ieee) const {
-        uint8_t is_found = 0;
-        uint64_t least = 0, greatest = 0;
-        detail::ask([&](auto *error) {
-            return hv_float_min_max(&stored.handle, static_cast<uint8_t>(order), &is_found, &least, &greatest, error);
-        });
-        if (!is_found) return std::nullopt;
-        return std::pair<T, T>(float_of(least), float_of(greatest));
+        // the total order is that of the keys
+        const Column asked = stored.with_logical_type(order == FloatOrder::total ? "" : format);
+        const auto found = asked.least_and_greatest();
+        if (std::holds_alternative<Null>(found.first)) return std::nullopt;
+        return std::pair<T, T>(*float_in(found.first), *float_in(found.second));
     }
     // The exact sum of the rows that are not null, rounded once to a double: an infinity past the finite ones, NaN where
     // a row is or both infinities are.
-    FloatSum sum() const {
-        if constexpr (sizeof(T) == 4) return cast<double>().sum();
-        FloatSum found{};
-        uint64_t bits = 0;
-        detail::ask([&](auto *error) { return hv_float_sum(&stored.handle, &found.rows, &bits, error); });
-        std::memcpy(&found.total, &bits, sizeof bits);
-        return found;
-    }
+    FloatSum sum() const { return {*stored.sum().template get<double>(), stored.size() - stored.null_count()}; }
 
     // ---- Worked place by place, at the cost of the runs of both ----
 
@@ -213,14 +196,26 @@ public:
     }
 
 private:
+    static constexpr const char *format = sizeof(T) == 4 ? "f" : "g";
+
     Column stored;
 
+    static Column checked(const Column &keys) {
+        const hv_kind kind = detail::not_nullable(keys.kind()), due = detail::Native<Key>::kind;
+        if (kind.number == due.number) return keys.with_logical_type(format);
+        throw Error(HV_TYPE_MISMATCH, {},
+                    to_string(kind) + " rows are not keys of these floats, which are " + to_string(due));
+    }
+    // The float of a row: a double, or in the total order a key.
+    static std::optional<T> float_in(const Value &row) {
+        if (auto *key = std::get_if<int64_t>(&row)) return float_of(detail::bits_of_key(*key, 8 * int{sizeof(T)}));
+        auto *number = std::get_if<double>(&row);
+        return number ? std::optional<T>(detail::narrowed<T>(*number)) : std::nullopt;
+    }
     // One float in each row of a column next to this one.
     Floats beside(T number) const { return constant(number, size()); }
-    // The place in the total order, counted from 0.0.
     static Key key_of(T number) {
-        const Bits bits = bits_of(number), sign = Bits(1) << (8 * sizeof(Bits) - 1);
-        return bits < sign ? static_cast<Key>(bits) : static_cast<Key>(-1 - static_cast<Key>(bits - sign));
+        return static_cast<Key>(detail::key_of_bits(bits_of(number), 8 * int{sizeof(T)}));
     }
     static Bits bits_of(T number) {
         Bits bits;

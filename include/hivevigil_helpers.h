@@ -55,7 +55,7 @@ HV_ANSWER hv_filter_bits(const hv_session *session, const hv_column *column, con
 /* The rows whose flag is not 0; 10 (flags, length) unless there is one for each row. */
 HV_ANSWER hv_filter_flags(const hv_session *session, const hv_column *column, const uint8_t *flags, size_t len,
                           hv_column *out, hv_error *error) {
-    const hv_value zero = {0, 0, HV_UNSIGNED, 0};
+    const hv_value zero = {0, 0, HV_UNSIGNED, 0, 0};
     hv_column numbers = HV_EMPTY, mask = HV_EMPTY;
     int32_t answer = hv_u8(flags, len, hv_not_nullable(), &numbers, error);
     if (!answer) answer = hv_compare_scalar(session, &numbers, HV_NE, &zero, NULL, 0, &mask, error);

@@ -74,9 +74,9 @@ inline Error overflow(const Column &column) {
             "integer overflow: with row " + std::to_string(row) + " the sum leaves the range of " + type};
 }
 
-// The first row that a cast does not serve, in words; empty where there is none.
+// The first row that a cast does not serve, as it is stored, in words; empty where there is none.
 inline std::string words_of_misfit(const Column &column, hv_kind kind) {
-    for (const Run &run : column.runs()) {
+    for (const Run &run : column.with_logical_type("").runs()) {
         const std::string row = "row " + std::to_string(run.start) + " is ";
         if (std::holds_alternative<Null>(run.value)) {
             if (!kind.nullable) return row + "null, which does not fit " + to_string(kind);
@@ -111,18 +111,6 @@ inline bool same_kind(hv_kind left, hv_kind right) {
            left.scale == right.scale;
 }
 
-// Are the rows of two columns of as many rows the same? Of runs that the two share a part of, one value each is compared.
-inline bool same_runs(const Column &left, const Column &right) {
-    const Runs lefts = left.runs(), rights = right.runs();
-    Run first{}, second{};
-    for (size_t row = 0, one = 0, other = 0; row < left.size(); row = std::min(first.stop, second.stop)) {
-        if (row == first.stop) first = lefts.item(one++);
-        if (row == second.stop) second = rights.item(other++);
-        if (first.value != second.value) return false;
-    }
-    return true;
-}
-
 // The parts of lists, decoded.
 struct Lists {
     Column elements;
@@ -154,8 +142,12 @@ inline bool same_lists(const Column &left, const Column &right) {
 } // namespace detail
 
 inline bool Column::same_rows(const Column &other) const {
+    if (&other == this) return true;
     if (size() != other.size() || !detail::same_kind(kind(), other.kind())) return false;
-    return kind().number == HV_LIST ? detail::same_lists(*this, other) : detail::same_runs(*this, other);
+    if (kind().number == HV_LIST) return detail::same_lists(*this, other);
+    uint8_t truth = !*this; // also of two columns that were moved away
+    if (*this) detail::ask([&](auto *error) { return hv_equals(&handle, &other.handle, &truth, error); });
+    return truth != 0;
 }
 inline Column Column::cast(hv_kind kind, const hv_session &session) const {
     if (!detail::is_scaled(this->kind(), kind))
@@ -172,7 +164,21 @@ inline Column Column::cast(hv_kind kind, const hv_session &session) const {
         [&](int32_t answer) { return detail::words_of_scaled(*this, kind, answer, fields.first); });
     return scaled.cast(kind, session);
 }
-inline Error Column::overflow() const { return detail::overflow(*this); }
+inline Sum Column::sum(const hv_session &session) const {
+    hv_total total{};
+    hv_error fields{};
+    const int32_t answer = hv_sum(&session, &handle, &total, &fields);
+    detail::ask([&](auto *error) { return *error = fields, answer; },
+                [&](int32_t number) { return detail::words_of_sum(kind(), logical_type(), number, fields); });
+    const bool empty = total.empty != 0;
+    switch (total.kind) {
+    case HV_UNSIGNED: return {total.as_unsigned, empty};
+    case HV_SIGNED: return {total.as_signed, empty};
+    case HV_SCALED: return {Decimal(total.as_unsigned, total.as_signed, total.scale), empty};
+    case HV_DOUBLE: return {detail::double_of(total.as_unsigned), empty};
+    default: throw detail::overflow(*this);
+    }
+}
 
 } // namespace hv
 #endif

@@ -19,7 +19,6 @@
 #else
 #include "hivevigil_stored_file.hpp"
 #include "hivevigil_arrow_errors.h"
-#include "hivevigil_table_conditions.hpp"
 #include "hivevigil_table_file.h"
 #include "hivevigil_table_groups.h"
 #include "hivevigil_tables.h"
@@ -64,7 +63,7 @@ struct NamedColumn {
     // Floats.
     template <class T>
     NamedColumn(std::string of, const Floats<T> &rows)
-        : NamedColumn(std::move(of), rows.keys(), sizeof(T) == sizeof(float) ? "f" : "g") {}
+        : NamedColumn(std::move(of), rows.keys()) {}
     // What Column::of takes, and float, double or std::optional of these.
     template <class Items, class T = detail::InnerOf<detail::Row<Items>>>
     NamedColumn(std::string of, const Items &rows, std::string_view format = "") : name(std::move(of)) {
@@ -141,9 +140,8 @@ public:
     // The rows at which the mask is true; null selects nothing. Refused as HV_TYPE_MISMATCH and HV_MASK_LENGTH.
     Table filter(const Column &mask) const;
     Table filter(const std::vector<bool> &mask) const { return filter(Column::truths(mask)); }
-    // The rows at which `row by value` is true of the column of a name: any number next to integers, decimals and
-    // floats, as the exact numbers that they are (of which NaN is unequal to each), a text, a bool, a Value, which next
-    // to floats is null. The sign is one of == = != < <= > >=.
+    // The rows at which `row by value` is true of the column of a name, as Column::compare has it: any number next to
+    // integers, decimals and floats, a text, a bool, a Value. The sign is one of == = != < <= > >=.
     template <class T> Table filter_by(const std::string &name, Operator by, const T &value) const;
     template <class T> Table filter_by(const std::string &name, const std::string &sign, const T &value) const;
     // The rows that are null in none of the columns of these names, or of all columns for no name; refused as select.

@@ -53,12 +53,14 @@ static inline int32_t hv_table_of_bits(const hv_session *session, hv_column *bit
 static inline int32_t hv_table_lend(hv_column *column, const char *format, hv_arrow_options *options, hv_error *error) {
     hv_column bits = HV_EMPTY;
     hv_arrow_layout layout;
-    if (!hv_table_is_float(column, format)) {
+    bool is_float = false;
+    int32_t answer = hv_table_is_float(column, &is_float, error);
+    if (!is_float) {
         if (hv_arrow_is_format_of(format, hv_kind_of(column), &layout)) options->format = format;
-        return HV_OK;
+        return answer;
     }
     options->bits_of_float = 1;
-    const int32_t answer = hv_table_bits(column, &bits, error);
+    answer = hv_table_bits(column, &bits, error);
     if (!answer) hv_put(column, &bits);
     return answer;
 }

@@ -34,7 +34,7 @@ struct ArrowChild {
     std::string name, format;
     explicit ArrowChild(const ArrowSchema &schema) : name(schema.name ? schema.name : "") {
         const char *const found = hv_arrow_value_format(&schema);
-        if (found && is_logical_type(found)) format = found;
+        if (found && hv_table_is_logical_type(found)) format = found;
     }
     bool is_float() const { return format.size() == 1; }
     NamedColumn of(Column column) const {

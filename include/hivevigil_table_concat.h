@@ -27,7 +27,7 @@ static inline int32_t hv_table_all_names(const hv_table *table, hv_column *out, 
     for (size_t place = 0; !answer && place < hv_table_width(table); place++) {
         hv_table_text name = HV_TABLE_NO_TEXT;
         answer = hv_table_name_of(table, place, &name, error);
-        const hv_value text = {name.size, 0, HV_TEXT, 0};
+        const hv_value text = {name.size, 0, HV_TEXT, 0, 0};
         if (!answer) answer = hv_append_value(&builder, &text, (const uint8_t *)name.at, name.size, 1, error);
         free(name.at);
     }

@@ -33,6 +33,10 @@ static inline const char *hv_table_error_name(int32_t number) {
     case HV_TABLE_NEW_NAME_TWICE: return "HV_TABLE_NEW_NAME_TWICE";
     case HV_TABLE_NO_KEYS: return "HV_TABLE_NO_KEYS";
     case HV_TABLE_KEY_OF_LISTS: return "HV_TABLE_KEY_OF_LISTS";
+    case HV_TABLE_UNKNOWN_COLUMN: return "HV_TABLE_UNKNOWN_COLUMN";
+    case HV_TABLE_UNSUPPORTED_ANSWER: return "HV_TABLE_UNSUPPORTED_ANSWER";
+    case HV_TABLE_ANSWER_TWICE: return "HV_TABLE_ANSWER_TWICE";
+    case HV_TABLE_SUM_OVERFLOW: return "HV_TABLE_SUM_OVERFLOW";
     default: return hv_arrow_error_name(number);
     }
 }
@@ -70,6 +74,12 @@ static inline char *hv_table_error_text(int32_t number, const hv_error *error, c
         return HV_TABLE_SAY("columns %" PRIu64 " and %" PRIu64 " would have one name", first, second);
     case HV_TABLE_NO_KEYS: return HV_TABLE_SAY("rows are put in order, and in groups, by at least one column");
     case HV_TABLE_KEY_OF_LISTS: return HV_TABLE_SAY("key %" PRIu64 " is a column of lists", first);
+    case HV_TABLE_UNKNOWN_COLUMN: return HV_TABLE_SAY("the column of answer %" PRIu64 " is not there", first);
+    case HV_TABLE_UNSUPPORTED_ANSWER: return HV_TABLE_SAY("the column of answer %" PRIu64 " is not of integers", first);
+    case HV_TABLE_ANSWER_TWICE:
+        return HV_TABLE_SAY("answer %" PRIu64 " has the name of column %" PRIu64 " of the groups", second, first);
+    case HV_TABLE_SUM_OVERFLOW:
+        return HV_TABLE_SAY("the sum of group %" PRIu64 " in answer %" PRIu64 " does not fit 64 bits", second, first);
     case HV_UNSUPPORTED: return HV_TABLE_SAY("%s", hv_table_not_served(error->third));
     case HV_BAD_METADATA: return HV_TABLE_SAY("the bytes, or those of the file, are not those of a table");
     default: return hv_arrow_error_text(number, error, text);

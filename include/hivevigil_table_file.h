@@ -5,9 +5,9 @@
  *     answer = hv_table_load_columns("readings.hv", names, 2, &part, &error);
  *
  *     hv_table_footer footer = HV_TABLE_FOOTER_EMPTY;
- *     const hv_table_condition high = {"level", HV_GT, &number, NULL, 0, 0};
+ *     const hv_table_condition high = {"level", HV_GT, &number, NULL, 0};
  *     answer = hv_table_load_footer("readings.hv", &footer, &error);
- *     if (!answer) answer = hv_table_may_have(&session, &footer, &high, &truth, &error);
+ *     if (!answer) answer = hv_table_may_have(&footer, &high, &truth, &error);
  *     hv_table_footer_free(&footer);
  *
  * 203 (errno) where the system refuses a file; 17 for bytes that are not those of a table, as of a file that was cut
@@ -17,7 +17,7 @@
 #ifndef HIVEVIGIL_TABLE_FILE_H
 #define HIVEVIGIL_TABLE_FILE_H
 #include "hivevigil_table_footer.h"
-#include "hivevigil_table_conditions.h"
+#include "hivevigil_table_formats.h"
 #ifdef __cplusplus
 extern "C" {
 #endif
@@ -47,11 +47,23 @@ HV_ANSWER hv_table_load_within(const char *path, const char *const *names, size_
                                hv_error *error);
 /* What the end of a file says, where no column is read. */
 HV_ANSWER hv_table_load_footer(const char *path, hv_table_footer *out, hv_error *error);
-/* Whether a condition may hold for a row, as hv_table_filter_where has it: where not (0), the column need not be read.
- * HV_TABLE_UNKNOWN_NAME (0); HV_TYPE_MISMATCH for a value that the rows are not compared with; HV_BAD_NUMBER for no
- * operator. Lists may have any row. */
-HV_ANSWER hv_table_may_have(const hv_session *session, const hv_table_footer *footer,
-                            const hv_table_condition *condition, uint8_t *truth, hv_error *error);
+
+/* What rows of a column are compared with: the arguments of hv_table_filter_by. */
+typedef struct hv_table_condition {
+    const char *column;
+    uint8_t operator_; /* HV_EQ to HV_LE: `row operator value` */
+    const hv_value *value;
+    const uint8_t *text;
+    size_t text_len;
+} hv_table_condition;
+
+/* Whether a condition may hold for a row, as hv_table_filter_by has it: where not (0), the column need not be read.
+ * HV_TABLE_UNKNOWN_NAME (0), and as hv_table_filter_by. Lists may have any row. */
+HV_ANSWER hv_table_may_have(const hv_table_footer *footer, const hv_table_condition *condition, uint8_t *truth,
+                            hv_error *error);
+/* The same of the least and the greatest row of a column, under its format, or of no row where all are null. */
+HV_ANSWER hv_table_may_hold(const hv_column *bounds, const hv_table_condition *condition, uint8_t *truth,
+                            hv_error *error);
 
 /* ---- Written ---- */
 
@@ -276,59 +288,66 @@ HV_ANSWER hv_table_load(const char *path, hv_table *out, hv_error *error) {
 
 /* ---- May a row be there? ---- */
 
-/* Does a condition hold for one of the bounds, with this operator? */
-static inline int32_t hv_table_holds(const hv_session *session, const hv_column *bounds, const char *logical_type,
-                                     size_t row, const hv_table_condition *condition, uint8_t operator_, bool *truth,
-                                     hv_error *error) {
-    hv_table_condition asked = *condition;
-    hv_column one = HV_EMPTY, mask = HV_EMPTY, found = HV_EMPTY;
-    asked.operator_ = operator_;
-    int32_t answer = hv_slice(session, bounds, row, row + 1, &one, error);
-    if (!answer) answer = hv_table_mask(session, &one, logical_type, &asked, &mask, error);
-    if (!answer) answer = hv_filter(session, &one, &mask, &found, error);
-    *truth = hv_length(&found) != 0;
-    hv_free(&one);
-    hv_free(&mask);
-    hv_free(&found);
+/* Does the operator hold of one of the bounds from `start` to `stop` - 1? */
+static inline int32_t hv_table_holds(const hv_table *bounds, size_t start, size_t stop, uint8_t operator_,
+                                     const hv_table_condition *condition, bool *truth, hv_error *error) {
+    hv_table some = HV_EMPTY, found = HV_EMPTY;
+    int32_t answer = hv_table_slice(bounds, start, stop, &some, error);
+    if (!answer)
+        answer = hv_table_filter_by(&some, NULL, 0, operator_, condition->value, condition->text,
+                                    condition->text_len, &found, error);
+    *truth = hv_table_len(&found) != 0;
+    hv_table_free(&some);
+    hv_table_free(&found);
     return answer;
 }
 
-/* May a condition hold for a row between two? Where there are none, it does not. */
-static inline int32_t hv_table_may_hold(const hv_session *session, const hv_column *bounds, const char *logical_type,
-                                        const hv_table_condition *condition, uint8_t *truth, hv_error *error) {
-    const bool is_equal = condition->operator_ == HV_EQ;
-    bool holds[2] = {false, false};
-    hv_column mask = HV_EMPTY;
-    int32_t answer = hv_table_mask(session, bounds, logical_type, condition, &mask, error);
-    hv_free(&mask);
-    for (size_t row = 0; !answer && row < hv_length(bounds); row++) {
-        const uint8_t asked = !is_equal ? condition->operator_ : row ? (uint8_t)HV_GE : (uint8_t)HV_LE;
-        answer = hv_table_holds(session, bounds, logical_type, row, condition, asked, &holds[row], error);
-    }
-    if (!answer) *truth = is_equal ? holds[0] && holds[1] : holds[0] || holds[1];
-    return answer;
-}
-
-HV_ANSWER hv_table_may_have(const hv_session *session, const hv_table_footer *footer,
-                            const hv_table_condition *condition, uint8_t *truth, hv_error *error) {
+/* The table of bounds, whose column has the empty name. NaN is unequal to all, and does not bound the numbers. */
+static inline int32_t hv_table_of_bounds(const hv_column *bounds, uint8_t operator_, hv_table *out, hv_error *error) {
     hv_column numbers = HV_EMPTY;
-    bool has_nan = false;
+    bool is_float = false;
+    int32_t answer = hv_table_new(0, out, error);
+    if (!answer && operator_ != HV_NE) answer = hv_table_is_float(bounds, &is_float, error);
+    if (!answer && is_float) answer = hv_table_number_bounds(bounds, &numbers, error);
+    if (!answer) answer = hv_table_put(out, NULL, 0, is_float ? &numbers : bounds, error);
+    hv_free(&numbers);
+    return answer;
+}
+
+HV_ANSWER hv_table_may_hold(const hv_column *bounds, const hv_table_condition *condition, uint8_t *truth,
+                            hv_error *error) {
+    const uint8_t operator_ = condition->operator_;
+    const bool is_between = operator_ == HV_EQ;
+    hv_table table = HV_EMPTY;
+    bool holds = false, least = true, greatest = true;
+    int32_t answer = hv_table_of_bounds(bounds, operator_, &table, error);
+    const size_t count = hv_table_len(&table);
+    if (!answer) answer = hv_table_holds(&table, 0, count, operator_, condition, &holds, error);
+    if (!answer && is_between && count) {
+        answer = hv_table_holds(&table, 0, 1, HV_LE, condition, &least, error);
+        if (!answer) answer = hv_table_holds(&table, 1, 2, HV_GE, condition, &greatest, error);
+        holds = least && greatest;
+    }
+    if (!answer) *truth = holds;
+    hv_table_free(&table);
+    return answer;
+}
+
+HV_ANSWER hv_table_may_have(const hv_table_footer *footer, const hv_table_condition *condition, uint8_t *truth,
+                            hv_error *error) {
+    hv_column bounds = HV_EMPTY;
     size_t place = 0;
     int32_t answer = hv_table_find_footer(footer, condition->column, &place, error);
     if (answer) return answer;
     const hv_column_footer *const known = &footer->columns[place];
-    const hv_column *bounds = &known->bounds;
-    const bool has_zero = strlen(known->logical_type) != known->logical_type_size;
-    const char *const format = has_zero ? "" : known->logical_type; /* none of Arrow */
-    *truth = 1;
-    if (hv_is_empty(bounds)) return HV_OK;
-    /* NaN is unequal to all, and no bound of the numbers next to it */
-    if (condition->operator_ != HV_NE && hv_table_is_float(bounds, format))
-        answer = hv_table_has_nan(bounds, &has_nan, error);
-    if (!answer && has_nan) answer = hv_table_number_bounds(bounds, &numbers, error);
-    if (has_nan) bounds = &numbers;
-    if (!answer) answer = hv_table_may_hold(session, bounds, format, condition, truth, error);
-    hv_free(&numbers);
+    const hv_table_span format = {(const uint8_t *)known->logical_type, known->logical_type_size};
+    if (hv_is_empty(&known->bounds)) {
+        *truth = 1;
+        return HV_OK;
+    }
+    answer = hv_with_type(&known->bounds, format.at, format.size, &bounds, error);
+    if (!answer) answer = hv_table_may_hold(&bounds, condition, truth, error);
+    hv_free(&bounds);
     return answer;
 }
 

@@ -10,17 +10,6 @@
 
 namespace hv {
 
-namespace detail {
-
-// Two floats that are bounds, in place of a NaN the infinity on its side.
-inline Column number_bounds(const Column &bounds) {
-    Column numbers;
-    ask([&](auto *error) { return hv_table_number_bounds(bounds.raw(), numbers.raw(), error); });
-    return numbers.with_logical_type(bounds.logical_type());
-}
-
-} // namespace detail
-
 // What the footer of a file says of a column.
 struct ColumnFooter {
     std::string name, logical_type;
@@ -35,17 +24,13 @@ struct ColumnFooter {
     // Whether `row by value` may be true of a row, as Table::filter_by has it: where not, the column need not be read.
     template <class T> bool may_have(Operator by, const T &value) const {
         if (!bounds) return true;
-        // NaN is unequal to all, and no bound of the numbers next to it
-        const bool is_of_numbers = by != Operator::not_equal && detail::has_nan(bounds);
-        const Column within = is_of_numbers ? detail::number_bounds(bounds) : bounds.clone();
-        const auto compared = [&](Operator asked) {
-            return detail::compare_rows(within, asked, value).truths();
-        };
-        const std::vector<bool> found = compared(by); // refused where no row is compared with the value
-        if (within.empty()) return false;
-        if (by == Operator::equal)
-            return compared(Operator::less_or_equal)[0] && compared(Operator::greater_or_equal)[1];
-        return found[0] || found[1];
+        const Value right = detail::written(value, bounds.kind());
+        const detail::Passed passed = detail::compared_with(right);
+        const hv_table_condition asked{"", static_cast<uint8_t>(by), &passed.value, passed.text, passed.size};
+        uint8_t truth = 0;
+        detail::ask([&](auto *error) { return hv_table_may_hold(bounds.raw(), &asked, &truth, error); },
+                    detail::words_of_compared(right, bounds));
+        return truth != 0;
     }
 };
 

@@ -1,6 +1,5 @@
 /* What the formats of columns say of their rows, as far as tables in C ask: which are floats, dates, times, timestamps
- * and durations. A part of hivevigil_table_conditions.h, _groups.h and _arrow.h, which include it. Nothing here is
- * proved. */
+ * and durations. A part of hivevigil_table_file.h, _groups.h and _arrow.h, which include it. Nothing here is proved. */
 #ifndef HIVEVIGIL_TABLE_FORMATS_H
 #define HIVEVIGIL_TABLE_FORMATS_H
 #include "hivevigil_table_errors.h"
@@ -27,10 +26,23 @@ static inline bool hv_table_is_logical_type(const char *format) {
 
 /* ---- Floats by their keys ---- */
 
-static inline bool hv_table_is_float(const hv_column *column, const char *format) {
-    const uint8_t number = hv_kind_of(column).number;
-    const char letter = number == HV_I16 ? 'e' : number == HV_I32 ? 'f' : number == HV_I64 ? 'g' : 0;
-    return letter && format[0] == letter && !format[1];
+/* What the sum of no row is, whose kind says how such rows are added up; HV_UNSUPPORTED. */
+static inline int32_t hv_table_sum_of_none(const hv_column *column, hv_total *total, hv_error *error) {
+    hv_column none = HV_EMPTY;
+    hv_session session;
+    hv_session_initial(&session);
+    int32_t answer = hv_slice(&session, column, 0, 0, &none, error);
+    if (!answer) answer = hv_sum(&session, &none, total, error);
+    hv_free(&none);
+    return answer;
+}
+
+/* Are the rows of a column floats, by its format? */
+static inline int32_t hv_table_is_float(const hv_column *column, bool *truth, hv_error *error) {
+    hv_total total = {0, 0, HV_NULL, 1, 0};
+    const int32_t answer = hv_table_sum_of_none(column, &total, error);
+    *truth = total.kind == HV_DOUBLE;
+    return answer == HV_UNSUPPORTED ? HV_OK : answer;
 }
 
 /* The bits of infinity among floats of a width. */
@@ -39,35 +51,43 @@ static inline uint64_t hv_table_infinity(const hv_column *floats) {
     return number == HV_I16 ? 0x7C00 : number == HV_I32 ? 0x7F800000 : 0x7FF0000000000000;
 }
 
-/* Is a float NaN? In the total order these lie outside of all numbers. */
+/* Is a float NaN? The keys of these lie outside of those of all numbers. */
 static inline int32_t hv_table_has_nan(const hv_column *floats, bool *truth, hv_error *error) {
-    const uint8_t number = hv_kind_of(floats).number;
-    const uint64_t infinity = hv_table_infinity(floats);
-    const uint64_t sizes = (UINT64_C(1) << (number == HV_I16 ? 15 : number == HV_I32 ? 31 : 63)) - 1;
-    uint64_t least = 0, greatest = 0;
-    uint8_t is_found = 0;
-    const int32_t answer = hv_float_min_max(floats, 0, &is_found, &least, &greatest, error);
-    *truth = is_found && ((least & sizes) > infinity || (greatest & sizes) > infinity);
+    const int64_t infinity = (int64_t)hv_table_infinity(floats);
+    hv_value least, greatest;
+    hv_session session;
+    hv_session_initial(&session);
+    int32_t answer = hv_extreme(&session, floats, 0, &least, NULL, 0, error);
+    if (!answer) answer = hv_extreme(&session, floats, 1, &greatest, NULL, 0, error);
+    *truth = !answer && least.kind != HV_NULL && (least.as_signed < -1 - infinity || greatest.as_signed > infinity);
     return answer;
 }
 
-/* Two floats that are bounds, in place of a NaN the infinity on its side: up to there numbers may reach. No row where
- * both are NaNs of one sign, between which no number is. */
+/* The bounds of floats, under their format, with the infinity on its side in place of a NaN: up to there numbers may
+ * reach. No row where both are NaNs of one sign, between which no number is. */
 static inline int32_t hv_table_number_bounds(const hv_column *bounds, hv_column *out, hv_error *error) {
     const int64_t infinity = (int64_t)hv_table_infinity(bounds);
     const hv_kind kind = hv_kind_of(bounds);
+    const size_t count = hv_length(bounds);
+    hv_column keys = HV_EMPTY, ends = HV_EMPTY;
     hv_builder builder = HV_EMPTY;
-    hv_value ends[2];
-    memset(ends, 0, sizeof ends);
+    hv_table_text format = HV_TABLE_NO_TEXT;
+    hv_value found[2] = {{0, 0, HV_NULL, 0, 0}, {0, 0, HV_NULL, 0, 0}};
     int32_t answer = hv_builder_new(&kind, &builder, error);
-    for (size_t row = 0; !answer && row < 2; row++) answer = hv_at(bounds, row, &ends[row], NULL, 0, error);
-    const bool is_any = !answer && ends[0].as_signed <= infinity && ends[1].as_signed >= -1 - infinity;
-    for (size_t row = 0; is_any && !answer && row < 2; row++) {
-        if (ends[row].as_signed > infinity) ends[row].as_signed = infinity;
-        if (ends[row].as_signed < -1 - infinity) ends[row].as_signed = -1 - infinity;
-        answer = hv_append_value(&builder, &ends[row], NULL, 0, 1, error);
+    if (!answer) answer = hv_table_format_of(bounds, &format, error);
+    if (!answer) answer = hv_with_type(bounds, NULL, 0, &keys, error);
+    for (size_t row = 0; !answer && row < count; row++) answer = hv_at(&keys, row, &found[row], NULL, 0, error);
+    const bool is_any = count && found[0].as_signed <= infinity && found[1].as_signed >= -1 - infinity;
+    for (size_t row = 0; is_any && !answer && row < count; row++) {
+        if (found[row].as_signed > infinity) found[row].as_signed = infinity;
+        if (found[row].as_signed < -1 - infinity) found[row].as_signed = -1 - infinity;
+        answer = hv_append_value(&builder, &found[row], NULL, 0, 1, error);
     }
-    if (!answer) answer = hv_finish(&builder, out, error);
+    if (!answer) answer = hv_finish(&builder, &ends, error);
+    if (!answer) answer = hv_with_type(&ends, (const uint8_t *)format.at, format.size, out, error);
+    free(format.at);
+    hv_free(&keys);
+    hv_free(&ends);
     hv_builder_free(&builder);
     return answer;
 }

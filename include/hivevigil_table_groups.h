@@ -1,9 +1,9 @@
-/* What is asked of the groups of a table in C. A header only, C11 and C++17, over hivevigil_tables.h; nothing here is
- * proved.
+/* What is asked of the groups of a table in C, of columns of any type. A header only, C11 and C++17, over
+ * hivevigil_tables.h, whose hv_table_group_by makes the groups; nothing else here is proved.
  *
  *     const char *const keys[] = {"station"};
  *     const hv_table_answer asked[] = {{"readings", HV_FOLD_ROWS, NULL}, {"highest", HV_FOLD_GREATEST, "level"}};
- *     answer = hv_table_group_by(&session, &table, keys, 1, asked, 2, &groups, &error);
+ *     answer = hv_table_grouping(&session, &table, keys, 1, asked, 2, &groups, &error);
  */
 #ifndef HIVEVIGIL_TABLE_GROUPS_H
 #define HIVEVIGIL_TABLE_GROUPS_H
@@ -33,97 +33,96 @@ typedef struct hv_table_answer {
  * place), HV_TABLE_UNKNOWN_NAME (key), HV_TABLE_KEY_OF_LISTS (key); then of the first answer that is refused
  * HV_TABLE_UNKNOWN_NAME (0), HV_UNSUPPORTED where the column is not asked this, as a text is not for its sum,
  * HV_CAST_OUT_OF_RANGE (group, from 0) for the first sum that does not fit, HV_BAD_NUMBER for no fold. */
-HV_ANSWER hv_table_group_by(const hv_session *session, const hv_table *table, const char *const *keys,
+HV_ANSWER hv_table_grouping(const hv_session *session, const hv_table *table, const char *const *keys,
                             size_t key_count, const hv_table_answer *answers, size_t answer_count, hv_table *out,
                             hv_error *error);
 
 /* ---- Groups ---- */
 
-/* Stops of runs, which rise. */
-typedef struct hv_table_stop_list {
+/* The keys of groups, under the places of their columns as names, and how many rows each group has; where each stops,
+ * and a column of all rows with one run for each group. */
+typedef struct hv_table_groups {
     size_t count;
     uint64_t *stops;
-} hv_table_stop_list;
-
-/* The stops of a list and others, each once, in place of the list. */
-static inline int32_t hv_table_add_stops(hv_table_stop_list *list, const uint64_t *others, size_t count,
-                                         hv_error *error) {
-    uint64_t *both = NULL;
-    const int32_t answer = hv_table_memory(list->count + count, sizeof *both, &both, error);
-    if (answer) return answer;
-    size_t made = 0;
-    for (size_t own = 0, other = 0; own < list->count || other < count; made++) {
-        const bool is_own = other == count || (own < list->count && list->stops[own] <= others[other]);
-        both[made] = is_own ? list->stops[own] : others[other];
-        if (own < list->count && list->stops[own] == both[made]) own++;
-        if (other < count && others[other] == both[made]) other++;
-    }
-    free(list->stops);
-    list->stops = both;
-    list->count = made;
-    return HV_OK;
-}
-
-/* Where each group stops, and a column of all rows with one run for each group. */
-typedef struct hv_table_groups {
-    hv_table_stop_list list;
-    hv_column runs;
+    hv_table keys;
+    hv_column sizes, runs;
 } hv_table_groups;
-#define HV_TABLE_NO_GROUPS {{0, NULL}, HV_EMPTY}
+#define HV_TABLE_NO_GROUPS {0, NULL, HV_EMPTY, HV_EMPTY, HV_EMPTY}
 
 static inline void hv_table_groups_free(hv_table_groups *groups) {
-    free(groups->list.stops);
+    free(groups->stops);
+    hv_table_free(&groups->keys);
+    hv_free(&groups->sizes);
     hv_free(&groups->runs);
     memset(groups, 0, sizeof *groups);
 }
 
-/* Stops where a column changes from one row to the next. */
-static inline int32_t hv_table_add_changes(hv_table_stop_list *list, const hv_column *column, hv_error *error) {
-    hv_column encoding = HV_EMPTY;
-    uint64_t *stops = NULL;
-    size_t count = 0;
-    int32_t answer = hv_encode_rows(column, &encoding, error);
-    if (!answer) answer = hv_table_stops(&encoding, &stops, &count, error);
-    if (!answer) answer = hv_table_add_stops(list, stops, count, error);
-    free(stops);
-    hv_free(&encoding);
+/* The table of columns under their places as names, and these names. */
+static inline int32_t hv_table_by_places(const hv_column *columns, size_t count, hv_table *table, hv_column *names,
+                                         hv_error *error) {
+    const hv_kind kind = {HV_UTF8, 0, 0, 0};
+    hv_builder builder = HV_EMPTY;
+    int32_t answer = hv_builder_new(&kind, &builder, error);
+    if (!answer) answer = hv_table_new(0, table, error);
+    for (size_t i = 0; !answer && i < count; i++) {
+        char name[24];
+        const size_t size = (size_t)snprintf(name, sizeof name, "%zu", i);
+        const hv_value text = {size, 0, HV_TEXT, 0, 0};
+        answer = hv_append_value(&builder, &text, (const uint8_t *)name, size, 1, error);
+        if (!answer) answer = hv_table_put_named(table, name, &columns[i], error);
+    }
+    if (!answer) answer = hv_finish(&builder, names, error);
+    hv_builder_free(&builder);
     return answer;
 }
 
-/* The groups of rows by columns of one length, of which there is one at least; 13 for lists. */
-static inline int32_t hv_table_groups_of(const hv_column *keys, size_t count, hv_table_groups *out, hv_error *error) {
+/* Where each group stops, by its number of rows, and the runs of all. */
+static inline int32_t hv_table_stop_groups(hv_table_groups *groups, hv_error *error) {
+    const size_t count = groups->count = hv_length(&groups->sizes);
     hv_column numbers = HV_EMPTY;
     uint64_t *each = NULL;
-    int32_t answer = HV_OK;
-    for (size_t i = 0; !answer && i < count; i++) answer = hv_table_add_changes(&out->list, &keys[i], error);
-    if (!answer) answer = hv_table_memory(out->list.count, sizeof *each, &each, error);
-    for (size_t group = 0; !answer && group < out->list.count; group++) each[group] = group;
-    if (!answer) answer = hv_u64(each, out->list.count, hv_not_nullable(), &numbers, error);
-    if (!answer) answer = hv_table_in_runs(out->list.stops, &numbers, out->list.count, &out->runs, error);
-    if (answer) hv_table_groups_free(out);
+    int32_t answer = hv_table_memory(count, sizeof *groups->stops, &groups->stops, error);
+    if (!answer) answer = hv_read_u64(&groups->sizes, 0, groups->stops, count, error);
+    if (!answer) answer = hv_table_memory(count, sizeof *each, &each, error);
+    for (size_t group = 1; !answer && group < count; group++) {
+        groups->stops[group] += groups->stops[group - 1];
+        each[group] = group;
+    }
+    if (!answer) answer = hv_u64(each, count, hv_not_nullable(), &numbers, error);
+    if (!answer) answer = hv_table_in_runs(groups->stops, &numbers, count, &groups->runs, error);
     free(each);
     hv_free(&numbers);
     return answer;
 }
 
-static inline uint64_t hv_table_group_start(const hv_table_groups *groups, size_t group) {
-    return group ? groups->list.stops[group - 1] : 0;
+/* The groups of rows by columns of one length, of which there is one at least, and none has lists. */
+static inline int32_t hv_table_groups_of(const hv_column *keys, size_t count, hv_table_groups *out, hv_error *error) {
+    const char *const rows[] = {"rows"}, *const first[] = {"0"};
+    const uint8_t fold = HV_FOLD_ROWS;
+    hv_table table = HV_EMPTY;
+    hv_column names = HV_EMPTY, answers = HV_EMPTY, columns = HV_EMPTY;
+    int32_t answer = hv_table_by_places(keys, count, &table, &names, error);
+    if (!answer) answer = hv_table_names(rows, 1, &answers, error);
+    if (!answer) answer = hv_table_names(first, 1, &columns, error);
+    if (!answer) answer = hv_table_group_by(&table, &names, &answers, &columns, &fold, 1, &out->keys, error);
+    if (!answer) answer = hv_table_column(&out->keys, count, &out->sizes, error);
+    if (!answer) answer = hv_table_stop_groups(out, error);
+    if (answer) hv_table_groups_free(out);
+    hv_free(&names);
+    hv_free(&answers);
+    hv_free(&columns);
+    hv_table_free(&table);
+    return answer;
 }
 
-/* The first row of each group of a column, flat. */
-static inline int32_t hv_table_key_of(const hv_session *session, const hv_table_groups *groups,
-                                      const hv_column *column, hv_column *out, hv_error *error) {
-    hv_column first = HV_EMPTY, taken = HV_EMPTY;
-    uint64_t *rows = NULL;
-    const size_t count = groups->list.count;
-    int32_t answer = hv_table_memory(count, sizeof *rows, &rows, error);
-    for (size_t group = 0; !answer && group < count; group++) rows[group] = hv_table_group_start(groups, group);
-    if (!answer) answer = hv_u64(rows, count, hv_not_nullable(), &first, error);
-    if (!answer) answer = hv_take(session, column, &first, &taken, error);
-    if (!answer) answer = hv_decode(session, &taken, out, error);
-    free(rows);
-    hv_free(&first);
-    hv_free(&taken);
+/* The key of each group in the column of keys at a place, flat: without groups that of a run column is in runs. */
+static inline int32_t hv_table_keys_at(const hv_table_groups *groups, size_t place, hv_column *out, hv_error *error) {
+    hv_session session;
+    hv_column keys = HV_EMPTY;
+    hv_session_initial(&session);
+    int32_t answer = hv_table_column(&groups->keys, place, &keys, error);
+    if (!answer) answer = hv_decode(&session, &keys, out, error);
+    hv_free(&keys);
     return answer;
 }
 
@@ -136,18 +135,7 @@ static inline int32_t hv_table_fold(const hv_table_groups *groups, const hv_colu
     return answer;
 }
 
-/* ---- Rows and counts ---- */
-
-static inline int32_t hv_table_count_rows(const hv_table_groups *groups, size_t rows, hv_column *out,
-                                          hv_error *error) {
-    const hv_kind kind = {HV_U8, 0, 0, 0};
-    const hv_value one = {1, 0, HV_UNSIGNED, 0};
-    hv_column ones = HV_EMPTY;
-    int32_t answer = hv_constant(&kind, &one, NULL, 0, rows, &ones, error);
-    if (!answer) answer = hv_table_fold(groups, &ones, HV_FOLD_ROWS, out, error);
-    hv_free(&ones);
-    return answer;
-}
+/* ---- Counts ---- */
 
 /* Booleans: is the row valid? */
 static inline int32_t hv_table_valid_rows(const hv_session *session, const hv_column *column, hv_column *out,
@@ -164,7 +152,7 @@ static inline int32_t hv_table_valid_rows(const hv_session *session, const hv_co
 static inline int32_t hv_table_count_values(const hv_session *session, const hv_table_groups *groups,
                                             const hv_column *column, hv_column *out, hv_error *error) {
     const hv_kind kind = {HV_U8, 1, 0, 0};
-    const hv_value one = {1, 0, HV_UNSIGNED, 0}, null = {0, 0, HV_NULL, 0};
+    const hv_value one = {1, 0, HV_UNSIGNED, 0, 0}, null = {0, 0, HV_NULL, 0, 0};
     const size_t rows = hv_length(column);
     hv_column valid = HV_EMPTY, ones = HV_EMPTY, nulls = HV_EMPTY, found = HV_EMPTY;
     int32_t answer = hv_table_valid_rows(session, column, &valid, error);
@@ -198,7 +186,7 @@ static inline int32_t hv_table_choose(const hv_session *session, const hv_table_
 /* Floats with null in place of NaN, by their runs. */
 static inline int32_t hv_table_numbers(const hv_column *floats, hv_column *out, hv_error *error) {
     const hv_kind kind = {hv_kind_of(floats).number, 1, 0, 0};
-    const hv_value null = {0, 0, HV_NULL, 0};
+    const hv_value null = {0, 0, HV_NULL, 0, 0};
     hv_column encoding = HV_EMPTY, values = HV_EMPTY, are_numbers = HV_EMPTY, nulls = HV_EMPTY, numbers = HV_EMPTY;
     uint64_t *stops = NULL;
     size_t count = 0;
@@ -239,36 +227,21 @@ typedef struct hv_table_sums {
     bool is_any_null;
 } hv_table_sums;
 
-/* The sum of some rows: false in *is_valid where none is valid. */
-typedef int32_t (*hv_table_sum)(const hv_column *rows, hv_pair *total, bool *is_valid, hv_error *error);
-
-static inline int32_t hv_table_sum_floats(const hv_column *rows, hv_pair *total, bool *is_valid, hv_error *error) {
-    uint64_t count = 0;
-    const int32_t answer = hv_float_sum(rows, &count, &total->low, error);
-    *is_valid = count != 0;
-    return answer;
-}
-static inline int32_t hv_table_sum_decimals(const hv_column *rows, hv_pair *total, bool *is_valid, hv_error *error) {
-    uint8_t is_empty = 0;
-    const int32_t answer = hv_decimal_sum(rows, total, &is_empty, error);
-    *is_valid = !is_empty;
-    return answer;
-}
-
 /* The sum of each group, in memory of the caller; 14 (group) for the first that does not fit. */
 static inline int32_t hv_table_each_sum(const hv_session *session, const hv_table_groups *groups,
-                                        const hv_column *column, hv_table_sum work, hv_table_sums *out,
-                                        hv_error *error) {
+                                        const hv_column *column, hv_table_sums *out, hv_error *error) {
     int32_t answer = HV_OK;
-    for (size_t group = 0; !answer && group < groups->list.count; group++) {
-        const size_t start = (size_t)hv_table_group_start(groups, group), stop = (size_t)groups->list.stops[group];
+    for (size_t group = 0; !answer && group < groups->count; group++) {
+        const size_t start = group ? (size_t)groups->stops[group - 1] : 0, stop = (size_t)groups->stops[group];
         hv_column part = HV_EMPTY;
-        bool is_valid = false;
+        hv_total total = {0, 0, HV_NULL, 1, 0};
         answer = hv_slice(session, column, start, stop, &part, error);
-        if (!answer) answer = work(&part, &out->totals[group], &is_valid, error);
+        if (!answer) answer = hv_sum(session, &part, &total, error);
         if (answer == HV_CAST_OUT_OF_RANGE) hv_table_refuse(answer, group, 0, error);
-        if (is_valid) out->valid[group / 8] = (uint8_t)(out->valid[group / 8] | 1u << group % 8);
-        out->is_any_null |= !is_valid;
+        out->totals[group].low = total.as_unsigned;
+        out->totals[group].high = total.as_signed;
+        if (!total.empty) out->valid[group / 8] = (uint8_t)(out->valid[group / 8] | 1u << group % 8);
+        out->is_any_null |= total.empty != 0;
         hv_free(&part);
     }
     return answer;
@@ -284,21 +257,21 @@ static inline int32_t hv_table_doubles(const hv_pair *totals, size_t count, hv_v
         memcpy(&keys[group], &key, sizeof key);
     }
     if (!answer) answer = hv_i64(keys, count, valid, out, error);
+    if (!answer) answer = hv_table_give_format(out, "g", 1, error);
     free(keys);
     return answer;
 }
 
-/* Floats of 64 bits, or decimals, added up. */
+/* Floats or decimals, added up. */
 static inline int32_t hv_table_add_up(const hv_session *session, const hv_table_groups *groups,
                                       const hv_column *column, hv_column *out, hv_error *error) {
     const hv_kind kind = hv_kind_of(column);
     const bool is_decimal = kind.number == HV_DECIMAL;
-    const size_t count = groups->list.count, bytes = (count + 7) / 8;
+    const size_t count = groups->count, bytes = (count + 7) / 8;
     hv_table_sums sums = {NULL, NULL, false};
     int32_t answer = hv_table_memory(count, sizeof *sums.totals, &sums.totals, error);
     if (!answer) answer = hv_table_memory(bytes, 1, &sums.valid, error);
-    const hv_table_sum work = is_decimal ? hv_table_sum_decimals : hv_table_sum_floats;
-    if (!answer) answer = hv_table_each_sum(session, groups, column, work, &sums, error);
+    if (!answer) answer = hv_table_each_sum(session, groups, column, &sums, error);
     const hv_validity valid = sums.is_any_null ? hv_valid_bits(sums.valid, bytes, 0) : hv_all_valid();
     if (!answer)
         answer = is_decimal ? hv_decimals(sums.totals, count, 38, kind.scale, valid, out, error)
@@ -308,79 +281,68 @@ static inline int32_t hv_table_add_up(const hv_session *session, const hv_table_
     return answer;
 }
 
-static inline int32_t hv_table_add_up_floats(const hv_session *session, const hv_table_groups *groups,
-                                             const hv_column *floats, hv_column *out, hv_error *error) {
-    hv_column doubles = HV_EMPTY;
-    int32_t answer = hv_float_cast(floats, HV_I64, 0, &doubles, error);
-    if (!answer) answer = hv_table_add_up(session, groups, &doubles, out, error);
-    hv_free(&doubles);
-    return answer;
+/* The sum of each group: of integers by their runs. */
+static inline int32_t hv_table_sums_of(const hv_session *session, const hv_table_groups *groups,
+                                       const hv_column *column, hv_column *out, hv_error *error) {
+    hv_total total = {0, 0, HV_NULL, 1, 0};
+    const int32_t answer = hv_table_sum_of_none(column, &total, error);
+    if (answer == HV_UNSUPPORTED && error) error->third = HV_TABLE_WITHOUT_SUM;
+    if (answer) return answer;
+    if (total.kind == HV_DOUBLE || total.kind == HV_SCALED)
+        return hv_table_add_up(session, groups, column, out, error);
+    return hv_table_fold(groups, column, HV_FOLD_SUM, out, error);
 }
 
 /* ---- Answers ---- */
 
-/* What is asked of a column under a format in each group. */
+/* Gives an answer the format of the column, where it is a value of it, or a sum of durations. */
+static inline int32_t hv_table_keep_format(const hv_column *values, uint8_t fold, hv_column *answers,
+                                           hv_error *error) {
+    hv_table_text format = HV_TABLE_NO_TEXT;
+    int32_t answer = hv_table_format_of(values, &format, error);
+    const char *const known = answer ? "" : hv_table_format_in(&format);
+    const bool is_time = hv_table_is_logical_type(known) && hv_kind_of(values).number == HV_I64;
+    const bool is_duration = is_time && strncmp(known, "tD", 2) == 0;
+    const bool is_kept = fold != HV_FOLD_COUNT && (fold != HV_FOLD_SUM || is_duration);
+    if (!answer && is_kept) answer = hv_table_give_format(answers, format.at, format.size, error);
+    free(format.at);
+    return answer;
+}
+
+/* What is asked of a column in each group, under its format. */
 static inline int32_t hv_table_ask(const hv_session *session, const hv_table_groups *groups, const hv_column *column,
-                                   const char *format, uint8_t fold, hv_column *out, hv_error *error) {
-    const bool is_float = hv_table_is_float(column, format);
-    if (fold == HV_FOLD_COUNT) return hv_table_count_values(session, groups, column, out, error);
-    if (is_float && (fold == HV_FOLD_LEAST || fold == HV_FOLD_GREATEST))
-        return hv_table_choose_number(groups, column, fold, out, error);
-    if (fold != HV_FOLD_SUM) return hv_table_choose(session, groups, column, fold, out, error);
-    if (is_float) return hv_table_add_up_floats(session, groups, column, out, error);
-    if (hv_kind_of(column).number == HV_DECIMAL) return hv_table_add_up(session, groups, column, out, error);
-    const bool is_time = hv_table_is_logical_type(format) && format[0] == 't' && format[1] != 'D';
-    if (is_time || !hv_table_is_integer(column)) {
-        hv_table_refuse(HV_OK, 0, 0, error);
-        if (error) error->third = HV_TABLE_WITHOUT_SUM;
-        return HV_UNSUPPORTED;
-    }
-    return hv_table_fold(groups, column, HV_FOLD_SUM, out, error);
+                                   uint8_t fold, hv_column *out, hv_error *error) {
+    const bool is_bound = fold == HV_FOLD_LEAST || fold == HV_FOLD_GREATEST;
+    bool is_float = false;
+    int32_t answer = is_bound ? hv_table_is_float(column, &is_float, error) : HV_OK;
+    if (answer) return answer;
+    if (fold == HV_FOLD_COUNT) answer = hv_table_count_values(session, groups, column, out, error);
+    else if (fold == HV_FOLD_SUM) answer = hv_table_sums_of(session, groups, column, out, error);
+    else if (is_float) answer = hv_table_choose_number(groups, column, fold, out, error);
+    else answer = hv_table_choose(session, groups, column, fold, out, error);
+    return answer ? answer : hv_table_keep_format(column, fold, out, error);
 }
 
-/* The format of an answer; a sum keeps only that of durations, and has none under formats that nobody serves. */
-static inline const char *hv_table_type_of_answer(const hv_column *column, const char *format, uint8_t fold) {
-    const bool is_duration = hv_table_is_logical_type(format) && strncmp(format, "tD", 2) == 0;
-    if (fold == HV_FOLD_ROWS || fold == HV_FOLD_COUNT) return "";
-    if (fold != HV_FOLD_SUM || (is_duration && hv_kind_of(column).number == HV_I64)) return format;
-    return hv_table_is_float(column, format) ? "g" : "";
-}
-
-/* Gives an answer its format, which a value of the group has from the column. */
-static inline int32_t hv_table_format_answer(const hv_column *values, const hv_table_text *format, uint8_t fold,
-                                             hv_column *answers, hv_error *error) {
-    if (fold != HV_FOLD_SUM && fold != HV_FOLD_COUNT)
-        return hv_table_give_format(answers, format->at, format->size, error);
-    const char *const type = hv_table_type_of_answer(values, hv_table_format_in(format), fold);
-    return hv_table_give_format(answers, type, strlen(type), error);
-}
-
-/* An answer of each group, under its format. */
 static inline int32_t hv_table_answer_of(const hv_session *session, const hv_table *table,
                                          const hv_table_groups *groups, const hv_table_answer *asked, hv_column *out,
                                          hv_error *error) {
     hv_column values = HV_EMPTY;
-    hv_table_text format = HV_TABLE_NO_TEXT;
-    if (asked->fold == HV_FOLD_ROWS) return hv_table_count_rows(groups, hv_table_len(table), out, error);
+    if (asked->fold == HV_FOLD_ROWS) return hv_clone(&groups->sizes, out, error);
     int32_t answer = hv_table_column_named(table, asked->column, &values, error);
-    if (!answer) answer = hv_table_format_of(&values, &format, error);
-    if (!answer)
-        answer = hv_table_ask(session, groups, &values, hv_table_format_in(&format), asked->fold, out, error);
-    if (!answer) answer = hv_table_format_answer(&values, &format, asked->fold, out, error);
-    free(format.at);
+    if (!answer) answer = hv_table_ask(session, groups, &values, asked->fold, out, error);
     hv_free(&values);
     return answer;
 }
 
 /* The key of each group under the names of their columns, then the answers. */
 static inline int32_t hv_table_answers(const hv_session *session, const hv_table *table, const char *const *names,
-                                       const hv_column *keys, size_t key_count, const hv_table_groups *groups,
+                                       size_t key_count, const hv_table_groups *groups,
                                        const hv_table_answer *asked, size_t count, hv_table *made, hv_error *error) {
-    int32_t answer = hv_table_new(groups->list.count, made, error);
+    int32_t answer = hv_table_new(groups->count, made, error);
     for (size_t i = 0; !answer && i < key_count + count; i++) {
         hv_column column = HV_EMPTY;
         const bool is_key = i < key_count;
-        answer = is_key ? hv_table_key_of(session, groups, &keys[i], &column, error)
+        answer = is_key ? hv_table_keys_at(groups, i, &column, error)
                         : hv_table_answer_of(session, table, groups, &asked[i - key_count], &column, error);
         if (!answer) answer = hv_table_put_named(made, is_key ? names[i] : asked[i - key_count].name, &column, error);
         hv_free(&column);
@@ -420,7 +382,7 @@ static inline int32_t hv_table_keys_of(const hv_table *table, const char *const 
     return answer;
 }
 
-HV_ANSWER hv_table_group_by(const hv_session *session, const hv_table *table, const char *const *keys,
+HV_ANSWER hv_table_grouping(const hv_session *session, const hv_table *table, const char *const *keys,
                             size_t key_count, const hv_table_answer *answers, size_t answer_count, hv_table *out,
                             hv_error *error) {
     hv_table made = HV_EMPTY;
@@ -432,7 +394,7 @@ HV_ANSWER hv_table_group_by(const hv_session *session, const hv_table *table, co
     if (!answer) answer = hv_table_keys_of(table, keys, by, key_count, error);
     if (!answer) answer = hv_table_groups_of(by, key_count, &groups, error);
     if (!answer)
-        answer = hv_table_answers(session, table, keys, by, key_count, &groups, answers, answer_count, &made, error);
+        answer = hv_table_answers(session, table, keys, key_count, &groups, answers, answer_count, &made, error);
     if (!answer) hv_table_replace(out, &made);
     for (size_t i = 0; by && i < key_count; i++) hv_free(&by[i]);
     free(by);

@@ -18,13 +18,7 @@ struct GroupAnswer {
 
 namespace detail {
 
-// The logical type as a text of C, empty where it has a zero byte: it is none of Arrow then.
-inline std::string format_of_arrow(const NamedColumn &values) {
-    const std::string format = values.logical_type();
-    return format.find('\0') == format.npos ? format : "";
-}
-
-// Where groups of rows stop.
+// Groups of rows, with their keys.
 struct Groups {
     hv_table_groups all = HV_TABLE_NO_GROUPS;
 
@@ -34,12 +28,10 @@ struct Groups {
     ~Groups() { hv_table_groups_free(&all); }
     Groups(const Groups &) = delete;
     Groups &operator=(const Groups &) = delete;
-    // The first row of each group.
-    Column first_of(const Column &column) const {
+    // The row of each group in the column of keys at a place.
+    Column key(size_t place) const {
         Column made;
-        ask([&](auto *error) {
-            return hv_table_key_of(&initial_session(), &all, column.raw(), made.raw(), error);
-        });
+        ask([&](auto *error) { return hv_table_keys_at(&all, place, made.raw(), error); });
         return made;
     }
 };
@@ -58,8 +50,7 @@ public:
     // The number of rows of each group, in u64.
     Column sizes() const {
         Column made;
-        detail::ask(
-            [&](auto *error) { return hv_table_count_rows(&groups->all, table.rows(), made.raw(), error); });
+        detail::ask([&](auto *error) { return hv_clone(&groups->all.sizes, made.raw(), error); });
         return made;
     }
     // What is asked of a column in each group, flat, of a type that has null, and null where the group has no value
@@ -76,7 +67,7 @@ private:
     Table table, each_key;
     std::unique_ptr<detail::Groups> groups;
 
-    Column answer(const NamedColumn &values, Fold by) const;
+    Column answer(const Column &values, Fold by) const;
 };
 
 inline TableGroups Table::group_by(const std::vector<std::string> &names) const { return TableGroups(*this, names); }
@@ -92,18 +83,14 @@ inline TableGroups::TableGroups(const Table &of, const std::vector<std::string> 
         lent.push_back(*keys.back().column.raw());
     }
     groups = std::make_unique<detail::Groups>(lent);
-    for (NamedColumn &key : keys) key.column = groups->first_of(key.column);
+    for (size_t place = 0; place < keys.size(); place++) keys[place].column = groups->key(place);
     each_key = Table(std::move(keys));
 }
 
 inline NamedColumn TableGroups::fold(const GroupAnswer &asked) const {
     if (asked.fold == Fold::rows) return {asked.name, sizes()};
-    const NamedColumn &values = table.at(asked.column);
-    const Column answers = detail::about_column(asked.column, [&] { return answer(values, asked.fold); });
-    if (asked.fold != Fold::sum && asked.fold != Fold::count) return {asked.name, answers, values.logical_type()};
-    const std::string format = detail::format_of_arrow(values);
-    const uint8_t fold = static_cast<uint8_t>(asked.fold);
-    return {asked.name, answers, hv_table_type_of_answer(values.column.raw(), format.c_str(), fold)};
+    const Column &values = table[asked.column];
+    return {asked.name, detail::about_column(asked.column, [&] { return answer(values, asked.fold); })};
 }
 
 inline Table TableGroups::agg(const std::vector<GroupAnswer> &answers) const {
@@ -116,27 +103,21 @@ inline Table TableGroups::agg(const std::vector<GroupAnswer> &answers) const {
 namespace detail {
 
 // Why a column is not asked this of its groups, in words.
-inline std::string words_of_fold(const NamedColumn &values, Fold by, int32_t answer, const hv_error &fields) {
-    const hv_kind kind = values.column.kind();
+inline std::string words_of_fold(const Column &values, Fold by, int32_t answer, const hv_error &fields) {
+    const hv_kind kind = values.kind();
     if (answer == HV_CAST_OUT_OF_RANGE && kind.number == HV_DECIMAL)
         return "decimal overflow: the sum of group " + std::to_string(fields.first) + " leaves 38 digits";
     if (answer == HV_CAST_OUT_OF_RANGE) return words_of_group(kind, fields);
-    if (answer != HV_UNSUPPORTED) return "";
-    const std::string format = values.logical_type();
-    if (by == Fold::sum && is_integer(kind) && is_logical_type(format))
-        return "rows of the logical type " + format + " have no sum";
-    const bool is_summed = is_integer(kind) || kind.number == HV_DECIMAL;
-    return by == Fold::sum && !is_summed ? "rows of " + to_string(kind) + " have no sum" : "";
+    return by == Fold::sum ? words_of_sum(kind, values.logical_type(), answer, fields) : "";
 }
 
 } // namespace detail
 
-inline Column TableGroups::answer(const NamedColumn &values, Fold by) const {
-    const std::string format = detail::format_of_arrow(values);
+inline Column TableGroups::answer(const Column &values, Fold by) const {
     Column made;
     hv_error fields{};
-    const int32_t answer = hv_table_ask(&initial_session(), &groups->all, values.column.raw(), format.c_str(),
-                                        static_cast<uint8_t>(by), made.raw(), &fields);
+    const int32_t answer = hv_table_ask(&initial_session(), &groups->all, values.raw(), static_cast<uint8_t>(by),
+                                        made.raw(), &fields);
     if (!answer) return made;
     const std::string words = detail::words_of_fold(values, by, answer, fields);
     throw words.empty() ? Error(answer, fields) : Error(answer, fields, words);

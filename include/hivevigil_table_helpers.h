@@ -43,7 +43,7 @@ HV_ANSWER hv_table_names(const char *const *names, size_t count, hv_column *out,
     int32_t answer = hv_builder_new(&kind, &builder, error);
     for (size_t i = 0; !answer && i < count; i++) {
         const size_t size = strlen(names[i]);
-        const hv_value text = {size, 0, HV_TEXT, 0};
+        const hv_value text = {size, 0, HV_TEXT, 0, 0};
         answer = hv_append_value(&builder, &text, (const uint8_t *)names[i], size, 1, error);
     }
     if (!answer) answer = hv_finish(&builder, out, error);

@@ -165,15 +165,16 @@ static inline int32_t hv_table_bounds_of(const hv_session *session, const hv_col
     return answer;
 }
 
-/* The same, looked for in a column of any type but lists. */
+/* The same, looked for in a column of any type but lists: by what is stored, whatever it means. */
 static inline int32_t hv_table_bounds(const hv_session *session, const hv_column *column, hv_column *out,
                                       hv_error *error) {
     hv_buffer texts[2] = {HV_BUFFER_EMPTY, HV_BUFFER_EMPTY};
+    hv_column stored = HV_EMPTY;
     hv_value ends[2];
     hv_error own;
-    int32_t answer = HV_OK;
     size_t room = 64;
     if (!error) error = &own; /* whose fields are read here */
+    int32_t answer = hv_with_type(column, NULL, 0, &stored, error);
     for (;;) {
         for (int i = 0; !answer && i < 2; i++) {
             texts[i].size = 0;
@@ -181,12 +182,13 @@ static inline int32_t hv_table_bounds(const hv_session *session, const hv_column
             answer = hv_buffer_answer(&texts[i], error);
         }
         if (!answer)
-            answer = hv_min_max(session, column, &ends[0], texts[0].at, room, &ends[1], texts[1].at, room, error);
+            answer = hv_min_max(session, &stored, &ends[0], texts[0].at, room, &ends[1], texts[1].at, room, error);
         if (answer != HV_COLUMN_LENGTH) break;
         answer = HV_OK;
         room = (size_t)error->first; /* a text has more bytes */
     }
     if (!answer) answer = hv_table_bounds_of(session, column, ends, texts, out, error);
+    hv_free(&stored);
     hv_buffer_free(&texts[0]);
     hv_buffer_free(&texts[1]);
     return answer;

@@ -15,7 +15,7 @@ inline Table Table::filter(const Column &mask) const {
 }
 template <class T> Table Table::filter_by(const std::string &name, Operator by, const T &value) const {
     const Column column = column_at(place_of(name));
-    return filter(detail::about_column(name, [&] { return detail::compare_rows(column, by, value); }));
+    return filter(detail::about_column(name, [&] { return column.compare(by, value); }));
 }
 template <class T> Table Table::filter_by(const std::string &name, const std::string &sign, const T &value) const {
     return filter_by(name, detail::operator_of(sign), value);

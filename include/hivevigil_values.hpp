@@ -6,6 +6,9 @@
 #include "hivevigil_errors.h"
 #include <cstddef>
 #include <cstdint>
+#include <cstdio>
+#include <cstdlib>
+#include <cstring>
 #include <iterator>
 #include <limits>
 #include <optional>
@@ -43,8 +46,8 @@ private:
 using Null = std::monostate;
 using Bytes = std::vector<uint8_t>;
 
-// A row: null, an integer, a boolean, a decimal, a text or bytes.
-using Value = std::variant<Null, uint64_t, int64_t, bool, Decimal, std::string, Bytes>;
+// A row: null, an integer, a boolean, a decimal, a text, bytes, or a float of any width as the double that it is.
+using Value = std::variant<Null, uint64_t, int64_t, bool, Decimal, std::string, Bytes, double>;
 
 // What rows add to a sum: the total, and the least and the greatest sum on the way, one of which is the 0 before the
 // first row. Each is high * 2^64 + low; for rows without sign the bits of `high` are those of a uint64_t.
@@ -52,24 +55,20 @@ struct SumParts {
     hv_pair total, least, greatest;
 };
 
-// A sum, a uint64_t of rows without sign, else an int64_t. `empty`: no row is valid, and the sum is 0.
+// A sum: a uint64_t of integers without sign, a Decimal of decimals, at the scale of their column, a double of floats,
+// else an int64_t. `empty`: no row is valid, and the sum is 0.
 struct Sum {
-    std::variant<uint64_t, int64_t> total;
+    std::variant<uint64_t, int64_t, Decimal, double> total;
     bool empty;
-    // The number as T, int64_t or uint64_t; none where T does not have it.
+    // The number as T; none where T does not have it, or is of another sort.
     template <class T> std::optional<T> get() const {
-        static_assert(std::is_same_v<T, int64_t> || std::is_same_v<T, uint64_t>, "a sum has 64 bits");
         if (auto *item = std::get_if<T>(&total)) return *item;
-        if (auto *item = std::get_if<int64_t>(&total); item && *item >= 0) return static_cast<T>(*item);
-        if (auto *item = std::get_if<uint64_t>(&total); item && *item <= INT64_MAX) return static_cast<T>(*item);
+        if constexpr (std::is_integral_v<T>) {
+            if (auto *item = std::get_if<int64_t>(&total); item && *item >= 0) return static_cast<T>(*item);
+            if (auto *item = std::get_if<uint64_t>(&total); item && *item <= INT64_MAX) return static_cast<T>(*item);
+        }
         return std::nullopt;
     }
-};
-
-// A sum of decimals, at the scale of their column. `empty`: no row is valid, and the sum is 0.
-struct DecimalSum {
-    Decimal total;
-    bool empty;
 };
 
 // Types by name, without null: hv::kinds::i64, and hv::nullable(hv::kinds::i64).
@@ -159,12 +158,31 @@ inline std::string to_string(hv_kind kind) {
     return text + (kind.nullable ? "?" : "");
 }
 
+namespace detail {
+
+// A float in the fewest digits that no other has.
+template <class T> std::string words_of_float(T number) {
+    uint64_t bits = 0;
+    std::memcpy(&bits, &number, sizeof number);
+    const int above_payload = sizeof number == sizeof bits ? 13 : 42; // the sign, the power and whether it is quiet
+    if (number != number) return bits << above_payload ? "a NaN with a payload" : "NaN";
+    char text[32];
+    for (int digits = std::numeric_limits<T>::digits10; digits <= std::numeric_limits<T>::max_digits10; digits++) {
+        std::snprintf(text, sizeof text, "%.*g", digits, static_cast<double>(number));
+        if (static_cast<T>(std::strtod(text, nullptr)) == number) break;
+    }
+    return text;
+}
+
+} // namespace detail
+
 // A row to look at: "null", numbers, "true", a text as it is, bytes in hexadecimal.
 inline std::string to_string(const Value &value) {
     if (auto *item = std::get_if<uint64_t>(&value)) return std::to_string(*item);
     if (auto *item = std::get_if<int64_t>(&value)) return std::to_string(*item);
     if (auto *item = std::get_if<bool>(&value)) return *item ? "true" : "false";
     if (auto *item = std::get_if<Decimal>(&value)) return to_string(*item);
+    if (auto *item = std::get_if<double>(&value)) return detail::words_of_float(*item);
     if (auto *item = std::get_if<std::string>(&value)) return *item;
     std::string text = std::holds_alternative<Null>(value) ? "null" : "";
     if (auto *item = std::get_if<Bytes>(&value))
@@ -250,6 +268,7 @@ private:
     void set(int64_t item) { value.kind = HV_SIGNED, value.as_signed = item; }
     void set(bool item) { value.kind = HV_TRUTH, value.truth = item; }
     void set(Decimal item) { value.kind = HV_DECIMAL_VALUE, value.as_unsigned = item.low, value.as_signed = item.high; }
+    void set(double item) { value.kind = HV_DOUBLE, std::memcpy(&value.as_unsigned, &item, sizeof item); }
     void set(const std::string &item) { point(HV_TEXT, reinterpret_cast<const uint8_t *>(item.data()), item.size()); }
     void set(const Bytes &item) { point(HV_BYTES, item.data(), item.size()); }
     void point(uint8_t kind, const uint8_t *bytes, size_t length) {
@@ -257,9 +276,25 @@ private:
     }
 };
 
+// A value that rows are compared with: a decimal as the number that it is, and an integer with a sign where it can be.
+inline Passed compared_with(const Value &value) {
+    Passed passed(value);
+    if (auto *number = std::get_if<Decimal>(&value)) passed.value.kind = HV_SCALED, passed.value.scale = number->scale;
+    if (auto *number = std::get_if<uint64_t>(&value); number && *number <= INT64_MAX)
+        passed.value.kind = HV_SIGNED, passed.value.as_signed = static_cast<int64_t>(*number);
+    return passed;
+}
+
+inline double double_of(uint64_t bits) {
+    double number;
+    std::memcpy(&number, &bits, sizeof number);
+    return number;
+}
+
 // What a call answered of a column of this type, with the buffer that it was given for a text.
 inline Value value_of(const hv_value &value, const Bytes &text, hv_kind kind) {
-    auto end = text.begin() + static_cast<std::ptrdiff_t>(value.kind >= HV_TEXT ? value.as_unsigned : 0);
+    const bool has_text = value.kind == HV_TEXT || value.kind == HV_BYTES;
+    auto end = text.begin() + static_cast<std::ptrdiff_t>(has_text ? value.as_unsigned : 0);
     switch (value.kind) {
     case HV_UNSIGNED: return value.as_unsigned;
     case HV_SIGNED: return value.as_signed;
@@ -267,6 +302,7 @@ inline Value value_of(const hv_value &value, const Bytes &text, hv_kind kind) {
     case HV_DECIMAL_VALUE: return Decimal{value.as_unsigned, value.as_signed, kind.scale};
     case HV_TEXT: return std::string(text.begin(), end);
     case HV_BYTES: return Bytes(text.begin(), end);
+    case HV_DOUBLE: return double_of(value.as_unsigned);
     default: return Null{};
     }
 }
@@ -327,11 +363,13 @@ template <class T> inline constexpr bool is_optional = !std::is_same_v<T, InnerO
 template <class T>
 inline constexpr bool is_row = is_number<InnerOf<T>> || is_text<InnerOf<T>> || std::is_same_v<InnerOf<T>, bool>;
 
-// An integer or a text of C++ as a value, bytes next to a column of bytes.
+// An integer or a text of C++ as a value, bytes next to a column of bytes; any other value as it is.
 template <class T> Value written(const T &item, hv_kind kind) {
     if constexpr (is_text<T>) {
         const std::string_view text = item;
         return kind.number == HV_BINARY ? Value(Bytes(text.begin(), text.end())) : Value(std::string(text));
+    } else if constexpr (!is_number<T>) {
+        return item;
     } else if constexpr (std::is_signed_v<T>) {
         return static_cast<int64_t>(item);
     } else {

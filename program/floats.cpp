@@ -70,6 +70,53 @@ static int compared(const Digits &left, const Digits &right) {
     return sign(left) < 0 ? -by_digits : by_digits;
 }
 
+// ---- Bits ----
+
+// How many bits a float of a width has after the point, and what is added to its power of two.
+struct FloatLayout {
+    int places, bias;
+};
+
+static FloatLayout float_layout_of(int width) {
+    switch (width) {
+    case 16: return {10, 15};
+    case 32: return {23, 127};
+    default: return {52, 1023};
+    }
+}
+
+static uint64_t bits_of_infinity(const FloatLayout &layout) {
+    return static_cast<uint64_t>(2 * layout.bias + 1) << layout.places;
+}
+
+using hv::detail::sign_bit;
+
+double float_of_bits(uint64_t bits, int width) {
+    const FloatLayout layout = float_layout_of(width);
+    const uint64_t size = bits & ~sign_bit(width), infinity = bits_of_infinity(layout);
+    const double sign = bits & sign_bit(width) ? -1 : 1;
+    if (size >= infinity) return size == infinity ? sign * HUGE_VAL : std::nan("");
+    const int power = static_cast<int>(size >> layout.places);
+    const uint64_t one = uint64_t{1} << layout.places, fraction = size & (one - 1);
+    return sign * std::ldexp(static_cast<double>(power ? one + fraction : fraction),
+                             std::max(power, 1) - layout.bias - layout.places);
+}
+
+// The float of this width that is nearest on the side of 0: of a finite number a finite one.
+static uint64_t bits_toward_zero(double number, int width) {
+    const FloatLayout layout = float_layout_of(width);
+    const uint64_t infinity = bits_of_infinity(layout), sign = std::signbit(number) ? sign_bit(width) : 0;
+    if (std::isnan(number)) return infinity + (uint64_t{1} << (layout.places - 1)); // a quiet one
+    if (std::isinf(number)) return sign + infinity;
+    if (number == 0) return sign;
+    int power = 0;
+    std::frexp(number, &power);
+    const int biased = std::max(power - 1 + layout.bias, 1); // also of numbers near to 0, which are spaced so
+    if (biased > 2 * layout.bias) return sign + infinity - 1;
+    const double scaled = std::ldexp(std::fabs(number), layout.places + layout.bias - biased);
+    return sign + (static_cast<uint64_t>(biased - 1) << layout.places) + static_cast<uint64_t>(scaled);
+}
+
 // ---- Texts ----
 
 // NaN or an infinity, as a text names it.
@@ -123,13 +170,16 @@ std::string text_of_float(double number) {
 
 // ---- Comparisons ----
 
-FloatComparison float_comparison(hv::Operator by, const std::string &text, int width) {
+FloatComparison float_comparison(hv::Operator by, const std::string &text) {
     const std::optional<double> near = float_of_text(text);
     if (!near) throw Failure("'" + text + "' is not a number");
     const std::optional<Digits> number = digits_of(text);
-    if (!number) return {by, bits_toward_zero(*near, width)};
+    if (!number) return {by, *near};
     const double finite = std::isinf(*near) ? std::copysign(std::numeric_limits<double>::max(), *near) : *near;
-    const uint64_t bits = bits_toward_zero(finite, width);
-    const int order = compared(*number, exact_digits(float_of_bits(bits, width)));
-    return hv::detail::float_comparison(by, bits, order, width);
+    const int order = compared(*number, exact_digits(finite)); // of which one is the double nearest to the other
+    if (order == 0) return {by, finite};
+    if (by == hv::Operator::equal || by == hv::Operator::not_equal) return {by, std::nan("")};
+    const bool is_below = by == hv::Operator::less || by == hv::Operator::less_or_equal;
+    if (order > 0) return {is_below ? hv::Operator::less_or_equal : hv::Operator::greater, finite};
+    return {is_below ? hv::Operator::less : hv::Operator::greater_or_equal, finite};
 }

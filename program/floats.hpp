@@ -1,8 +1,7 @@
-// Floats of 16, 32 and 64 bits: as texts, as doubles (which have the numbers of all three), as bits, and as keys, which
-// are what columns of floats store.
+// Floats of 16, 32 and 64 bits: as texts, as bits, and as doubles, which have the numbers of all three.
 #ifndef HIVEVIGIL_PROGRAM_FLOATS_HPP
 #define HIVEVIGIL_PROGRAM_FLOATS_HPP
-#include <hivevigil_float_bits.hpp>
+#include <hivevigil.hpp>
 #include <string>
 
 // ---- Texts ----
@@ -18,16 +17,19 @@ bool is_shortest_float(const std::string &text);
 // The shortest digits that only this double has: "0.1", "1e+300", "-0.0", "nan", "inf".
 std::string text_of_float(double number);
 
-// ---- Bits and keys, of floats of a width in bits ----
+// The float of a width that has these bits, as a double.
+double float_of_bits(uint64_t bits, int width);
 
-using hv::detail::bits_of_key;
-using hv::detail::bits_toward_zero;
-using hv::detail::float_of_bits;
-using hv::detail::FloatComparison;
-using hv::detail::key_of_bits;
+// ---- Comparisons ----
 
-// A comparison that answers as that with the number of a text, which may lie between two floats, or past all. Throws a
-// Failure where the text is not a number.
-FloatComparison float_comparison(hv::Operator by, const std::string &text, int width);
+// A comparison of floats with a double.
+struct FloatComparison {
+    hv::Operator by;
+    double number;
+};
+
+// One that answers as that with the number of a text, which may lie between two doubles, or past all. Throws a Failure
+// where the text is not a number.
+FloatComparison float_comparison(hv::Operator by, const std::string &text);
 
 #endif

@@ -167,7 +167,7 @@ static int64_t key_of_text(const std::string &text, const LogicalType &type) {
     const bool is_named = text.find_first_of("nN") != text.npos; // NaN and infinities
     if (!is_named && std::isinf(float_of_bits(*bits, type.width())))
         throw Failure("no " + type.name() + " is " + text);
-    return key_of_bits(*bits, type.width());
+    return hv::detail::key_of_bits(*bits, type.width());
 }
 
 Value value_of_text(const std::string &text, const RowType &type) {
@@ -205,77 +205,29 @@ static std::string text_of_count(int64_t count, const LogicalType &type) {
 }
 
 std::string csv_field(const Value &value, const RowType &type) {
-    const auto *stored = std::get_if<int64_t>(&value);
-    if (!type.logical || !stored) return csv_field(value);
-    if (!type.is_float()) return text_of_count(*stored, *type.logical);
-    const int width = type.logical->width();
-    return text_of_float(float_of_bits(bits_of_key(*stored, width), width));
+    const auto *count = std::get_if<int64_t>(&value);
+    return type.logical && count ? text_of_count(*count, *type.logical) : csv_field(value);
 }
 
 // ---- Asked ----
 
 Column compare_with_text(const Column &column, const RowType &type, hv::Operator by, const std::string &text) {
     if (!type.logical) return column.compare(by, value_of_text(text, type.kind));
-    if (!type.is_float()) return column.compare(by, count_of_text(text, *type.logical));
-    const FloatComparison asked = float_comparison(by, text, type.logical->width());
-    Column mask;
-    hv::detail::ask([&](auto *error) {
-        return hv_float_compare(column.raw(), static_cast<uint8_t>(asked.by), asked.bits, 1, mask.raw(), error);
-    });
-    return mask;
+    if (!type.is_float()) return column.with_logical_type("").compare(by, count_of_text(text, *type.logical));
+    const FloatComparison asked = float_comparison(by, text);
+    return column.compare(asked.by, asked.number);
 }
 
-Value extreme_of(const Column &column, const RowType &type, bool is_greatest) {
-    if (!type.is_float()) return is_greatest ? column.greatest() : column.least();
-    uint8_t is_found = 0;
-    uint64_t least = 0, greatest = 0;
-    hv::detail::ask([&](auto *error) {
-        return hv_float_min_max(column.raw(), 1, &is_found, &least, &greatest, error);
-    });
-    return is_found ? Value(key_of_bits(is_greatest ? greatest : least, type.logical->width())) : Value();
-}
-
-// The floats of a column as doubles, which are stored by other keys.
-static Column widened_rows(const Column &column, int width) {
-    std::vector<std::optional<int64_t>> keys;
-    for (const Value &value : column.decode()) {
-        const auto *key = std::get_if<int64_t>(&value);
-        if (!key) keys.push_back(std::nullopt);
-        else keys.push_back(key_of_bits(bits_toward_zero(float_of_bits(bits_of_key(*key, width), width), 64), 64));
-    }
-    return Column::of(keys);
-}
-
-// The same by runs where there are some: a constant of 2^60 rows, say, is one.
-static Column widened(const Column &column, int width) {
-    const size_t rows = column.size();
-    if (column.form() == hv::Form::runs)
-        return Column::runs(column.ends(), widened_rows(column.values(), width), column.offset(), rows);
-    if (column.form() != hv::Form::constant || rows == 0) return widened_rows(column, width);
-    return Column::runs(Column::of({uint64_t{rows}}), widened_rows(column.slice(0, 1), width), 0, rows);
-}
-
-static double sum_of_floats(const Column &column, int width) {
-    const Column wide = width == 64 ? column.clone() : widened(column, width);
-    uint64_t count = 0, bits = 0;
-    hv::detail::ask([&](auto *error) { return hv_float_sum(wide.raw(), &count, &bits, error); });
-    return float_of_bits(bits, 64);
-}
-
-// The sum as the library answers it: that of floats by its key.
 static Value total_of(const Column &column, const RowType &type) {
-    if (type.is_float()) return key_of_bits(bits_toward_zero(sum_of_floats(column, type.logical->width()), 64), 64);
-    if (type.kind.number == HV_DECIMAL) return column.decimal_sum().total;
-    return std::visit([](auto total) { return Value(total); }, column.sum().total);
+    try {
+        return std::visit([](auto total) { return Value(total); }, column.sum().total);
+    } catch (const hv::Error &error) {
+        if (error.number != HV_UNSUPPORTED) throw;
+        throw Failure(to_string(type) + " has no sum");
+    }
 }
 
-std::string sum_of(const Column &column, const RowType &type) {
-    if (type.logical && !type.is_float() && type.logical->sort != Sort::duration)
-        throw Failure(to_string(type) + " has no sum");
-    const Value total = total_of(column, type);
-    if (type.is_float()) return csv_field(total, {hv::kinds::i64, LogicalType{Sort::floating, "64", ""}});
-    return csv_field(total, type);
-}
+std::string sum_of(const Column &column, const RowType &type) { return csv_field(total_of(column, type), type); }
 
 bool has_mean(const RowType &type) {
     if (type.logical) return type.is_float();
@@ -302,10 +254,9 @@ static std::string text_of_quotient(const hv::Decimal &number, uint64_t by) {
     return text + (rest ? "1" : "0") + "e" + std::to_string(-number.scale);
 }
 
-std::optional<double> mean_of_sum(const Value &sum, const RowType &type, size_t count) {
+std::optional<double> mean_of_sum(const Value &sum, size_t count) {
     if (count == 0) return std::nullopt;
-    if (type.is_float())
-        return float_of_bits(bits_of_key(std::get<int64_t>(sum), 64), 64) / static_cast<double>(count);
+    if (auto *total = std::get_if<double>(&sum)) return *total / static_cast<double>(count);
     if (auto *total = std::get_if<hv::Decimal>(&sum)) return float_of_text(text_of_quotient(*total, count));
     if (auto *total = std::get_if<uint64_t>(&sum)) return float_of_text(text_of_quotient({*total, 0, 0}, count));
     return float_of_text(text_of_quotient(hv::Decimal::of(std::get<int64_t>(sum), 0), count));
@@ -313,6 +264,6 @@ std::optional<double> mean_of_sum(const Value &sum, const RowType &type, size_t 
 
 std::string mean_of(const Column &column, const RowType &type, size_t count) {
     if (!has_mean(type)) throw Failure(to_string(type) + " has no mean");
-    const std::optional<double> mean = mean_of_sum(total_of(column, type), type, count);
+    const std::optional<double> mean = mean_of_sum(total_of(column, type), count);
     return mean ? text_of_float(*mean) : "";
 }

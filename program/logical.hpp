@@ -50,17 +50,14 @@ std::string csv_field(const hv::Value &value, const RowType &type);
 // Row by row whether it compares so with the value of a text, null where the row is: exactly, also with one that the
 // type does not have. Throws a Failure that says what the text is not.
 hv::Column compare_with_text(const hv::Column &column, const RowType &type, hv::Operator by, const std::string &text);
-// The least or the greatest row that is not null, of floats that is a number; null where there is none.
-hv::Value extreme_of(const hv::Column &column, const RowType &type, bool is_greatest);
-// The sum of the rows that are not null: of decimals exact, of floats too, and rounded once to a double. Throws a
-// Failure where such rows have no sum.
+// The sum of the rows that are not null, as a field. Throws a Failure where such rows have no sum.
 std::string sum_of(const hv::Column &column, const RowType &type);
 
 // Has a column of this type a mean: integers, decimals and floats?
 bool has_mean(const RowType &type);
-// A sum of rows of a type that has a mean, as the library answers it, by how many rows they are: of integers and
-// decimals the exact quotient, and of floats the rounded sum, rounded once. None of no rows.
-std::optional<double> mean_of_sum(const hv::Value &sum, const RowType &type, size_t count);
+// A sum of rows that have a mean by how many they are: of integers and decimals the exact quotient, and of floats the
+// rounded sum, rounded once. None of no rows.
+std::optional<double> mean_of_sum(const hv::Value &sum, size_t count);
 // The mean of the rows that are not null, of which there are `count`, as a field; nothing where there is none. Throws a
 // Failure where such rows have none.
 std::string mean_of(const hv::Column &column, const RowType &type, size_t count);

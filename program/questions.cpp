@@ -84,31 +84,10 @@ Condition condition_of_text(const std::string &text) {
     throw BadUsage("'" + text + "' does not begin with an operator: = != < <= > >=, or eq ne lt le gt ge");
 }
 
-// A row for each run that the column shows, in their order.
-static Column one_of_each_run(const Column &column, const hv::Runs &runs) {
-    if (column.form() != Form::runs || runs.empty()) return column.slice(0, runs.size());
-    const size_t first = column.run_of(0);
-    return column.values().slice(first, first + runs.size());
-}
-
-// The runs that meet the condition, in memory by runs: a constant of 2^60 rows, say, has one.
-static Column runs_where(const Column &column, const RowType &type, const Condition &condition) {
-    const hv::Runs runs = column.runs();
-    const Column mask = compare_with_text(one_of_each_run(column, runs), type, condition.by, condition.value);
-    hv::Builder kept(column.kind());
-    for (size_t run = 0; run < runs.size(); run++) {
-        if (mask.at(run) != hv::Value(true)) continue;
-        const hv::Run found = runs.item(run);
-        kept.append(found.value, found.size());
-    }
-    return kept.finish().with_logical_type(column.logical_type());
-}
-
 Column rows_where(const Column &column, const RowType &type, const std::vector<Condition> &conditions) {
     Column rows = column.clone();
     for (const Condition &condition : conditions)
-        if (rows.form() != Form::flat) rows = runs_where(rows, type, condition);
-        else rows = rows.filter(compare_with_text(rows, type, condition.by, condition.value));
+        rows = rows.filter(compare_with_text(rows, type, condition.by, condition.value));
     return rows;
 }
 
@@ -128,7 +107,8 @@ std::string answer_of(const Column &column, const RowType &type, Question questi
     case Question::count: return std::to_string(count_valid(column));
     case Question::sum: return sum_of(column, type);
     case Question::mean: return mean_of(column, type, count_valid(column));
-    default: return csv_field(extreme_of(column, type, question == Question::greatest), type);
+    case Question::least: return csv_field(column.least(), type);
+    default: return csv_field(column.greatest(), type);
     }
 }
 

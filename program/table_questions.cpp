@@ -79,7 +79,7 @@ static hv::NamedColumn means_of(const hv::TableGroups &groups, const hv::NamedCo
     const Column counts = groups.fold({"", hv::Fold::count, values.name}).column;
     std::vector<std::optional<double>> means;
     for (size_t group = 0; group < groups.size(); group++)
-        means.push_back(mean_of_sum(sums.at(group), type, std::get<uint64_t>(counts.at(group))));
+        means.push_back(mean_of_sum(sums.at(group), std::get<uint64_t>(counts.at(group))));
     return {asked.name(), means};
 }
 

@@ -342,7 +342,7 @@ def check_refused_groups(program: Program) -> None:
     for words, said in (
         (["--sum=place"], "utf8? has no sum"), (["--mean=place"], "utf8? has no mean"),
         (["--by=level", "--mean=place"], "utf8? has no mean"),
-        (["--by=level", "--sum=place"], "rows of utf8? have no sum"),
+        (["--by=level", "--sum=place"], "utf8? has no sum"),
         (["--sum=day"], "date? has no sum"), (["--by=level", "--mean=day"], "date? has no mean"),
         (["--by=level", "--sum=day"], "rows of the logical type tdD have no sum"),
     ):

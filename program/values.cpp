@@ -1,5 +1,6 @@
 #include "values.hpp"
 #include "failure.hpp"
+#include "floats.hpp"
 #include <algorithm>
 
 static size_t digits_from(const std::string &text, size_t start) {
@@ -101,6 +102,7 @@ std::string csv_name(const std::string &name) {
 std::string csv_field(const hv::Value &value) {
     if (auto *text = std::get_if<std::string>(&value)) return csv_field(*text);
     if (std::holds_alternative<hv::Bytes>(value)) return csv_field(hv::to_string(value));
+    if (auto *number = std::get_if<double>(&value)) return text_of_float(*number);
     return std::holds_alternative<hv::Null>(value) ? "" : hv::to_string(value);
 }
 

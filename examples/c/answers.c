@@ -194,6 +194,53 @@ static void check_sums(void) {
     hv_free(&column);
 }
 
+/* the sum of this column under a format */
+static int32_t typed_sum(hv_column *column, const char *format, hv_total *total) {
+    hv_column typed = HV_EMPTY;
+    CHECK(!hv_with_type(column, (const uint8_t *)format, strlen(format), &typed, &error));
+    const int32_t answer = hv_sum(&session, &typed, total, &error);
+    FREE_ALL(column, &typed);
+    return answer;
+}
+
+static double double_of(const hv_total *total) {
+    double sum;
+    memcpy(&sum, &total->as_unsigned, sizeof sum);
+    return sum;
+}
+
+static void check_typed_sums(void) {
+    const int32_t days[2] = {3, 4};
+    const int64_t counts[3] = {5, -7, 9};
+    const double numbers[3] = {1.5, 100, 2.25};
+    const float singles[2] = {0.1f, 0.2f};
+    const uint8_t bits[1] = {0x05};
+    const hv_pair prices[2] = {{1999, 0}, {UINT64_MAX, -1}};
+    uint64_t patterns[3];
+    uint32_t narrow[2];
+    hv_total total;
+    hv_column column = HV_EMPTY, keys = HV_EMPTY;
+    FILL(total);
+    CHECK(!hv_decimals(prices, 2, 6, 2, NOT_NULLABLE, &column, &error) && !hv_sum(&session, &column, &total, &error));
+    CHECK(total.kind == HV_SCALED && total.as_unsigned == 1998 && total.as_signed == 0); /* 19.99 - 0.01 */
+    CHECK(total.scale == 2 && total.empty == 0);
+    memcpy(patterns, numbers, sizeof patterns), memcpy(narrow, singles, sizeof narrow);
+    CHECK(!hv_u64(patterns, 3, NULLS_BY(bits, 0), &column, &error) && !hv_float_encode(&column, 0, &keys, &error));
+    CHECK(!typed_sum(&keys, "g", &total) && total.kind == HV_DOUBLE && double_of(&total) == 3.75 && total.empty == 0);
+    CHECK(!hv_u32(narrow, 2, NOT_NULLABLE, &column, &error) && !hv_float_encode(&column, 0, &keys, &error));
+    CHECK(!typed_sum(&keys, "f", &total) && total.kind == HV_DOUBLE);
+    CHECK(double_of(&total) == (double)0.1f + (double)0.2f); /* which has 24 bits more at most */
+    CHECK(!hv_i64(NULL, 0, NO_NULLS, &keys, &error) && !typed_sum(&keys, "g", &total));
+    CHECK(total.kind == HV_DOUBLE && double_of(&total) == 0 && total.empty == 1);
+    CHECK(!hv_i64(counts, 3, NOT_NULLABLE, &keys, &error) && !typed_sum(&keys, "tDs", &total));
+    CHECK(total.kind == HV_SIGNED && total.as_signed == 7);
+    CHECK(!hv_i64(counts, 3, NOT_NULLABLE, &keys, &error) && !typed_sum(&keys, "e", &total)); /* as they are stored */
+    CHECK(total.kind == HV_SIGNED && total.as_signed == 7);
+    CHECK(!hv_i64(counts, 3, NOT_NULLABLE, &keys, &error) && typed_sum(&keys, "tsu:UTC", &total) == HV_UNSUPPORTED);
+    CHECK(!hv_i32(days, 2, NOT_NULLABLE, &keys, &error) && typed_sum(&keys, "tdD", &total) == HV_UNSUPPORTED);
+    FREE_ALL(&column, &keys);
+}
+
 static void check_questions(void) {
     const uint8_t same[3] = {6, 6, 6}, growing[3] = {1, 2, 4}, level[3] = {1, 1, 2}, falling[2] = {2, 1};
     uint8_t constant = 9, sorted = 9, strict = 9;
@@ -236,6 +283,7 @@ int main(void) {
     check_commands();
     check_operators();
     check_sums();
+    check_typed_sums();
     check_questions();
     check_extremes();
     puts("each call answers what it should");

@@ -47,13 +47,17 @@ static inline void check_refused(int32_t answer, int32_t number, const hv_error 
     exit(1);
 }
 
-/* A value as text: 1, -1, true, high:low, "text", <hex bytes> or null. */
+/* A value as text: 1, -1, true, high:low, "text", <hex bytes>, a float or null. */
 static inline int print_value(char *to, size_t room, hv_value value, const uint8_t *text) {
+    double number;
     switch (value.kind) {
     case HV_UNSIGNED: return snprintf(to, room, "%" PRIu64, value.as_unsigned);
     case HV_SIGNED: return snprintf(to, room, "%" PRId64, value.as_signed);
     case HV_TRUTH: return snprintf(to, room, "%s", value.truth == 1 ? "true" : value.truth == 0 ? "false" : "neither");
     case HV_DECIMAL_VALUE: return snprintf(to, room, "%" PRId64 ":%" PRIu64, value.as_signed, value.as_unsigned);
+    case HV_DOUBLE:
+        memcpy(&number, &value.as_unsigned, sizeof number);
+        return snprintf(to, room, "%g", number);
     case HV_TEXT: return snprintf(to, room, "\"%.*s\"", (int)value.as_unsigned, (const char *)text);
     case HV_BYTES: {
         size_t used = (size_t)snprintf(to, room, "<");

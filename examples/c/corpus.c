@@ -153,7 +153,7 @@ static size_t text_of_word(const char *text, uint8_t *bytes) {
 }
 
 static hv_value value_of_word(const char *text, hv_kind kind, uint8_t *bytes, size_t *len) {
-    hv_value value = {0, 0, HV_NULL, 0};
+    hv_value value = {0, 0, HV_NULL, 0, 0};
     *len = 0;
     if (!strcmp(text, "null")) return value;
     if (kind.number == HV_BOOL) value.kind = HV_TRUTH, value.truth = *text == 't';
@@ -236,7 +236,7 @@ static void make_flat(hv_column *out) {
     memset(&rows, 0, sizeof rows);
     while (word < word_count && !is_next("}")) add_row(&rows, kind, next());
     if (!strcmp(validity, "all-null")) { /* what a constant null is written out as */
-        const hv_value null = {0, 0, HV_NULL, 0};
+        const hv_value null = {0, 0, HV_NULL, 0, 0};
         hv_column nulls = HV_EMPTY;
         CHECK(!hv_constant(&kind, &null, NULL, 0, rows.count, &nulls, &error));
         CHECK(!hv_decode(&session, &nulls, out, &error));
@@ -336,6 +336,14 @@ static void read_bytes(const uint8_t *bytes, size_t len, const char *type, hv_co
     CHECK(count == strlen(type) && !memcmp(format, type, count));
 }
 
+/* Writes the rows as they are stored, whatever the format says of them. */
+static void show_stored(const hv_column *column) {
+    hv_column stored = HV_EMPTY;
+    CHECK(!hv_with_type(column, (const uint8_t *)"", 0, &stored, &error));
+    show(&stored);
+    hv_free(&stored);
+}
+
 /* Is the column made by calls too? */
 static bool check_line(const char *type, char *form, const char *rows, const char *digits) {
     static uint8_t bytes[LINE];
@@ -343,7 +351,7 @@ static bool check_line(const char *type, char *form, const char *rows, const cha
     hv_column column = HV_EMPTY, made = HV_EMPTY;
     for (size_t at = 0; at < len; at++) sscanf(digits + 2 * at, "%2" SCNx8, &bytes[at]);
     read_bytes(bytes, len, type, &column);
-    show(&column);
+    show_stored(&column);
     CHECK(!strcmp(shown, rows));
     expect_bytes(&column, type, bytes, len);
     word = word_count = 0;

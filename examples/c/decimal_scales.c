@@ -129,7 +129,7 @@ static hv_column column_in(int form, rows *it) {
     const hv_kind kind = {HV_DECIMAL, it->nullable, (uint8_t)it->precision, (int8_t)it->scale};
     if (form == 3 && it->count) {
         const hv_pair pair = pair_of(it->numbers[0]);
-        const hv_value value = {pair.low, pair.high, it->valid[0] ? HV_DECIMAL_VALUE : HV_NULL, 0};
+        const hv_value value = {pair.low, pair.high, it->valid[0] ? HV_DECIMAL_VALUE : HV_NULL, 0, 0};
         for (size_t row = 0; row < it->count; row++)
             it->valid[row] = it->valid[0], it->numbers[row] = it->numbers[0];
         CHECK(!hv_constant(&kind, &value, NO_TEXT, it->count, &flat, &error));
@@ -367,7 +367,7 @@ static void check_orders(void) {
 /* 2^60 rows of constants are as fast as one. */
 static void check_constants(void) {
     const hv_kind whole = {HV_DECIMAL, 0, 38, 0}, fine = {HV_DECIMAL, 1, 38, 20};
-    const hv_value many = {0, INT64_C(1) << 40, HV_DECIMAL_VALUE, 0}, five = {5, 0, HV_DECIMAL_VALUE, 0};
+    const hv_value many = {0, INT64_C(1) << 40, HV_DECIMAL_VALUE, 0, 0}, five = {5, 0, HV_DECIMAL_VALUE, 0, 0};
     const size_t rows = (size_t)1 << 60;
     hv_column a = HV_EMPTY, b = HV_EMPTY, mask = HV_EMPTY;
     hv_value value;

@@ -9,6 +9,7 @@ __extension__ typedef unsigned __int128 unsigned_wide;
 /* 10^38 - 1, the greatest number of 38 digits */
 #define GREATEST ((wide)9999999999999999999u * 10000000000000000000u + 9999999999999999999u)
 
+static hv_session session;
 static hv_error error;
 
 /* Rows of decimals, null where the flag is not set. */
@@ -92,17 +93,29 @@ static hv_column flat_column(const rows *it) {
     return flat;
 }
 
-/* The sum of a column; where it is refused, what it would write is as it was. */
+/* A total is this decimal. */
+static bool is_total(hv_total total, wide number, int8_t scale, bool is_empty) {
+    return total.kind == HV_SCALED && total.scale == scale && total.empty == is_empty &&
+           number_of((hv_pair){total.as_unsigned, total.as_signed}) == number;
+}
+
+/* What FILL makes of a total. */
+static bool is_untouched(const hv_total *total) {
+    hv_total before;
+    FILL(before);
+    return memcmp(total, &before, sizeof before) == 0;
+}
+
+/* The sum of a column of scale 2; where it is refused, what it would write is as it was. */
 static bool check_sum(const hv_column *column, due wanted, size_t rows) {
-    hv_pair sum = {7, 7};
-    uint8_t is_empty = 7;
+    hv_total total;
+    FILL(total);
     if (wanted.leaving < rows) {
-        CHECK_REFUSED(hv_decimal_sum(column, &sum, &is_empty, &error), HV_CAST_OUT_OF_RANGE, wanted.leaving, 0, 0);
-        CHECK(sum.low == 7 && sum.high == 7 && is_empty == 7);
+        CHECK_REFUSED(hv_sum(&session, column, &total, &error), HV_CAST_OUT_OF_RANGE, wanted.leaving, 0, 0);
+        CHECK(is_untouched(&total));
         return false;
     }
-    CHECK(!hv_decimal_sum(column, &sum, &is_empty, &error));
-    CHECK(number_of(sum) == wanted.sum && is_empty == wanted.is_empty);
+    CHECK(!hv_sum(&session, column, &total, &error) && is_total(total, wanted.sum, 2, wanted.is_empty));
     return true;
 }
 
@@ -124,18 +137,17 @@ static bool check_trial(void) {
 
 /* 10^20 in each row of a constant: 10^18 rows add up to 10^38. */
 static void check_constants(void) {
-    const hv_value value = {7766279631452241920u, 5, HV_DECIMAL_VALUE, 0};
+    const hv_value value = {7766279631452241920u, 5, HV_DECIMAL_VALUE, 0, 0};
     const hv_kind kind = {HV_DECIMAL, 0, 38, 0};
     hv_column many = HV_EMPTY, none = HV_EMPTY;
-    hv_pair sum;
-    uint8_t is_empty;
+    hv_total total;
     CHECK(!hv_constant(&kind, &value, NO_TEXT, 999999999999999999u, &many, &error));
-    CHECK(!hv_decimal_sum(&many, &sum, &is_empty, &error) && !is_empty);
-    CHECK(number_of(sum) == (wide)999999999999999999u * 10000000000u * 10000000000u);
+    CHECK(!hv_sum(&session, &many, &total, &error));
+    CHECK(is_total(total, (wide)999999999999999999u * 10000000000u * 10000000000u, 0, false));
     CHECK(!hv_constant(&kind, &value, NO_TEXT, UINT64_MAX, &many, &error));
-    CHECK_REFUSED(hv_decimal_sum(&many, &sum, &is_empty, &error), HV_CAST_OUT_OF_RANGE, 999999999999999999u, 0, 0);
+    CHECK_REFUSED(hv_sum(&session, &many, &total, &error), HV_CAST_OUT_OF_RANGE, 999999999999999999u, 0, 0);
     CHECK(!hv_constant(&kind, &value, NO_TEXT, 0, &none, &error));
-    CHECK(!hv_decimal_sum(&none, &sum, &is_empty, &error) && is_empty == 1 && number_of(sum) == 0);
+    CHECK(!hv_sum(&session, &none, &total, &error) && is_total(total, 0, 0, true));
     hv_free(&many);
     hv_free(&none);
 }
@@ -152,16 +164,25 @@ static void check_the_way(void) {
     hv_free(&flat);
 }
 
+/* Integers are not decimals: their sum is an integer. Booleans, texts, dates and no column have none. */
 static void check_refusals(void) {
     const int64_t numbers[2] = {4, 5};
-    hv_column wrong = HV_EMPTY, none = HV_EMPTY;
-    hv_pair sum = {7, 7};
-    uint8_t is_empty = 7;
-    CHECK(!hv_i64(numbers, 2, NOT_NULLABLE, &wrong, &error));
-    CHECK_REFUSED(hv_decimal_sum(&wrong, &sum, &is_empty, &error), HV_UNSUPPORTED, 0, 0, 0);
-    CHECK(hv_decimal_sum(&none, &sum, &is_empty, NULL) == HV_NO_COLUMN);
-    CHECK(sum.low == 7 && sum.high == 7 && is_empty == 7);
-    hv_free(&wrong);
+    const uint8_t truths[1] = {1};
+    const int32_t offsets[2] = {0, 1};
+    hv_column integers = HV_EMPTY, dates = HV_EMPTY, flags = HV_EMPTY, texts = HV_EMPTY, none = HV_EMPTY;
+    hv_total total;
+    CHECK(!hv_i64(numbers, 2, NOT_NULLABLE, &integers, &error));
+    CHECK(!hv_sum(&session, &integers, &total, &error) && total.kind == HV_SIGNED && total.as_signed == 9);
+    CHECK(!hv_with_type(&integers, (const uint8_t *)"tdm", 3, &dates, &error));
+    CHECK(!hv_bools(truths, 1, 0, 1, NOT_NULLABLE, &flags, &error));
+    CHECK(!hv_texts(0, offsets, 2, (const uint8_t *)"4", 1, NOT_NULLABLE, &texts, &error));
+    FILL(total);
+    CHECK_REFUSED(hv_sum(&session, &dates, &total, &error), HV_UNSUPPORTED, 0, 0, 0);
+    CHECK_REFUSED(hv_sum(&session, &flags, &total, &error), HV_UNSUPPORTED, 0, 0, 0);
+    CHECK_REFUSED(hv_sum(&session, &texts, &total, &error), HV_UNSUPPORTED, 0, 0, 0);
+    CHECK(hv_sum(&session, &none, &total, NULL) == HV_NO_COLUMN);
+    CHECK(is_untouched(&total));
+    hv_free(&integers), hv_free(&dates), hv_free(&flags), hv_free(&texts);
 }
 
 /* ---- Two columns ---- */
@@ -221,7 +242,7 @@ static hv_column column_in(int form, rows *it, uint8_t precision, int8_t scale) 
     for (size_t row = 0; form == 3 && row < it->count; row++) it->valid[row] = true, it->numbers[row] = it->numbers[0];
     if (form == 3 && it->count) {
         const hv_pair pair = pair_of(it->numbers[0]);
-        const hv_value value = {pair.low, pair.high, HV_DECIMAL_VALUE, 0};
+        const hv_value value = {pair.low, pair.high, HV_DECIMAL_VALUE, 0, 0};
         const hv_kind kind = {HV_DECIMAL, 1, precision, scale};
         CHECK(!hv_constant(&kind, &value, NO_TEXT, it->count, &flat, &error));
         return flat;
@@ -369,6 +390,7 @@ static void check_pairs_refused(void) {
 }
 
 int main(void) {
+    hv_session_initial(&session);
     int summed = 0, paired = 0;
     for (int i = 0; i < TRIALS; i++) summed += check_trial();
     CHECK(summed > TRIALS / 8 && summed < TRIALS - TRIALS / 8);

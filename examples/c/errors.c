@@ -105,7 +105,7 @@ static void check_tables(void) {
     error.third = HV_TABLE_WITHOUT_SUM;
     CHECK(strcmp(hv_table_error_text(HV_UNSUPPORTED, &error, text), "rows of this type have no sum") == 0);
     const hv_error greatest = {UINT64_MAX, UINT64_MAX, UINT64_MAX};
-    for (int32_t number = HV_TABLE_UNKNOWN_NAME; number <= HV_TABLE_KEY_OF_LISTS; number++) {
+    for (int32_t number = HV_TABLE_UNKNOWN_NAME; number <= HV_TABLE_SUM_OVERFLOW; number++) {
         CHECK(strcmp(hv_table_error_name(number), "unknown") != 0);
         CHECK(strlen(hv_table_error_text(number, &greatest, text)) < HV_ERROR_TEXT - 1);
         CHECK(strncmp(text, "error ", 6) != 0);

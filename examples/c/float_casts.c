@@ -14,12 +14,12 @@ typedef struct rows {
     bool valid[MOST];
 } rows;
 
-/* A format: how many bits its floats and their fractions have, and the types of its bits and keys. */
+/* A format: how many bits its floats and their fractions have, the type of its keys, and how Arrow names it. */
 typedef struct format {
     int width, fraction;
-    uint8_t keys;
+    uint8_t keys, name;
 } format;
-static const format formats[FORMATS] = {{16, 10, HV_I16}, {32, 23, HV_I32}, {64, 52, HV_I64}};
+static const format formats[FORMATS] = {{16, 10, HV_I16, 'e'}, {32, 23, HV_I32, 'f'}, {64, 52, HV_I64, 'g'}};
 
 /* What a number becomes in a format, and whether that is the same number. */
 typedef struct cast {
@@ -113,6 +113,13 @@ static cast float_cast(const format *from, uint64_t bits, const format *to) {
     return (cast){made, number_in(to, made) == number};
 }
 
+/* The bits of the double that a float is: of a NaN, with its sign, and its payload in front of bits that are 0. */
+static uint64_t widened(const format *it, uint64_t bits) {
+    if (magnitude_of(it, bits) <= infinity_of(it)) return bits_of(number_in(it, bits));
+    const uint64_t payload = magnitude_of(it, bits) - infinity_of(it);
+    return sign_of(it, bits) << 63 | UINT64_C(0x7ff) << 52 | payload << (52 - it->fraction);
+}
+
 /* Numbers that each format has, and that only some have: small integers, both zeros, ties, subnormals, NaNs. */
 static uint64_t some_double(void) {
     static const uint64_t special[] = {
@@ -159,18 +166,30 @@ static hv_column flat_column(const rows *it, int width, bool is_signed) {
     return flat;
 }
 
-/* The floats of a column have these bits, null where the row is; they are as few runs as possible. */
+/* The floats of a column have these bits, null where the row is, and are the doubles of the same numbers under their
+ * format; they are as few runs as possible. */
 static void check_floats(const hv_column *floats, const rows *it, const cast *casts, const format *to) {
     size_t runs = 0, found = 0;
+    uint64_t wide[MOST + 1];
+    uint32_t singles[MOST + 1];
+    uint16_t shorts[MOST + 1];
+    hv_column typed = HV_EMPTY, read = HV_EMPTY;
+    CHECK(!hv_with_type(floats, &to->name, 1, &typed, &error) && !hv_float_decode(floats, &read, &error));
+    if (to->width == 64) CHECK(!hv_read_u64(&read, 0, wide, it->count, &error));
+    else if (to->width == 32) CHECK(!hv_read_u32(&read, 0, singles, it->count, &error));
+    else CHECK(!hv_read_u16(&read, 0, shorts, it->count, &error));
     CHECK(hv_length(floats) == it->count && hv_kind_of(floats).number == to->keys && hv_form(floats) == FORM_RUNS);
     for (size_t row = 0; row < it->count; row++) {
-        uint8_t is_valid = 9;
-        uint64_t bits = 9;
-        CHECK(!hv_float_at(floats, row, &is_valid, &bits, &error));
-        CHECK(is_valid == it->valid[row] && bits == (is_valid ? casts[row].bits : 0));
+        const bool is_valid = it->valid[row];
+        const uint64_t bits = to->width == 64 ? wide[row] : to->width == 32 ? singles[row] : shorts[row];
+        hv_value value;
+        FILL(value);
+        CHECK(!hv_at(&typed, row, &value, NULL, 0, &error) && value.kind == (is_valid ? HV_DOUBLE : HV_NULL));
+        CHECK(!is_valid || (bits == casts[row].bits && value.as_unsigned == widened(to, casts[row].bits)));
         runs += !row || it->valid[row] != it->valid[row - 1] || (is_valid && casts[row].bits != casts[row - 1].bits);
     }
     CHECK(!hv_run_count(floats, &found, &error) && found == runs);
+    hv_free(&typed), hv_free(&read);
 }
 
 /* A cast that rounds, and one that does not: refused exactly where a row is another number. */

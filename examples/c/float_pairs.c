@@ -137,25 +137,43 @@ static uint64_t given(uint8_t operator_, int width, uint64_t left, uint64_t righ
     return isnan(number) ? 0x7ff8000000000000 : bits;
 }
 
+/* The bits of the double that has the same number as a float: of an answer that is a NaN, the quiet one. */
+static uint64_t widened(int width, uint64_t bits) {
+    const double number = width == 32 ? (double)single_of(bits) : double_of(bits);
+    uint64_t wide;
+    memcpy(&wide, &number, sizeof wide);
+    return isnan(number) ? 0x7ff8000000000000 : wide;
+}
+
 static void check_answers(uint8_t operator_, const rows *left, const rows *right, const hv_column *columns) {
     const bool are_constants = hv_form(&columns[0]) == FORM_CONSTANT && hv_form(&columns[1]) == FORM_CONSTANT;
     size_t runs = 1, due_runs = 0;
     uint64_t before = 0;
     bool valid_before = false;
+    uint32_t singles[MOST + 1];
+    uint64_t doubles[MOST + 1];
+    hv_column typed = HV_EMPTY, read = HV_EMPTY;
     CHECK(!hv_float_combine(&columns[0], operator_, &columns[1], &out, &error));
+    CHECK(!hv_with_type(&out, (const uint8_t *)(left->width == 32 ? "f" : "g"), 1, &typed, &error));
+    CHECK(!hv_float_decode(&out, &read, &error));
+    if (left->width == 32) CHECK(!hv_read_u32(&read, 0, singles, left->count, &error));
+    else CHECK(!hv_read_u64(&read, 0, doubles, left->count, &error));
     CHECK(hv_length(&out) == left->count && hv_kind_of(&out).number == (left->width == 32 ? HV_I32 : HV_I64));
     CHECK(hv_kind_of(&out).nullable == 1 && hv_form(&out) == (are_constants ? FORM_CONSTANT : FORM_RUNS));
     for (size_t row = 0; row < left->count; row++) {
         const bool due_valid = left->valid[row] && right->valid[row];
         const uint64_t due = due_valid ? given(operator_, left->width, left->bits[row], right->bits[row]) : 0;
-        uint8_t is_valid = 9;
-        uint64_t bits = 9;
-        CHECK(!hv_float_at(&out, row, &is_valid, &bits, &error) && is_valid == due_valid && bits == due);
+        hv_value value;
+        FILL(value);
+        CHECK(!hv_at(&typed, row, &value, NULL, 0, &error) && value.kind == (due_valid ? HV_DOUBLE : HV_NULL));
+        CHECK(!due_valid || value.as_unsigned == widened(left->width, due));
+        CHECK(!due_valid || (left->width == 32 ? singles[row] : doubles[row]) == due);
         due_runs += !row || due != before || due_valid != valid_before;
         before = due, valid_before = due_valid;
     }
     CHECK(are_constants || !hv_run_count(&out, &runs, &error));
     CHECK(runs == due_runs);
+    hv_free(&typed), hv_free(&read);
 }
 
 static void check_trial(void) {
@@ -176,15 +194,16 @@ static void check_constants(void) {
     const hv_kind kind = {HV_I64, 0, 0, 0};
     const hv_value one = {.kind = HV_SIGNED, .as_signed = INT64_C(0x3ff0000000000000)}, zero = {.kind = HV_SIGNED};
     const size_t many = (size_t)1 << 60;
-    hv_column a = HV_EMPTY, b = HV_EMPTY;
-    uint8_t is_valid;
-    uint64_t bits;
+    hv_column a = HV_EMPTY, b = HV_EMPTY, typed = HV_EMPTY;
+    hv_value last;
     CHECK(!hv_constant(&kind, &one, NO_TEXT, many, &a, &error));
     CHECK(!hv_constant(&kind, &zero, NO_TEXT, many, &b, &error));
     CHECK(!hv_float_combine(&a, HV_DIVIDE, &b, &out, &error));
     CHECK(hv_form(&out) == FORM_CONSTANT && hv_length(&out) == many && hv_kind_of(&out).nullable == 0);
-    CHECK(!hv_float_at(&out, many - 1, &is_valid, &bits, &error) && is_valid == 1 && double_of(bits) == INFINITY);
-    hv_free(&a), hv_free(&b);
+    CHECK(!hv_with_type(&out, (const uint8_t *)"g", 1, &typed, &error));
+    CHECK(!hv_at(&typed, many - 1, &last, NULL, 0, &error) && last.kind == HV_DOUBLE);
+    CHECK(double_of(last.as_unsigned) == INFINITY);
+    hv_free(&a), hv_free(&b), hv_free(&typed);
 }
 
 /* Columns that are not of floats, of two formats, of 16 bits, of two lengths; no column; no operator. */

@@ -122,6 +122,7 @@ CALL(choose_plain, hv_if_else(&mask.column, &plain.column, &times.column, &out, 
 CALL(cast, hv_cast(&session, &times.column, &i32_or_null, &out, &error))
 CALL(compare, hv_compare(&session, &times.column, HV_LT, &again.column, &out, &error))
 CALL(compare_scalar, hv_compare_scalar(&session, &times.column, HV_LT, &five, NO_TEXT, &out, &error))
+CALL(compare_number, hv_compare_number(&keys.column, HV_LT, &five, &out, &error))
 CALL(add, hv_combine(&times.column, HV_ADD, &again.column, &out, &error))
 CALL(coalesce, hv_combine(&times.column, HV_COALESCE, &again.column, &out, &error))
 CALL(negate, hv_not(&mask.column, &out, &error))
@@ -188,6 +189,7 @@ static const made table[] = {
     MADE(rows_by, "tsu:UTC", ""), MADE(count_by, "tsu:UTC", ""), MADE(least_by, "tsu:UTC", "tDs"),
     MADE(greatest_by, "tsu:UTC", "tDs"), MADE(first_by, "tsu:UTC", "tDs"), MADE(last_by, "tsu:UTC", "tDs"),
     MADE(first_by_texts, "u", "tDm"), MADE(cast, "", NULL), MADE(compare, "", NULL), MADE(compare_scalar, "", NULL),
+    MADE(compare_number, "", NULL),
     MADE(add, "", NULL), MADE(coalesce, "", NULL), MADE(negate, "", NULL), MADE(nulls, "", NULL), MADE(valid, "", NULL),
     MADE(float_encode, "", NULL), MADE(float_decode, "", NULL), MADE(float_compare, "", NULL),
     MADE(float_cast, "", NULL), MADE(float_of_integers, "", NULL), MADE(float_add, "", NULL),

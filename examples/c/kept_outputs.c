@@ -77,7 +77,7 @@ static void check_offsets(void) {
     static uint8_t part[PART];
     static int32_t offsets[PARTS + 1];
     const hv_kind utf8 = {HV_UTF8, 0, 0, 0};
-    const hv_value value = {PART, 0, HV_TEXT, 0};
+    const hv_value value = {PART, 0, HV_TEXT, 0, 0};
     hv_column texts = HV_EMPTY;
     memset(part, 'a', sizeof part);
     CHECK(!hv_constant(&utf8, &value, part, PART, PARTS, &texts, &error));
@@ -121,7 +121,7 @@ static void check_bytes_of_lists(void) {
 static void check_long_texts(void) {
     static uint8_t text[LONG_TEXT], message[2 * LONG_TEXT], found[LONG_TEXT];
     const hv_kind utf8 = {HV_UTF8, 0, 0, 0};
-    const hv_value value = {LONG_TEXT, 0, HV_TEXT, 0};
+    const hv_value value = {LONG_TEXT, 0, HV_TEXT, 0, 0};
     hv_column texts = HV_EMPTY, read = HV_EMPTY;
     hv_value row;
     size_t size, written;

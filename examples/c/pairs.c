@@ -297,7 +297,7 @@ static void check_ends(void) {
 /* Constants of 2^60 rows make a constant; a constant and runs make runs. */
 static void check_constants(void) {
     const hv_kind kind = {HV_I32, 0, 0, 0};
-    const hv_value five = {0, 5, HV_SIGNED, 0}, seven = {0, 7, HV_SIGNED, 0};
+    const hv_value five = {0, 5, HV_SIGNED, 0, 0}, seven = {0, 7, HV_SIGNED, 0, 0};
     const int32_t items[4] = {1, 1, 1, 2};
     const size_t many = (size_t)1 << 60;
     hv_column a = HV_EMPTY, b = HV_EMPTY, flat = HV_EMPTY, four = HV_EMPTY;

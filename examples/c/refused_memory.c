@@ -11,12 +11,13 @@ static hv_error error;
 static hv_column flat = HV_EMPTY, runs = HV_EMPTY, part = HV_EMPTY, texts = HV_EMPTY, truths = HV_EMPTY,
                  decimals = HV_EMPTY, whole_decimals = HV_EMPTY, decimal_runs = HV_EMPTY;
 static hv_column ends = HV_EMPTY, values = HV_EMPTY, places = HV_EMPTY, constant = HV_EMPTY, large_texts = HV_EMPTY;
-static hv_column whole_floats = HV_EMPTY, truth_runs = HV_EMPTY, place_runs = HV_EMPTY, text_runs = HV_EMPTY;
+static hv_column whole_floats = HV_EMPTY, doubles = HV_EMPTY, part_of_doubles = HV_EMPTY, flat_doubles = HV_EMPTY;
+static hv_column truth_runs = HV_EMPTY, place_runs = HV_EMPTY, text_runs = HV_EMPTY;
 static hv_column lists = HV_EMPTY, list_runs = HV_EMPTY, decoded_lists = HV_EMPTY, part_of_durations = HV_EMPTY;
 static hv_column *const lent[] = {&flat, &runs,   &part,   &texts,    &truths,     &decimals,
                                   &ends, &values, &places, &constant, &large_texts, &truth_runs, &place_runs, &text_runs,
                                   &whole_floats, &whole_decimals, &lists, &list_runs, &decoded_lists, &decimal_runs,
-                                  &part_of_durations};
+                                  &part_of_durations, &doubles, &part_of_doubles, &flat_doubles};
 static char rows_before[COUNT(lent)][8192];
 /* constants of 2^60 rows, and a mask of as many in two runs; their rows are not shown */
 #define MANY (UINT64_C(1) << 60)
@@ -44,6 +45,7 @@ static const hv_pair pairs[2] = {{5, 0}, {UINT64_MAX, -1}};
 static const hv_kind i32_type = {HV_I32, 1, 0, 0}, i64_type = {HV_I64, 1, 0, 0}, text_type = {HV_UTF8, 0, 0, 0};
 static const hv_kind i64_or_null = {HV_I64, 1, 0, 0}, text_or_null = {HV_UTF8, 1, 0, 0};
 static const hv_value five = {.kind = HV_SIGNED, .as_signed = 5}, letter = {.kind = HV_TEXT, .as_unsigned = 1};
+static const hv_value a_half = {.kind = HV_DOUBLE, .as_unsigned = UINT64_C(0x3fe0000000000000)};
 
 /* numbers in stretches of three, two of seven null; texts of four letters each */
 static void write_items(void) {
@@ -107,6 +109,9 @@ static void make_lent(void) {
     CHECK(!hv_ends(&part, &ends, &error) && !hv_values(&part, &values, &error));
     CHECK(!hv_u16(some_places, 5, NOT_NULLABLE, &places, &error));
     CHECK(!hv_float_of_integers(&part, HV_I64, 0, &whole_floats, &error));
+    CHECK(!hv_with_type(&whole_floats, (const uint8_t *)"g", 1, &doubles, &error));
+    CHECK(!hv_with_type(&part, (const uint8_t *)"g", 1, &part_of_doubles, &error));
+    CHECK(!hv_with_type(&flat, (const uint8_t *)"g", 1, &flat_doubles, &error));
     CHECK(!hv_decimal_cast(&part, 12, 2, &whole_decimals, &error));
     make_run_columns();
     make_list_columns();
@@ -144,7 +149,6 @@ static hv_value value, greatest;
 static uint8_t text[64], letter_room[8], truth, message[2048];
 static uint64_t words[ROWS + 1];
 static size_t size, stop;
-static hv_pair decimal_sum;
 
 #define STEP(name, call) \
     static int32_t name(void) { return call; }
@@ -187,6 +191,11 @@ STEP(take_from, hv_take_from(&session, &places, &runs, &out, &error))
 STEP(compare, hv_compare(&session, &runs, HV_LE, &flat, &out, &error))
 STEP(compare_scalar, hv_compare_scalar(&session, &runs, HV_GT, &five, NO_TEXT, &out, &error))
 STEP(compare_text, hv_compare_scalar(&session, &texts, HV_GT, &letter, letters, 1, &out, &error))
+STEP(compare_number, hv_compare_number(&runs, HV_LT, &a_half, &out, &error))
+STEP(compare_decimals, hv_compare_number(&decimals, HV_GE, &five, &out, &error))
+STEP(compare_double, hv_compare_number(&doubles, HV_NE, &a_half, &out, &error))
+STEP(compare_flat, hv_compare_number(&flat, HV_LE, &a_half, &out, &error))
+STEP(compare_many, hv_compare_number(&many, HV_GT, &a_half, &out, &error))
 STEP(fill, hv_fill(&session, &runs, &five, NO_TEXT, &out, &error))
 STEP(fill_text, hv_fill(&session, &texts, &letter, letters, 1, &out, &error))
 /* the places are bits of floats of 16 bits, and the numbers are keys of floats of 64 */
@@ -195,10 +204,12 @@ STEP(make_floats_of_runs, hv_float_encode(&place_runs, 0, &out, &error))
 STEP(decode_floats, hv_float_decode(&runs, &out, &error))
 STEP(compare_floats, hv_float_compare(&runs, HV_LT, 7, 1, &out, &error))
 STEP(order_floats, hv_float_compare(&part, HV_LT, 7, 0, &out, &error))
-STEP(least_float, hv_float_min_max(&part, 1, &truth, words, words + 1, &error))
-STEP(first_float, hv_float_min_max(&flat, 0, &truth, words, words + 1, &error))
-STEP(sum_floats, hv_float_sum(&part, words, words + 1, &error))
-STEP(read_float, hv_float_at(&runs, 3, &truth, words, &error))
+STEP(least_float, hv_min_max(&session, &part_of_doubles, &value, NULL, 0, &greatest, NULL, 0, &error))
+STEP(least_flat_float, hv_min_max(&session, &flat_doubles, &value, NULL, 0, &greatest, NULL, 0, &error))
+STEP(first_float, hv_min_max(&session, &flat, &value, NULL, 0, &greatest, NULL, 0, &error))
+STEP(sum_floats, hv_sum(&session, &part_of_doubles, &total, &error))
+STEP(sum_flat_floats, hv_sum(&session, &flat_doubles, &total, &error))
+STEP(read_float, hv_at(&doubles, 3, &value, NULL, 0, &error))
 STEP(cast_floats, hv_float_cast(&part, HV_I32, 1, &out, &error))
 STEP(cast_same_floats, hv_float_cast(&runs, HV_I64, 0, &out, &error))
 STEP(cast_integers, hv_float_of_integers(&runs, HV_I64, 0, &out, &error))
@@ -212,7 +223,8 @@ STEP(compare_constant, hv_compare_scalar(&session, &many_texts, HV_GT, &letter, 
 STEP(fill_constant, hv_fill(&session, &many_texts, &letter, letters, 1, &out, &error))
 STEP(filter_constant, hv_filter(&session, &many_texts, &many_truths, &out, &error))
 STEP(sum, hv_sum(&session, &runs, &total, &error))
-STEP(sum_decimals, hv_decimal_sum(&decimals, &decimal_sum, &truth, &error))
+STEP(sum_decimals, hv_sum(&session, &decimals, &total, &error))
+STEP(sum_decimal_runs, hv_sum(&session, &decimal_runs, &total, &error))
 STEP(cast_decimals, hv_decimal_cast(&decimals, 12, 4, &out, &error))
 STEP(cast_to_decimals, hv_decimal_cast(&part, 12, 4, &out, &error))
 STEP(cast_decimals_to_integers, hv_decimal_to_integers(&whole_decimals, HV_I16, &out, &error))
@@ -440,16 +452,19 @@ static const step steps[] = {
     NAMED(finish_numbers), NAMED(finish_texts),
     NAMED(compact_runs), NAMED(compact_texts),
     NAMED(slice_runs), NAMED(slice_texts), NAMED(cast), NAMED(take), NAMED(take_texts), NAMED(filter),
-    NAMED(filter_texts), NAMED(filter_by_runs), NAMED(take_by_runs), NAMED(take_from), NAMED(compare), NAMED(compare_scalar), NAMED(compare_text), NAMED(fill),
+    NAMED(filter_texts), NAMED(filter_by_runs), NAMED(take_by_runs), NAMED(take_from), NAMED(compare), NAMED(compare_scalar), NAMED(compare_text),
+    NAMED(compare_number), NAMED(compare_decimals), NAMED(compare_double), NAMED(compare_flat), NAMED(compare_many), NAMED(fill),
     NAMED(fill_text), NAMED(sum_by_runs), NAMED(sum_by_texts), NAMED(total_flat), NAMED(total_runs), NAMED(add_runs), NAMED(add_constants),
     NAMED(connect_runs), NAMED(less_by_runs), NAMED(pick_runs), NAMED(negate_runs), NAMED(null_texts),
     NAMED(valid_runs), NAMED(choose_runs), NAMED(equal_runs), NAMED(hash_runs), NAMED(hash_texts), NAMED(parts_of_runs), NAMED(make_floats),
     NAMED(make_floats_of_runs), NAMED(decode_floats), NAMED(compare_floats), NAMED(order_floats), NAMED(least_float),
-    NAMED(first_float), NAMED(sum_floats), NAMED(read_float), NAMED(cast_floats), NAMED(cast_same_floats),
+    NAMED(least_flat_float), NAMED(first_float), NAMED(sum_floats), NAMED(sum_flat_floats), NAMED(read_float),
+    NAMED(cast_floats), NAMED(cast_same_floats),
     NAMED(cast_integers), NAMED(round_integers), NAMED(cast_to_integers), NAMED(divide_floats), NAMED(divide_constants), NAMED(reverse_runs), NAMED(reverse_texts),
     NAMED(sort_runs), NAMED(sort_texts), NAMED(sort_constant), NAMED(count_runs), NAMED(count_texts),
     NAMED(cast_constant), NAMED(compare_constants),
-    NAMED(compare_constant), NAMED(fill_constant), NAMED(filter_constant), NAMED(sum), NAMED(sum_decimals), NAMED(cast_decimals),
+    NAMED(compare_constant), NAMED(fill_constant), NAMED(filter_constant), NAMED(sum), NAMED(sum_decimals),
+    NAMED(sum_decimal_runs), NAMED(cast_decimals),
     NAMED(cast_to_decimals), NAMED(cast_decimals_to_integers), NAMED(multiply_decimals),
     NAMED(is_constant), NAMED(is_sorted), NAMED(extreme), NAMED(extreme_text),
     NAMED(min_max_numbers),
@@ -500,10 +515,10 @@ static bool try_step(const step *it, long number, bool rest) {
 }
 
 /* Reads, messages that are measured or written, and these questions, over runs whose kernels are registered and whose
- * values are not texts, take no memory. */
+ * values are not texts, or over flat numbers, take no memory. */
 static bool takes_no_memory(const char *name) {
     static const char *const questions[] = {"sum", "is_constant", "is_sorted", "extreme", "min_max_numbers",
-                                            "is_message", "is_typed_message"};
+                                            "is_message", "is_typed_message", "first_float"};
     static const char *const fronts[] = {"read_", "size_of_", "write_"};
     for (size_t i = 0; i < COUNT(questions); i++)
         if (strcmp(name, questions[i]) == 0) return true;

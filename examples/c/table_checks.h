@@ -18,7 +18,7 @@ static inline bool has_shape(const hv_table *table, size_t rows, size_t columns)
     return hv_table_len(table) == rows && hv_table_width(table) == columns;
 }
 
-/* The column of a place, which the caller frees, under this name and this format. */
+/* The column of a place, which has this name and this format, without the format; the caller frees it. */
 static inline hv_column checked_column(const hv_table *table, size_t place, const char *name, const char *format) {
     hv_column column = HV_EMPTY;
     uint8_t text[64];
@@ -28,6 +28,7 @@ static inline hv_column checked_column(const hv_table *table, size_t place, cons
     CHECK(!hv_table_column(table, place, &column, NULL));
     CHECK(!hv_type(&column, text, sizeof text, &size, NULL));
     CHECK(size == strlen(format) && !memcmp(text, format, size));
+    give_format(&column, "");
     return column;
 }
 

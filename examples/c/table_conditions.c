@@ -1,8 +1,8 @@
-/* What the headers over the calls on tables add to these: names as texts of C, conditions of any number, and rows of
- * two types that are joined, by hand; each refusal with its fields, after which every table is as it was, and each
+/* What headers over the calls on tables add to these, names as texts of C and rows of two types that are joined, and
+ * conditions of any number, by hand; each refusal with its fields, after which every table is as it was, and each
  * request for memory refused in turn (linked with the malloc of refusing_malloc.h). */
 #include "hivevigil_table_concat.h"
-#include "hivevigil_table_conditions.h"
+#include "hivevigil_decimals.h"
 #include "refusing_malloc.h"
 #include "table_checks.h"
 
@@ -45,40 +45,49 @@ static void check_names(const hv_table *table) {
 
 /* ---- Conditions ---- */
 
-static void check_filter(const hv_table *table, hv_table_condition asked, const char *due) {
+static int32_t filter_by(const hv_table *table, const char *name, uint8_t operator_, hv_value value, const char *text,
+                         hv_table *out) {
+    return hv_table_filter_by(table, (const uint8_t *)name, strlen(name), operator_, &value, (const uint8_t *)text,
+                              strlen(text), out, &error);
+}
+
+static void check_filter(const hv_table *table, const char *name, uint8_t operator_, hv_value value, const char *text,
+                         const char *due) {
     hv_table found = HV_EMPTY;
-    CHECK(!hv_table_filter_where(&session, table, &asked, &found, &error));
+    CHECK(!filter_by(table, name, operator_, value, text, &found));
     CHECK_TABLE(&found, due);
     hv_table_free(&found);
 }
 
+static hv_value double_value(double number) {
+    hv_value value = {0, 0, HV_DOUBLE, 0, 0};
+    memcpy(&value.as_unsigned, &number, sizeof number);
+    return value;
+}
+
+static const hv_value level = {0, 41, HV_SIGNED, 0, 0}, text = {0, 0, HV_TEXT, 0, 0}, null = {0, 0, HV_NULL, 0, 0};
+
 static void check_conditions(const hv_table *table) {
-    const hv_value level = {0, 41, HV_SIGNED, 0}, null = {0, 0, HV_NULL, 0}, text = {0, 0, HV_TEXT, 0};
-    const hv_value unsigned_level = {41, 0, HV_UNSIGNED, 0};
-    const uint8_t *const south = (const uint8_t *)"south";
-    check_filter(table, (hv_table_condition){"level", HV_GT, &level, NULL, 0, 0}, one_row);
-    check_filter(table, (hv_table_condition){"level", HV_LE, &level, NULL, 0, 0},
+    const hv_value unsigned_level = {41, 0, HV_UNSIGNED, 0, 0}, scaled = {405, 0, HV_SCALED, 0, 1};
+    check_filter(table, "level", HV_GT, level, "", one_row);
+    check_filter(table, "level", HV_LE, level, "",
                  "2 | station: \"south\" \"south\" | level: 41 40 | at:tss:UTC 30 40");
-    check_filter(table, (hv_table_condition){"station", HV_NE, &text, south, 5, 0},
+    check_filter(table, "station", HV_NE, text, "south",
                  "2 | station: \"north\" \"north\" | level: 900 null | at:tss:UTC 10 20");
-    check_filter(table, (hv_table_condition){"station", HV_EQ, &null, NULL, 0, 0},
-                 "0 | station:  | level:  | at:tss:UTC ");
-    check_filter(table, (hv_table_condition){"level", HV_EQ, &unsigned_level, NULL, 0, 0},
-                 "1 | station: \"south\" | level: 41 | at:tss:UTC 30");
-    check_filter(table, (hv_table_condition){"level", HV_LT, NULL, NULL, 0, 40.5},
-                 "1 | station: \"south\" | level: 40 | at:tss:UTC 40");
+    check_filter(table, "station", HV_EQ, null, "", "0 | station:  | level:  | at:tss:UTC ");
+    check_filter(table, "level", HV_EQ, unsigned_level, "", "1 | station: \"south\" | level: 41 | at:tss:UTC 30");
+    check_filter(table, "level", HV_LT, double_value(40.5), "", "1 | station: \"south\" | level: 40 | at:tss:UTC 40");
+    check_filter(table, "level", HV_LT, scaled, "", "1 | station: \"south\" | level: 40 | at:tss:UTC 40");
+    check_filter(table, "at", HV_GE, level, "", "0 | station:  | level:  | at:tss:UTC ");
 }
 
 static void check_conditions_of_floats(void) {
-    const hv_value level = {0, 41, HV_SIGNED, 0};
     hv_table prices = HV_EMPTY;
     make_prices(&prices); /* 0.5 0.5 null -0.0 */
-    check_filter(&prices, (hv_table_condition){"price", HV_LT, &level, NULL, 0, 0},
-                 "3 | price:g 4602678819172646912 4602678819172646912 -1");
-    check_filter(&prices, (hv_table_condition){"price", HV_EQ, NULL, NULL, 0, 0.0}, "1 | price:g -1"); /* as numbers */
-    check_filter(&prices, (hv_table_condition){"price", HV_LT, NULL, NULL, 0, 0.75},
-                 "3 | price:g 4602678819172646912 4602678819172646912 -1");
-    check_filter(&prices, (hv_table_condition){"price", HV_GT, NULL, NULL, 0, 0.5}, "0 | price:g ");
+    check_filter(&prices, "price", HV_LT, level, "", "3 | price:g 0.5 0.5 -0");
+    check_filter(&prices, "price", HV_EQ, double_value(0.0), "", "1 | price:g -0"); /* as numbers */
+    check_filter(&prices, "price", HV_LT, double_value(0.75), "", "3 | price:g 0.5 0.5 -0");
+    check_filter(&prices, "price", HV_GT, double_value(0.5), "", "0 | price:g ");
     hv_table_free(&prices);
 }
 
@@ -88,30 +97,24 @@ static void check_conditions_of_zero(void) {
     const int64_t rows[] = {5, 6};
     hv_table table = HV_EMPTY, found = HV_EMPTY;
     hv_column column = HV_EMPTY;
-    const hv_table_condition asked = {"a", HV_EQ, NULL, NULL, 0, 5.0};
     CHECK(!hv_i64(rows, 2, NOT_NULLABLE, &column, &error) && !hv_table_give_format(&column, "g", 2, &error));
     CHECK(!hv_table_of(name, &column, 1, &table, &error));
-    CHECK(!hv_table_filter_where(&session, &table, &asked, &found, &error));
+    CHECK(!filter_by(&table, "a", HV_EQ, double_value(5), "", &found));
     CHECK_ROWS_AT(&found, 0, "5");
     hv_free(&column);
     hv_table_free(&table), hv_table_free(&found);
 }
 
 static void check_refused_conditions(const hv_table *table) {
-    const hv_value level = {0, 41, HV_SIGNED, 0}, text = {0, 0, HV_TEXT, 0};
-    const uint8_t *const south = (const uint8_t *)"south";
-    const hv_table_condition gone = {"to", HV_EQ, &level, NULL, 0, 0}, other = {"level", HV_EQ, &text, south, 5, 0};
-    const hv_table_condition no_operator = {"level", HV_LE + 1, &level, NULL, 0, 0};
-    const hv_table_condition of_floats = {"price", HV_EQ, &text, south, 5, 0};
-    const hv_table_condition of_no_floats = {"station", HV_EQ, NULL, NULL, 0, 9};
     hv_table out = HV_EMPTY, prices = HV_EMPTY;
     make_prices(&prices);
     CHECK(!hv_table_slice(table, 0, 1, &out, &error));
-    CHECK_REFUSED(hv_table_filter_where(&session, table, &gone, &out, &error), HV_TABLE_UNKNOWN_NAME, 0, 0, 0);
-    CHECK_REFUSED(hv_table_filter_where(&session, table, &of_no_floats, &out, &error), HV_TYPE_MISMATCH, 0, 0, 0);
-    CHECK_REFUSED(hv_table_filter_where(&session, &prices, &of_floats, &out, &error), HV_TYPE_MISMATCH, 0, 0, 0);
-    CHECK(hv_table_filter_where(&session, table, &other, &out, &error) == HV_TYPE_MISMATCH);
-    CHECK(hv_table_filter_where(&session, table, &no_operator, &out, &error) == HV_BAD_NUMBER);
+    CHECK_REFUSED(filter_by(table, "to", HV_EQ, level, "", &out), HV_TABLE_UNKNOWN_NAME, 0, 0, 0);
+    CHECK_REFUSED(filter_by(table, "station", HV_EQ, double_value(9), "", &out), HV_TYPE_MISMATCH, 0, 0, 0);
+    CHECK_REFUSED(filter_by(table, "at", HV_EQ, double_value(9), "", &out), HV_TYPE_MISMATCH, 0, 0, 0);
+    CHECK_REFUSED(filter_by(&prices, "price", HV_EQ, text, "south", &out), HV_TYPE_MISMATCH, 0, 0, 0);
+    CHECK(filter_by(table, "level", HV_EQ, text, "south", &out) == HV_TYPE_MISMATCH);
+    CHECK(filter_by(table, "level", HV_LE + 1, level, "", &out) == HV_BAD_NUMBER);
     CHECK_TABLE(&out, one_row);
     CHECK_TABLE(table, readings_shown);
     hv_table_free(&out);
@@ -215,10 +218,6 @@ static hv_column given[3] = {HV_EMPTY, HV_EMPTY, HV_EMPTY};
 static hv_error *fields = &error; /* or null: the calls answer the same */
 
 static int32_t calls_of(void) { return hv_table_of(readings_names, given, 3, &out, fields); }
-static int32_t calls_filter_where(void) {
-    const hv_table_condition asked = {"level", HV_GE, NULL, NULL, 0, 40.5};
-    return hv_table_filter_where(&session, &lent, &asked, &out, fields);
-}
 static int32_t calls_concat(void) { return hv_table_concat(&session, &lent, &lent, &out, fields); }
 static int32_t calls_concat_mixed(void) { return hv_table_concat(&session, &mixed, &other_mixed, &out, fields); }
 
@@ -242,7 +241,7 @@ static long refuse_each(int32_t (*call)(void)) {
 }
 
 static void check_memory(void) {
-    int32_t (*const calls[])(void) = {calls_of, calls_filter_where, calls_concat, calls_concat_mixed};
+    int32_t (*const calls[])(void) = {calls_of, calls_concat, calls_concat_mixed};
     long tried = 0;
     make_readings(&lent), make_mixed(false, &mixed), make_mixed(true, &other_mixed);
     for (size_t i = 0; i < 3; i++) CHECK(!hv_table_column(&lent, i, &given[i], &error));

@@ -138,7 +138,7 @@ static void make_days(hv_table *table) {
     const int32_t items[] = {7, 7, 0};
     const uint8_t valid[] = {0x03};
     const hv_kind text = {HV_UTF8, 0, 0, 0};
-    const hv_value value = {2, 0, HV_TEXT, 0};
+    const hv_value value = {2, 0, HV_TEXT, 0, 0};
     hv_column columns[2] = {HV_EMPTY, HV_EMPTY}, flat = HV_EMPTY;
     CHECK(!hv_i32(items, 3, NULLS_BY(valid, 0), &flat, &error) && !hv_encode_rows(&flat, &columns[0], &error));
     CHECK(!hv_constant(&text, &value, (const uint8_t *)"ab", 2, 3, &columns[1], &error));
@@ -662,6 +662,12 @@ static void make_measures(hv_table *table) {
     hv_free(&flat);
 }
 
+static hv_value double_value(double number) {
+    hv_value value = {0, 0, HV_DOUBLE, 0, 0};
+    memcpy(&value.as_unsigned, &number, sizeof number);
+    return value;
+}
+
 /* Is a row the value by a comparison, of those in the order of the operators? */
 static bool compares(uint8_t operator_, double row, double value) {
     const bool found[] = {row == value, row != value, row > value, row >= value, row < value, row <= value};
@@ -674,25 +680,26 @@ static void check_conditions(const hv_table_footer *footer, const char *column, 
     for (int half = -8; half < 22; half++)
         for (uint8_t operator_ = HV_EQ; operator_ <= HV_LE; operator_++) {
             const double number = is_float ? half / 2.0 : half;
-            const hv_value value = {0, half, HV_SIGNED, 0};
-            const hv_table_condition asked = {column, operator_, is_float ? NULL : &value, NULL, 0, number};
+            const hv_value value = {0, half, HV_SIGNED, 0, 0}, real = double_value(number);
+            const hv_table_condition asked = {column, operator_, is_float ? &real : &value, NULL, 0};
             const bool is_within = number >= least && number <= greatest;
             const bool is_bound = compares(operator_, least, number) || compares(operator_, greatest, number);
             const bool due = operator_ == HV_EQ ? is_within : is_bound;
             uint8_t truth = 9;
-            CHECK(!hv_table_may_have(&session, footer, &asked, &truth, &error));
+            CHECK(!hv_table_may_have(footer, &asked, &truth, &error));
             CHECK(truth == due);
         }
 }
 
 static bool may_have(const hv_table_footer *footer, hv_table_condition asked) {
     uint8_t truth = 9;
-    CHECK(!hv_table_may_have(&session, footer, &asked, &truth, &error) && truth < 2);
+    CHECK(!hv_table_may_have(footer, &asked, &truth, &error) && truth < 2);
     return truth;
 }
 
 static void check_footers(void) {
-    const hv_value text = {0, 0, HV_TEXT, 0}, nine = {0, 9, HV_SIGNED, 0}, null = {0, 0, HV_NULL, 0};
+    const hv_value text = {0, 0, HV_TEXT, 0, 0}, nine = {0, 9, HV_SIGNED, 0, 0}, null = {0, 0, HV_NULL, 0, 0};
+    const hv_value seven = double_value(7);
     const uint8_t *const letters = (const uint8_t *)"abcd";
     hv_table table = HV_EMPTY;
     hv_table_footer footer = HV_TABLE_FOOTER_EMPTY;
@@ -707,27 +714,27 @@ static void check_footers(void) {
     check_conditions(&footer, "level", 3, 8, false);
     check_conditions(&footer, "price", -1.5, 2.5, true);
     for (uint8_t by = HV_EQ; by <= HV_LE; by++) {
-        CHECK(may_have(&footer, (hv_table_condition){"odd", by, NULL, NULL, 0, 7}));
+        CHECK(may_have(&footer, (hv_table_condition){"odd", by, &seven, NULL, 0}));
         const bool is_low = by == HV_NE || by == HV_LT || by == HV_LE; /* numbers up to 1 */
-        CHECK(may_have(&footer, (hv_table_condition){"low", by, NULL, NULL, 0, 7}) == is_low);
-        CHECK(!may_have(&footer, (hv_table_condition){"none", by, &nine, NULL, 0, 0}));
-        CHECK(!may_have(&footer, (hv_table_condition){"level", by, &null, NULL, 0, 0}));
-        CHECK(may_have(&footer, (hv_table_condition){"lists", by, &nine, NULL, 0, 0}));
+        CHECK(may_have(&footer, (hv_table_condition){"low", by, &seven, NULL, 0}) == is_low);
+        CHECK(!may_have(&footer, (hv_table_condition){"none", by, &nine, NULL, 0}));
+        CHECK(!may_have(&footer, (hv_table_condition){"level", by, &null, NULL, 0}));
+        CHECK(may_have(&footer, (hv_table_condition){"lists", by, &nine, NULL, 0}));
         for (int letter = 0; letter < 4; letter++) {
             const bool least = compares(by, 'b', 'a' + letter), greatest = compares(by, 'c', 'a' + letter);
-            const hv_table_condition asked = {"name", by, &text, letters + letter, 1, 0};
+            const hv_table_condition asked = {"name", by, &text, letters + letter, 1};
             CHECK(may_have(&footer, asked) == (least || greatest)); /* no text is between */
         }
     }
-    const hv_table_condition gone = {"to", HV_EQ, &nine, NULL, 0, 0}, other = {"none", HV_EQ, &text, letters, 1, 0};
-    const hv_table_condition floats = {"price", HV_EQ, &text, letters, 1, 0}, none = {"name", HV_EQ, NULL, NULL, 0, 9};
-    CHECK_REFUSED(hv_table_may_have(&session, &footer, &gone, &truth, &error), HV_TABLE_UNKNOWN_NAME, 0, 0, 0);
-    CHECK(hv_table_may_have(&session, &footer, &other, &truth, &error) == HV_TYPE_MISMATCH);
-    CHECK(hv_table_may_have(&session, &footer, &floats, &truth, &error) == HV_TYPE_MISMATCH);
-    CHECK(hv_table_may_have(&session, &footer, &none, &truth, &error) == HV_TYPE_MISMATCH);
-    const hv_table_condition past = {"level", HV_LE + 1, &nine, NULL, 0, 0}, by = {"odd", HV_LE + 1, NULL, NULL, 0, 7};
-    CHECK(hv_table_may_have(&session, &footer, &past, &truth, &error) == HV_BAD_NUMBER);
-    CHECK(hv_table_may_have(&session, &footer, &by, &truth, &error) == HV_BAD_NUMBER);
+    const hv_table_condition gone = {"to", HV_EQ, &nine, NULL, 0}, other = {"none", HV_EQ, &text, letters, 1};
+    const hv_table_condition floats = {"price", HV_EQ, &text, letters, 1}, none = {"name", HV_EQ, &seven, NULL, 0};
+    CHECK_REFUSED(hv_table_may_have(&footer, &gone, &truth, &error), HV_TABLE_UNKNOWN_NAME, 0, 0, 0);
+    CHECK(hv_table_may_have(&footer, &other, &truth, &error) == HV_TYPE_MISMATCH);
+    CHECK(hv_table_may_have(&footer, &floats, &truth, &error) == HV_TYPE_MISMATCH);
+    CHECK(hv_table_may_have(&footer, &none, &truth, &error) == HV_TYPE_MISMATCH);
+    const hv_table_condition past = {"level", HV_LE + 1, &nine, NULL, 0}, by = {"odd", HV_LE + 1, &seven, NULL, 0};
+    CHECK(hv_table_may_have(&footer, &past, &truth, &error) == HV_BAD_NUMBER);
+    CHECK(hv_table_may_have(&footer, &by, &truth, &error) == HV_BAD_NUMBER);
     hv_table_footer_free(&footer);
     hv_table_footer_free(&footer);
     hv_table_footer_free(NULL);
@@ -751,9 +758,10 @@ static int32_t calls_load(void) { return hv_table_load(path, &out, fields); }
 static int32_t calls_load_columns(void) { return hv_table_load_columns(path, two_names, 2, &out, fields); }
 static int32_t calls_load_footer(void) { return hv_table_load_footer(path, &read_end, fields); }
 static int32_t calls_may_have(void) {
-    const hv_table_condition asked = {"price", HV_EQ, NULL, NULL, 0, 0.5};
+    const hv_value half = double_value(0.5);
+    const hv_table_condition asked = {"price", HV_EQ, &half, NULL, 0};
     uint8_t truth = 0;
-    return hv_table_may_have(&session, &end, &asked, &truth, fields);
+    return hv_table_may_have(&end, &asked, &truth, fields);
 }
 static int32_t calls_load_pipe(void) {
     char name[32];

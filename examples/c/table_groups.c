@@ -112,7 +112,7 @@ static void check_answers(const hv_table *found, const size_t *places, size_t ke
     for (size_t i = 0; i < keys; i++) {
         const plain_column *const key = &plain.columns[places[i]];
         columns[i] = checked_column(found, i, key->name, key->format);
-        CHECK(hv_form(&columns[i]) == HV_FORM_FLAT && same_kind(hv_kind_of(&columns[i]), key->kind));
+        CHECK(same_kind(hv_kind_of(&columns[i]), key->kind));
     }
     for (size_t group = 0; group < groups; group++) {
         const size_t start = group ? stops[group - 1] : 0;
@@ -145,12 +145,12 @@ static bool check_random(const hv_table *table) {
     if (lists < count || !is_asked(asked, fold)) {
         const int32_t number = lists < count ? HV_TABLE_KEY_OF_LISTS : HV_UNSUPPORTED;
         const uint64_t why = fold == HV_FOLD_SUM && lists == count ? HV_TABLE_WITHOUT_SUM : 0;
-        CHECK_REFUSED(hv_table_group_by(&session, table, keys, count, &answer, 1, &found, &error), number,
+        CHECK_REFUSED(hv_table_grouping(&session, table, keys, count, &answer, 1, &found, &error), number,
                       lists < count ? lists : 0, 0, why);
         CHECK(!found.at);
         return false;
     }
-    CHECK(!hv_table_group_by(&session, table, keys, count, &answer, 1, &found, &error));
+    CHECK(!hv_table_grouping(&session, table, keys, count, &answer, 1, &found, &error));
     check_answers(&found, places, count, asked, fold, stops, groups_of(places, count, stops));
     check_table(table, &plain, NULL);
     hv_table_free(&found);
@@ -201,7 +201,7 @@ static const hv_table_answer nans[] = {{"high", HV_FOLD_GREATEST, "price"}, {"lo
 
 static void check_by_hand(const hv_table *table) {
     hv_table out = HV_EMPTY;
-    CHECK(!hv_table_group_by(&session, table, station, 1, all, COUNT(all), &out, &error) && hv_table_width(&out) == 12);
+    CHECK(!hv_table_grouping(&session, table, station, 1, all, COUNT(all), &out, &error) && hv_table_width(&out) == 12);
     CHECK_ROWS_AT(&out, 0, "1 2 1");
     CHECK_ROWS_AT(&out, 1, "2 3 1");
     CHECK_ROWS_AT(&out, 2, "1 2 1");
@@ -209,26 +209,26 @@ static void check_by_hand(const hv_table *table) {
     CHECK_ROWS_AT(&out, 4, "\"a\" null \"\"");
     CHECK_ROWS_AT(&out, 5, "7 9223372036854775807 3");
     CHECK_ROWS_AT(&out, 6, "\"a\" null \"\"");
-    CHECK_ROWS_AT(&out, 7, "4609434218613702656 4602678819172646912 null"); /* 1.5 and 0.5 by their bits */
-    CHECK_ROWS_AT(&out, 8, "9221120237041090560 4602678819172646912 null"); /* NaN, and 0.5 */
-    CHECK_ROWS_AT(&out, 9, "4609434218613702656 -4602678819172646913 null"); /* 1.5 and -0.5 */
-    CHECK_ROWS_AT(&out, 10, "4609434218613702656 4602678819172646912 null");
-    CHECK_ROWS_AT(&out, 11, "4609434218613702656 -4602678819172646913 null");
+    CHECK_ROWS_AT(&out, 7, "1.5 0.5 null");
+    CHECK_ROWS_AT(&out, 8, "nan 0.5 null");
+    CHECK_ROWS_AT(&out, 9, "1.5 -0.5 null");
+    CHECK_ROWS_AT(&out, 10, "1.5 0.5 null");
+    CHECK_ROWS_AT(&out, 11, "1.5 -0.5 null");
     for (size_t i = 0; i < COUNT(all); i++) {
         hv_column column = checked_column(&out, i + 1, all[i].name, i < 6 ? "" : "g");
         CHECK(hv_form(&column) == HV_FORM_FLAT);
         hv_free(&column);
     }
-    CHECK(!hv_table_group_by(&session, table, both, 2, nans, COUNT(nans), &out, &error)); /* "a" has only NaN */
-    CHECK_ROWS_AT(&out, 2, "4609434218613702656 null 4602678819172646912 null");
-    CHECK_ROWS_AT(&out, 3, "4609434218613702656 null -4602678819172646913 null");
+    CHECK(!hv_table_grouping(&session, table, both, 2, nans, COUNT(nans), &out, &error)); /* "a" has only NaN */
+    CHECK_ROWS_AT(&out, 2, "1.5 null 0.5 null");
+    CHECK_ROWS_AT(&out, 3, "1.5 null -0.5 null");
     CHECK_ROWS_AT(&out, 4, "1 1 3 0");
-    CHECK_ROWS_AT(&out, 5, "4609434218613702656 9221120237041090560 4602678819172646912 null");
-    CHECK(!hv_table_group_by(&session, table, both, 2, all, 1, &out, &error) && hv_table_width(&out) == 3);
+    CHECK_ROWS_AT(&out, 5, "1.5 nan 0.5 null");
+    CHECK(!hv_table_grouping(&session, table, both, 2, all, 1, &out, &error) && hv_table_width(&out) == 3);
     CHECK_ROWS_AT(&out, 0, "1 1 2 1");
     CHECK_ROWS_AT(&out, 1, "\"b\" \"a\" null \"\"");
     CHECK_ROWS_AT(&out, 2, "1 1 3 1");
-    CHECK(!hv_table_group_by(&session, table, station, 1, NULL, 0, &out, &error));
+    CHECK(!hv_table_grouping(&session, table, station, 1, NULL, 0, &out, &error));
     CHECK(hv_table_width(&out) == 1 && hv_table_len(&out) == 3);
     hv_table_free(&out);
 }
@@ -241,17 +241,17 @@ static void check_refusals(const hv_table *table) {
     const char *const twice[] = {"text", "station", "text"}, *const gone[] = {"to"};
     hv_table out = HV_EMPTY;
     CHECK(!hv_table_slice(table, 0, 1, &out, &error));
-    CHECK_REFUSED(hv_table_group_by(&session, table, station, 0, sum, 1, &out, &error), HV_TABLE_NO_KEYS, 0, 0, 0);
-    CHECK_REFUSED(hv_table_group_by(&session, table, twice, 3, sum, 1, &out, &error), HV_TABLE_NAME_TWICE, 0, 2, 0);
-    CHECK_REFUSED(hv_table_group_by(&session, table, station, 1, names, 2, &out, &error), HV_TABLE_NAME_TWICE, 0, 2, 0);
-    CHECK_REFUSED(hv_table_group_by(&session, table, gone, 1, sum, 1, &out, &error), HV_TABLE_UNKNOWN_NAME, 0, 0, 0);
-    CHECK_REFUSED(hv_table_group_by(&session, table, station, 1, none, 1, &out, &error), HV_TABLE_UNKNOWN_NAME, 0, 0,
+    CHECK_REFUSED(hv_table_grouping(&session, table, station, 0, sum, 1, &out, &error), HV_TABLE_NO_KEYS, 0, 0, 0);
+    CHECK_REFUSED(hv_table_grouping(&session, table, twice, 3, sum, 1, &out, &error), HV_TABLE_NAME_TWICE, 0, 2, 0);
+    CHECK_REFUSED(hv_table_grouping(&session, table, station, 1, names, 2, &out, &error), HV_TABLE_NAME_TWICE, 0, 2, 0);
+    CHECK_REFUSED(hv_table_grouping(&session, table, gone, 1, sum, 1, &out, &error), HV_TABLE_UNKNOWN_NAME, 0, 0, 0);
+    CHECK_REFUSED(hv_table_grouping(&session, table, station, 1, none, 1, &out, &error), HV_TABLE_UNKNOWN_NAME, 0, 0,
                   0);
-    CHECK_REFUSED(hv_table_group_by(&session, table, station, 1, sum, 2, &out, &error), HV_CAST_OUT_OF_RANGE, 1, 0, 0);
-    CHECK_REFUSED(hv_table_group_by(&session, table, station, 1, text, 1, &out, &error), HV_UNSUPPORTED, 0, 0,
+    CHECK_REFUSED(hv_table_grouping(&session, table, station, 1, sum, 2, &out, &error), HV_CAST_OUT_OF_RANGE, 1, 0, 0);
+    CHECK_REFUSED(hv_table_grouping(&session, table, station, 1, text, 1, &out, &error), HV_UNSUPPORTED, 0, 0,
                   HV_TABLE_WITHOUT_SUM);
-    CHECK(hv_table_group_by(&session, table, station, 1, bad, 1, &out, &error) == HV_BAD_NUMBER);
-    CHECK(hv_table_group_by(&session, table, station, 1, bytes, 1, &out, &error) == HV_TYPE_MISMATCH);
+    CHECK(hv_table_grouping(&session, table, station, 1, bad, 1, &out, &error) == HV_BAD_NUMBER);
+    CHECK(hv_table_grouping(&session, table, station, 1, bytes, 1, &out, &error) == HV_TYPE_MISMATCH);
     CHECK(hv_table_len(&out) == 1 && hv_table_width(&out) == 5);
     hv_table_free(&out);
 }
@@ -269,7 +269,7 @@ static void check_zero_format(void) {
     CHECK(!hv_u8(keys, 2, NOT_NULLABLE, &columns[0], &error) && !hv_i64(numbers, 2, NO_NULLS, &columns[1], &error));
     CHECK(!hv_table_give_format(&columns[1], "tDs", 4, &error));
     CHECK(!hv_table_of(names, columns, 2, &table, &error));
-    CHECK(!hv_table_group_by(&session, &table, key, 1, asked, 2, &out, &error));
+    CHECK(!hv_table_grouping(&session, &table, key, 1, asked, 2, &out, &error));
     CHECK(!hv_table_column(&out, 1, &columns[0], &error) && !hv_table_column(&out, 2, &columns[1], &error));
     CHECK(!hv_type(&columns[0], format, sizeof format, &size, &error) && size == 4 && !memcmp(format, "tDs", 4));
     CHECK(!hv_type(&columns[1], format, sizeof format, &size, &error) && size == 0);
@@ -292,9 +292,9 @@ static void check_decimals(void) {
         CHECK(!hv_u8(keys, 4, NOT_NULLABLE, &columns[0], &error));
         CHECK(!hv_decimals(pairs, 4, 5, 2, NOT_NULLABLE, &columns[1], &error));
         CHECK(!hv_table_of(names, columns, 2, &table, &error));
-        if (is_small) CHECK(!hv_table_group_by(&session, &table, key, 1, sum, 1, &out, &error));
+        if (is_small) CHECK(!hv_table_grouping(&session, &table, key, 1, sum, 1, &out, &error));
         else
-            CHECK_REFUSED(hv_table_group_by(&session, &table, key, 1, sum, 1, &out, &error), HV_CAST_OUT_OF_RANGE, 1,
+            CHECK_REFUSED(hv_table_grouping(&session, &table, key, 1, sum, 1, &out, &error), HV_CAST_OUT_OF_RANGE, 1,
                           0, 0);
         pairs[2] = few;
     }
@@ -315,7 +315,7 @@ static void check_memory(const hv_table *table) {
         CHECK(!hv_table_slice(table, 0, 1, &out, &error));
         const long before = blocks;
         requests = refused = 0, refuse_at = at;
-        const int32_t answer = hv_table_group_by(&session, table, both, 2, all, COUNT(all), &out, &error);
+        const int32_t answer = hv_table_grouping(&session, table, both, 2, all, COUNT(all), &out, &error);
         refuse_at = -1;
         if (refused == 0) {
             CHECK(!answer);

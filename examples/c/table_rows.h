@@ -231,7 +231,7 @@ static void make_windowed(const plain_column *column, size_t count, hv_column *o
 
 /* One value in each row. */
 static void make_constant(plain_column *column, size_t count, hv_column *out) {
-    hv_value value = {0, 0, HV_NULL, 0};
+    hv_value value = {0, 0, HV_NULL, 0, 0};
     uint8_t text[MOST_LETTERS + 1] = {0};
     if (column->rows[0].is_valid) {
         hv_column flat = HV_EMPTY;

@@ -34,22 +34,11 @@ static int32_t take(const hv_table *table, char **words, size_t count, hv_table 
 
 static int32_t filter(const hv_table *table, char **words, hv_table *out) {
     static const char *const signs[] = {"==", "!=", ">", ">=", "<", "<="};
-    hv_value value = {strtoull(words[2], NULL, 10), strtoll(words[2], NULL, 10), HV_SIGNED, 0};
-    hv_table_condition asked = {words[0], 0, &value, NULL, 0, 0};
-    hv_column column = HV_EMPTY;
-    hv_table_text format = HV_TABLE_NO_TEXT;
-    while (strcmp(signs[asked.operator_], words[1]) != 0) asked.operator_++;
-    int32_t answer = hv_table_column_named(table, words[0], &column, &error);
-    if (!answer) answer = hv_table_format_of(&column, &format, &error);
-    if (answer) return answer;
-    if (hv_kind_of(&column).number < HV_I8) value.kind = HV_UNSIGNED;
-    if (hv_table_is_float(&column, hv_table_format_in(&format))) {
-        asked.value = NULL;
-        asked.number = (double)value.as_signed;
-    }
-    free(format.at);
-    hv_free(&column);
-    return hv_table_filter_where(&session, table, &asked, out, &error);
+    const hv_value value = {0, strtoll(words[2], NULL, 10), HV_SIGNED, 0, 0};
+    const uint8_t *const name = (const uint8_t *)words[0];
+    uint8_t operator_ = 0;
+    while (strcmp(signs[operator_], words[1]) != 0) operator_++;
+    return hv_table_filter_by(table, name, strlen(words[0]), operator_, &value, NULL, 0, out, &error);
 }
 
 static int32_t sort(const hv_table *table, char **words, size_t count, hv_table *out) {
@@ -69,7 +58,7 @@ static int32_t sort(const hv_table *table, char **words, size_t count, hv_table 
 
 static int32_t group(const hv_table *table, char **words, size_t count, hv_table *out) {
     const hv_table_answer asked = {"answer", (uint8_t)atoi(words[1]), words[0]};
-    return hv_table_group_by(&session, table, (const char *const *)words + 2, count - 2, &asked, 1, out, &error);
+    return hv_table_grouping(&session, table, (const char *const *)words + 2, count - 2, &asked, 1, out, &error);
 }
 
 static int32_t append(const hv_table *table, const char *path, hv_table *out) {

@@ -67,6 +67,10 @@ static int32_t call_filter_by(void) {
     const hv_value least = {.kind = HV_TEXT};
     return hv_table_filter_by(&lent, name, 5, HV_GE, &least, (const uint8_t *)"b", 1, &made, &error);
 }
+static int32_t call_filter_by_number(void) {
+    const hv_value tenths = {.as_unsigned = 25, .kind = HV_SCALED, .scale = 1};
+    return hv_table_filter_by(&lent, (const uint8_t *)"a", 1, HV_LT, &tenths, NO_TEXT, &made, &error);
+}
 static int32_t call_take(void) { return hv_table_take(&lent, &indices, &made, &error); }
 static int32_t call_take_runs(void) { return hv_table_take(&lent, &index_runs, &made, &error); }
 static int32_t call_append(void) { return hv_table_append(&lent, &other, &made, &error); }
@@ -91,6 +95,7 @@ static const try tries[] = {{call_new, "new", false},         {call_clone, "clon
                             {call_column, "column", false},   {call_slice, "slice", false},
                             {call_filter, "filter", false},   {call_filter_runs, "filter by runs", false},
                             {call_filter_by, "filter_by", false}, {call_take, "take", false},
+                            {call_filter_by_number, "filter_by, a number", false},
                             {call_take_runs, "take by runs", false}, {call_append, "append", false},
                             {call_select, "select", false},   {call_rename, "rename", false},
                             {call_sort, "sort", false},       {call_drop_null, "drop_null", false},

@@ -197,7 +197,7 @@ static void check_floats(void) {
     const hv_value key = {.kind = HV_SIGNED, .as_signed = INT64_C(0x3ff8) << 48};
     hv_column column = HV_EMPTY, of_bits = HV_EMPTY, read = HV_EMPTY;
     uint8_t written[ROOM];
-    uint64_t count, sum;
+    hv_total total;
     size_t size;
     CHECK(!hv_constant(&keys, &key, NO_TEXT, (size_t)1 << 60, &column, &error));
     hv_column typed = under(&column, NAME("g"));
@@ -205,8 +205,9 @@ static void check_floats(void) {
     CHECK(size == sizeof float_message && memcmp(written, float_message, size) == 0);
     CHECK(!hv_read_column(float_message, sizeof float_message, &read, &error));
     check_format(&read, NAME("g"));
-    CHECK(!hv_float_sum(&read, &count, &sum, &error) && count == (uint64_t)1 << 60);
-    CHECK(sum == UINT64_C(0x43b8) << 48); /* 1.5 * 2^60 */
+    CHECK(hv_length(&read) == (size_t)1 << 60 && hv_null_count(&read) == 0);
+    CHECK(!hv_sum(&session, &read, &total, &error) && total.kind == HV_DOUBLE && !total.empty);
+    CHECK(total.as_unsigned == UINT64_C(0x43b8) << 48); /* 1.5 * 2^60 */
     /* 1.5, -0.0 and a NaN that signals keep their bits */
     CHECK(!hv_u64(bits, 3, NOT_NULLABLE, &of_bits, &error) && !hv_float_encode(&of_bits, 0, &column, &error));
     CHECK(!hv_with_type(&column, (const uint8_t *)"g", 1, &typed, &error));

@@ -397,6 +397,32 @@ template <class T> static void check_floats() {
     check_refused(HV_OUT_OF_BOUNDS, "row 8 is not among 8 rows", [&] { floats.at(8); });
 }
 
+// Floats of every width as rows of a column, and what no float is.
+static void check_float_columns() {
+    const double nan = std::numeric_limits<double>::quiet_NaN();
+    const Column doubles = hv::Floats<double>::of({0.1, 0.1, nan, -2.5}).keys().clone();
+    const Column halves = Column::of<int16_t>({0x3c00, 0x0001}).with_logical_type("e"); // 1 and 2^-24
+    const Column stored = doubles.with_logical_type("");
+    CHECK(doubles.logical_type() == "g" && doubles.at(1) == Value(0.1) && doubles.get<double>(3) == -2.5);
+    CHECK(to_string(doubles.at(0)) == "0.1" && to_string(doubles.at(2)) == "NaN");
+    CHECK(doubles.form() == hv::Form::runs && doubles.run(0).value == Value(0.1));
+    CHECK(doubles.runs()[2].value == Value(-2.5));
+    CHECK(doubles.least() == Value(-2.5) && doubles.greatest() == Value(0.1) && doubles == stored);
+    CHECK(std::isnan(*doubles.sum().get<double>()) && doubles.slice(0, 1).sum().get<double>() == 0.1);
+    CHECK(halves.at(0) == Value(1.0) && halves.sum().get<double>() == 1 + 0x1p-24 && !halves.sum().get<int64_t>());
+    CHECK(stored.run(0).value == Value(stored.numbers<int64_t>()[0]) && stored.at(2) == stored.greatest());
+    check_refused(HV_TYPE_MISMATCH, "row 1 is a float, not an integer", [&] { (void)doubles.get<int64_t>(1); });
+    check_refused(HV_TYPE_MISMATCH, "a float does not fit i64", [&] { (void)doubles.fill(Value(1.5)); });
+    const Column days = Column::of<int32_t>({3, 4}).with_logical_type("tdD");
+    check_refused(HV_UNSUPPORTED, "rows of the logical type tdD have no sum", [&] { (void)days.sum(); });
+    CHECK(days.at(1) == Value(int64_t{4}) && days.least() == Value(int64_t{3}));
+    const uint32_t payload = 0xff800001; // a NaN that is not quiet
+    float found = 0, given = 0;
+    std::memcpy(&given, &payload, sizeof given);
+    found = *hv::Floats<float>::of({given}).at(0);
+    CHECK(std::memcmp(&found, &payload, sizeof payload) == 0);
+}
+
 static void check_float_sums() {
     CHECK(hv::Floats<double>::of({1e100, 1.0, -1e100}).sum().total == 1);
     CHECK(hv::Floats<double>::of({1.7e308, 1.7e308}).sum().total == std::numeric_limits<double>::infinity());
@@ -515,11 +541,11 @@ static void check_decimal_sum(const std::vector<std::optional<Decimal>> &rows) {
         if (leaving) {
             check_refused(HV_CAST_OUT_OF_RANGE,
                           "decimal overflow: with row " + std::to_string(*leaving) + " the sum leaves 38 digits",
-                          [&] { (void)column->decimal_sum(); });
+                          [&] { (void)column->sum(); });
             continue;
         }
-        const hv::DecimalSum found = column->decimal_sum();
-        CHECK(found.total.digits() == sum && found.total.scale == 2);
+        const hv::Sum found = column->sum();
+        CHECK(found.get<Decimal>()->digits() == sum && found.get<Decimal>()->scale == 2);
         CHECK(found.empty == (std::find(valid.begin(), valid.end(), true) == valid.end()));
     }
 }
@@ -541,10 +567,9 @@ static void check_decimal_sums() {
         rows.insert(rows.begin() + 9, Decimal::of(-1, 2));
         check_decimal_sum(rows);
     }
-    const Column whole = Column::of(std::vector<int64_t>{4});
-    check_refused(HV_UNSUPPORTED, "i64 has no sum of decimals", [&] { (void)whole.decimal_sum(); });
+    CHECK(!Column::of(std::vector<int64_t>{4}).sum().get<Decimal>());
     const Column many = Column::constant(hv::kinds::decimal(4, 2), Decimal::of(1050, 2), size_t{1} << 60);
-    CHECK(many.decimal_sum().total.digits() == hv::detail::Wide(1050) * (int64_t{1} << 60));
+    CHECK(many.sum().get<Decimal>()->digits() == hv::detail::Wide(1050) * (int64_t{1} << 60));
 }
 
 // ---- Two columns of decimals ----
@@ -608,6 +633,7 @@ static void check_sorts() {
 int main() {
     check_floats<float>();
     check_floats<double>();
+    check_float_columns();
     check_float_sums();
     check_float_casts();
     check_float_comparisons();

@@ -35,15 +35,8 @@ hv::Table grouped(const hv::Table &table, const Words &words) {
 // What a column answers: its sum, its least or its greatest row.
 std::string column_answer(const hv::Column &column, const std::string &call) {
     if (call == "count") return std::to_string(column.size() - column.null_count());
-    if (hv::detail::is_float(column)) {
-        const hv::Floats<double> floats(column.clone());
-        if (call == "sum") return shown(floats.sum().total);
-        const auto found = floats.least_and_greatest();
-        return found ? shown(call == "min" ? found->first : found->second) : "null";
-    }
     if (call != "sum") return shown(call == "min" ? column.least() : column.greatest());
-    if (column.kind().number == HV_DECIMAL) return hv::to_string(column.decimal_sum().total);
-    return std::visit([](auto total) { return std::to_string(total); }, column.sum().total);
+    return shown(std::visit([](auto total) { return hv::Value(total); }, column.sum().total));
 }
 
 std::string answered(const std::string &call, const std::vector<hv::Table> &tables, const Words &words) {
@@ -56,14 +49,12 @@ std::string answered(const std::string &call, const std::vector<hv::Table> &tabl
     if (call == "take") return shown(table.take(column_of("", words).column));
     if (call == "filter") return shown(table.filter(column_of("", words).column));
     if (call == "filter_by") {
-        const auto chosen = [&](const auto &value) { return table.filter_by(names[0], words[1], value); };
-        return shown(std::visit(chosen, literal_of(words[2])));
+        return shown(table.filter_by(names[0], words[1], literal_of(words[2])));
     }
     if (call == "may_have") {
         const hv::TableFooter footer = hv::Table::footer(in_file(table));
         const hv::Operator by = hv::detail::operator_of(words[1]);
-        const auto may_hold = [&](const auto &value) { return footer.may_have(names[0], by, value); };
-        return std::visit(may_hold, literal_of(words[2])) ? "true" : "false";
+        return footer.may_have(names[0], by, literal_of(words[2])) ? "true" : "false";
     }
     if (call == "append") return shown(table.append(tables[1]));
     if (call == "equals") return table.equals(tables[1]) ? "true" : "false";

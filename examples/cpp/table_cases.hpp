@@ -15,7 +15,6 @@
 namespace cases {
 
 using Words = std::vector<std::string>;
-using Literal = std::variant<hv::Null, uint64_t, int64_t, bool, hv::Decimal, std::string, hv::Bytes, double>;
 inline const std::string letters = " \n\"\\" + std::string(1, '\0'), escapes = "sn\"\\0";
 inline const std::string plain = "abcdefghijklmnopqrstuvwxyzABCDEFGHIJKLMNOPQRSTUVWXYZ_0123456789";
 
@@ -64,7 +63,7 @@ inline hv::Decimal decimal_of(const std::string &word) {
 }
 
 // What rows are compared with; `+5` and `-5` are of a type with sign.
-inline Literal literal_of(const std::string &word) {
+inline hv::Value literal_of(const std::string &word) {
     if (word == "null") return hv::Null();
     if (word == "true" || word == "false") return word == "true";
     if (word[0] == '"') return text_of(word);
@@ -86,6 +85,7 @@ inline std::string shown(double number) {
 inline std::string shown(const hv::Value &value) {
     if (auto *text = std::get_if<std::string>(&value)) return word_of(*text);
     if (auto *bytes = std::get_if<hv::Bytes>(&value)) return hex_of(*bytes);
+    if (auto *number = std::get_if<double>(&value)) return shown(*number);
     return hv::to_string(value);
 }
 
@@ -126,23 +126,13 @@ inline hv::Value key_of(const std::string &word, const std::string &format) {
     format == "g" ? std::memcpy(&bits, &wide, sizeof wide) : std::memcpy(&bits, &narrow, sizeof narrow);
     return hv::detail::key_of_bits(bits, format == "g" ? 64 : 32);
 }
-inline double float_of_key(int64_t key, const std::string &format) {
-    const uint64_t bits = hv::detail::bits_of_key(key, format == "g" ? 64 : 32);
-    double wide = 0;
-    float narrow = 0;
-    format == "g" ? std::memcpy(&wide, &bits, sizeof wide) : std::memcpy(&narrow, &bits, sizeof narrow);
-    return format == "g" ? wide : narrow;
-}
 
 inline hv::Value value_of(const std::string &word, const Type &type) {
     const bool has_letters = word.find_first_of(".ni") != std::string::npos && word != "null";
     const bool is_float = type.kind.number <= HV_I64 && has_letters;
     if (is_float) return key_of(word, type.format);
     if (type.kind.number == HV_DECIMAL && word != "null") return decimal_of(word);
-    return std::visit([](const auto &item) -> hv::Value {
-        if constexpr (std::is_same_v<std::decay_t<decltype(item)>, double>) return hv::Value();
-        else return item;
-    }, literal_of(word));
+    return literal_of(word);
 }
 
 inline hv::Column lists_of(hv_kind kind, const Words &rows) {
@@ -183,8 +173,8 @@ inline std::string shown(const hv::Table &table) {
     std::string text = table.empty() ? "table " + std::to_string(table.rows()) : "table";
     for (const hv::NamedColumn &named : table) {
         const std::string format = named.logical_type();
-        const bool is_float = hv::detail::is_float(named.column) && format != "e";
-        hv_kind kind = named.column.kind();
+        const hv_kind kind = named.column.kind();
+        const bool is_float = (format == "f" && kind.number == HV_I32) || (format == "g" && kind.number == HV_I64);
         const std::string null = kind.nullable ? "?" : "";
         std::string type = is_float ? (format == "f" ? "f32" : "f64") + null : hv::to_string(kind);
         type.erase(std::remove(type.begin(), type.end(), ' '), type.end());
@@ -192,9 +182,7 @@ inline std::string shown(const hv::Table &table) {
         const bool is_word = !named.name.empty() && named.name.find_first_not_of(plain) == std::string::npos;
         text += " ; column " + (is_word ? named.name : word_of(named.name)) + " " + type;
         for (size_t row = 0; kind.number != HV_LIST && row < table.rows(); row++) {
-            const hv::Value value = named.column.at(row);
-            const auto *key = std::get_if<int64_t>(&value);
-            text += " " + (is_float && key ? shown(float_of_key(*key, format)) : shown(value));
+            text += " " + shown(named.column.at(row));
         }
     }
     return text;

@@ -33,29 +33,16 @@ std::vector<const char *> texts_of(const Words &names) {
     return texts;
 }
 
-// What rows are compared with, where a condition of C can say it of this column.
+// What rows are compared with.
 struct Condition {
     hv::Value value;
-    std::optional<hv::detail::Passed> passed;
-    hv_table_condition all{};
+    hv::detail::Passed passed;
+    hv_table_condition all;
 
-    Condition(const Words &names, const Words &words, const hv::Table &table) {
-        const Literal literal = literal_of(words[2]);
-        all.column = names[0].c_str();
-        all.operator_ = static_cast<uint8_t>(hv::detail::operator_of(words[1]));
-        if (auto *number = std::get_if<double>(&literal)) {
-            all.number = *number;
-            return;
-        }
-        value = value_of(words[2], {{HV_BOOL, 0, 0, 0}, "", false});
-        if (auto *decimal = std::get_if<hv::Decimal>(&literal)) {
-            const hv_kind kind = table.at(names[0]).column.kind();
-            if (kind.number != HV_DECIMAL || kind.scale != decimal->scale) throw std::runtime_error("not served");
-            value = *decimal;
-        }
-        passed.emplace(value);
-        all.value = &passed->value, all.text = passed->text, all.text_len = passed->size;
-    }
+    Condition(const Words &names, const Words &words)
+        : value(literal_of(words[2])), passed(hv::detail::compared_with(value)),
+          all{names[0].c_str(), static_cast<uint8_t>(hv::detail::operator_of(words[1])), &passed.value, passed.text,
+              passed.size} {}
 };
 
 std::string sorted(const hv::Table &table, const Words &words) {
@@ -83,7 +70,7 @@ std::string grouped(const hv::Table &table, const Words &names, const Words &wor
         asked.push_back({texts[at + 1], fold, fold == HV_FOLD_ROWS ? nullptr : texts[at + 3]});
     }
     return made([&](auto *out, auto *error) {
-        return hv_table_group_by(&session(), table.raw(), texts.data(), keys, asked.data(), asked.size(), out, error);
+        return hv_table_grouping(&session(), table.raw(), texts.data(), keys, asked.data(), asked.size(), out, error);
     });
 }
 
@@ -122,11 +109,11 @@ std::string read(const std::string &call, const hv::Table &table, const Words &n
             return hv_table_load_columns(path.c_str(), texts.data(), texts.size(), out, error);
         });
     hv_table_footer footer = HV_TABLE_FOOTER_EMPTY;
-    const Condition asked(names, words, table);
+    const Condition asked(names, words);
     uint8_t truth = 0;
     hv_error error{};
     int32_t answer = hv_table_load_footer(path.c_str(), &footer, &error);
-    if (!answer) answer = hv_table_may_have(&session(), &footer, &asked.all, &truth, &error);
+    if (!answer) answer = hv_table_may_have(&footer, &asked.all, &truth, &error);
     hv_table_footer_free(&footer);
     if (answer) throw hv::Error(answer, error);
     return truth ? "true" : "false";
@@ -138,9 +125,11 @@ std::string some_rows(const std::string &call, const hv::Table &table, const Wor
         return made([&](auto *out, auto *error) { return hv_table_slice(table.raw(), start, stop, out, error); });
     }
     if (call == "filter_by") {
-        const Condition asked(names, words, table);
+        const Condition asked(names, words);
+        const auto *const name = reinterpret_cast<const uint8_t *>(names[0].data());
         return made([&](auto *out, auto *error) {
-            return hv_table_filter_where(&session(), table.raw(), &asked.all, out, error);
+            return hv_table_filter_by(table.raw(), name, names[0].size(), asked.all.operator_, asked.all.value,
+                                      asked.all.text, asked.all.text_len, out, error);
         });
     }
     const hv::Column column = column_of("", words).column.clone();

@@ -42,23 +42,19 @@ struct Rows {
 
 static bool is_null(const Value &value) { return std::holds_alternative<Null>(value); }
 
-// The key of a small whole float in an i64, by the bits of IEEE 754.
-static int64_t key_of(double number) {
+// The value as it is stored: a float, which is not NaN, by its key in an i64, by the bits of IEEE 754.
+static Value stored(const Value &value) {
+    const auto *number = std::get_if<double>(&value);
     uint64_t bits;
-    std::memcpy(&bits, &number, sizeof bits);
-    return number < 0 ? -1 - static_cast<int64_t>(bits << 1 >> 1) : static_cast<int64_t>(bits);
-}
-static double float_of(int64_t key) {
-    const uint64_t bits = key < 0 ? static_cast<uint64_t>(-1 - key) | uint64_t{1} << 63 : static_cast<uint64_t>(key);
-    double number;
-    std::memcpy(&number, &bits, sizeof number);
-    return number;
+    if (!number) return value;
+    std::memcpy(&bits, number, sizeof bits);
+    return *number < 0 ? -1 - static_cast<int64_t>(bits << 1 >> 1) : static_cast<int64_t>(bits);
 }
 
 static Value random_value(hv_kind kind, const std::string &format) {
     const int64_t number = static_cast<int64_t>(below(7)) - 3;
     if (kind.nullable && below(5) == 0) return Null{};
-    if (format == "g") return key_of(static_cast<double>(number) + 0.25);
+    if (format == "g") return static_cast<double>(number) + 0.25;
     switch (kind.number) {
     case HV_BOOL: return below(2) == 1;
     case HV_UTF8: return std::string(below(3), static_cast<char>('a' + below(3)));
@@ -95,9 +91,9 @@ static Column column_of(const Rows &model, size_t column) {
     const hv_kind kind = model.kinds[column];
     const size_t before = below(4), after = below(4);
     hv::Builder builder(kind);
-    if (before) builder.append(random_value(kind, model.formats[column]), before);
-    for (const Row &row : model.rows) builder.append(row[column]);
-    if (after) builder.append(random_value(kind, model.formats[column]), after);
+    if (before) builder.append(stored(random_value(kind, model.formats[column])), before);
+    for (const Row &row : model.rows) builder.append(stored(row[column]));
+    if (after) builder.append(stored(random_value(kind, model.formats[column])), after);
     const Column runs = builder.finish().slice(before, before + model.rows.size());
     const bool is_one = runs.size() > 0 && runs.is_constant();
     if (is_one && below(2)) return Column::constant(kind, runs.at(0), runs.size());
@@ -208,6 +204,8 @@ static int compared(const Value &left, const Value &right) { // neither is null
         return (*number > std::get<int64_t>(right)) - (*number < std::get<int64_t>(right));
     if (auto *number = std::get_if<uint64_t>(&left))
         return (*number > std::get<uint64_t>(right)) - (*number < std::get<uint64_t>(right));
+    if (auto *number = std::get_if<double>(&left))
+        return (*number > std::get<double>(right)) - (*number < std::get<double>(right));
     if (auto *flag = std::get_if<bool>(&left)) return int{*flag} - int{std::get<bool>(right)};
     if (auto *text = std::get_if<std::string>(&left)) return text->compare(std::get<std::string>(right));
     const hv::Bytes &one = std::get<hv::Bytes>(left), &other = std::get<hv::Bytes>(right);
@@ -239,7 +237,7 @@ static void check_order(const Table &table, const Rows &model) {
 // ---- Groups ----
 
 // What is answered of the values of a group, which are rows of one column.
-static Value answer_of(Fold fold, const Row &values, bool is_float) {
+static Value answer_of(Fold fold, const Row &values) {
     Row valid;
     for (const Value &value : values)
         if (!is_null(value)) valid.push_back(value);
@@ -261,17 +259,17 @@ static Value answer_of(Fold fold, const Row &values, bool is_float) {
     double real = 0; // of quarters, which add up exactly
     for (const Value &value : valid) {
         if (auto *number = std::get_if<uint64_t>(&value)) natural += *number;
-        else if (is_float) real += float_of(std::get<int64_t>(value));
+        else if (auto *part = std::get_if<double>(&value)) real += *part;
         else total += std::get<int64_t>(value);
     }
     if (std::holds_alternative<uint64_t>(valid[0])) return natural;
-    return is_float ? key_of(real) : total;
+    return std::holds_alternative<double>(valid[0]) ? Value(real) : Value(total);
 }
 
 static void check_groups(const Table &table, const Rows &model) {
     const size_t asked = below(model.names.size());
     const hv_kind kind = model.kinds[asked];
-    const bool is_float = model.formats[asked] == "g", is_decimal = kind.number == HV_DECIMAL;
+    const bool is_decimal = kind.number == HV_DECIMAL;
     if (!(kind.number <= HV_I64 || is_decimal)) return;
     static const Fold folds[] = {Fold::rows,  Fold::count, Fold::least, Fold::greatest,
                                  Fold::first, Fold::last,  Fold::sum};
@@ -294,7 +292,7 @@ static void check_groups(const Table &table, const Rows &model) {
         Row group = key_of_row(model.rows[row]), values;
         for (stop = row; stop < model.rows.size() && key_of_row(model.rows[stop]) == group; stop++)
             values.push_back(model.rows[stop][asked]);
-        group.push_back(answer_of(fold, values, is_float));
+        group.push_back(answer_of(fold, values));
         due.rows.push_back(group);
     }
     due.names = names, due.names.push_back("answer");

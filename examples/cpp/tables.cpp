@@ -110,7 +110,7 @@ static void check_floats() {
     const Table missing{{"key", {1, 1, 2}}, {"x", some}};
     const hv::Floats<double> found(missing.group_by({"key"}).fold({"sum", Fold::sum, "x"}).column.clone());
     CHECK(!found.at(0) && found.at(1) == 2.5);
-    check_refused(HV_TYPE_MISMATCH, "column 'wide': a float is not compared with a text",
+    check_refused(HV_TYPE_MISMATCH, "column 'wide': i64 of the logical type g is not compared with a text",
                   [&] { table.filter_by("wide", "<", "1"); });
 }
 
@@ -199,7 +199,7 @@ static void check_groups() {
     CHECK(std::isnan(*hv::Floats<double>(odd["first"].clone()).at(2)));
     check_refused(HV_UNSUPPORTED, "column 'at': rows of the logical type tts have no sum",
                   [&] { groups.fold({"sum", Fold::sum, "at"}); });
-    check_refused(HV_UNSUPPORTED, "column 'station': rows of utf8 have no sum",
+    check_refused(HV_UNSUPPORTED, "column 'station': utf8 has no sum",
                   [&] { groups.fold({"sum", Fold::sum, "station"}); });
     check_refused(HV_TABLE_UNKNOWN_NAME, no_to, [&] { groups.fold({"sum", Fold::sum, "to"}); });
     check_refused(HV_TABLE_NAME_TWICE, "two columns have the name 'station'",
@@ -310,7 +310,7 @@ static void check_files() {
     CHECK(!footer.may_have("level", Operator::equal, 39) && footer.may_have("level", Operator::equal, 500));
     CHECK(!footer.may_have("station", Operator::less, "north") && footer.may_have("share", Operator::greater, 7));
     check_refused(HV_TABLE_UNKNOWN_NAME, no_to, [&] { footer["to"]; });
-    check_refused(HV_TYPE_MISMATCH, "column 'share': a float is not compared with a text",
+    check_refused(HV_TYPE_MISMATCH, "column 'share': i64 of the logical type g is not compared with a text",
                   [&] { footer.may_have("share", Operator::equal, "north"); }); // of which a row is NaN
     { std::ofstream(path, std::ios::binary) << "no table"; }
     check_refused(HV_BAD_METADATA, path + ", of 8 bytes, is not the file of a table", [&] { Table::load(path); });

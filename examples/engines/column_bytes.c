@@ -202,7 +202,8 @@ int32_t column_bytes_read(const uint8_t *bytes, size_t size, hv_column *out, log
     int32_t answer = read_message(bytes, size, &column, &keys, &found, error);
     if (answer) return hv_free(&column), answer;
     const uint8_t number = hv_kind_of(&column).number;
-    if (keys == HV_LIST && (number == HV_I64 || number == HV_UTF8 || number == HV_BINARY)) hv_put(out, &column);
+    if (keys == HV_LIST && (number == HV_I64 || number == HV_UTF8 || number == HV_BINARY))
+        answer = hv_with_type(&column, NULL, 0, out, error);
     else if (number != HV_LIST && is_long(&column))
         answer = made_by_stretches(&column, NULL, served, &keys, out, error);
     else answer = served(&keys, &column, NULL, out, error);

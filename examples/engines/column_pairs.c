@@ -13,7 +13,7 @@ int32_t column_of_value(const row_value *value, size_t rows, hv_column *out, hv_
 
 /* Whether each number is not 0, as booleans; 12 for other rows. */
 static int32_t truths_of(const hv_column *numbers, hv_column *out, hv_error *error) {
-    const hv_value zero = {0, 0, HV_SIGNED, 0};
+    const hv_value zero = {0, 0, HV_SIGNED, 0, 0};
     hv_session session;
     hv_session_initial(&session);
     return hv_compare_value(&session, numbers, HV_NE, &zero, NULL, 0, out, error);
@@ -21,7 +21,7 @@ static int32_t truths_of(const hv_column *numbers, hv_column *out, hv_error *err
 
 static int32_t negated(const void *how, const hv_column *column, const hv_column *none, hv_column *out,
                        hv_error *error) {
-    const hv_value zero = {0, 0, HV_SIGNED, 0};
+    const hv_value zero = {0, 0, HV_SIGNED, 0, 0};
     hv_column truths = HV_EMPTY;
     hv_session session;
     (void)how, (void)none;
@@ -55,7 +55,7 @@ int32_t column_where(const hv_column *column, const hv_column *mask, hv_column *
 
 /* A column of only null in the type of another; `made` has it, which is empty where the column has another value. */
 static int32_t as_null(const hv_column *column, hv_kind kind, hv_column *made, hv_error *error) {
-    const hv_value null = {0, 0, HV_NULL, 0};
+    const hv_value null = {0, 0, HV_NULL, 0, 0};
     uint8_t is_null = 0;
     const int32_t answer = column_is_null_alone(column, &is_null, error);
     kind.nullable = 1;

@@ -210,18 +210,48 @@ static bool is_nan_of(uint8_t keys, uint64_t bits) {
     return keys == HV_I32 ? (bits & 0x7FFFFFFF) > 0x7F800000 : bits << 1 > (uint64_t)0x7FF << 53;
 }
 
+/* The keys under the format of their floats. */
+static int32_t typed_keys(const hv_column *keys, hv_column *out, hv_error *error) {
+    return hv_with_type(keys, float_format(hv_kind_of(keys).number == HV_I32 ? HV_U32 : HV_U64), 1, out, error);
+}
+
+/* The bits, in the width of the keys, of what the library answers: of a number, or in the total order of a key. */
+static uint64_t bits_of_answer(uint8_t keys, const hv_value *answered) {
+    const uint64_t sign = (uint64_t)1 << (keys == HV_I32 ? 31 : 63);
+    const float narrow = (float)float_of_bits(answered->as_unsigned);
+    uint32_t bits;
+    if (answered->kind == HV_SIGNED)
+        return answered->as_signed < 0 ? (uint64_t)(-1 - answered->as_signed) | sign : (uint64_t)answered->as_signed;
+    memcpy(&bits, &narrow, sizeof bits);
+    return keys == HV_I32 ? bits : answered->as_unsigned;
+}
+
+/* The extremes of a column of keys: of numbers under the format of floats, of all in the total order without one. */
+static int32_t answered_extremes(const hv_column *column, float_extremes *found, hv_error *error) {
+    const uint8_t number = hv_kind_of(column).number;
+    hv_value least, greatest;
+    hv_session session;
+    hv_session_initial(&session);
+    const int32_t answer = hv_min_max(&session, column, &least, NULL, 0, &greatest, NULL, 0, error);
+    *found = (float_extremes){false, 0, 0};
+    if (!answer && least.kind != HV_NULL)
+        *found = (float_extremes){true, bits_of_answer(number, &least), bits_of_answer(number, &greatest)};
+    return answer;
+}
+
 /* The same of keys. In the total order NaNs are outside of all numbers, so one at an end says whether there are any. */
 static int32_t extremes_of_keys(const hv_column *keys, nan_order nans, float_extremes *found, hv_error *error) {
     const uint8_t number = hv_kind_of(keys).number;
-    uint8_t numbers = 0, rows = 0;
-    uint64_t first = 0, last = 0;
-    int32_t answer = hv_float_min_max(keys, 0, &rows, &first, &last, error);
-    *found = (float_extremes){rows, first, last};
-    if (answer || !rows || (!is_nan_of(number, first) && !is_nan_of(number, last))) return answer;
-    answer = hv_float_min_max(keys, 1, &numbers, &found->least, &found->greatest, error);
-    found->found = numbers || nans == NAN_GREATEST;
+    hv_column floats = HV_EMPTY;
+    int32_t answer = answered_extremes(keys, found, error);
+    const uint64_t first = found->least, last = found->greatest;
+    if (answer || !found->found || (!is_nan_of(number, first) && !is_nan_of(number, last))) return answer;
+    answer = typed_keys(keys, &floats, error);
+    if (!answer) answer = answered_extremes(&floats, found, error);
     if (nans == NAN_GREATEST) found->greatest = is_nan_of(number, last) ? last : first;
-    if (!numbers) found->least = found->greatest;
+    if (!found->found) found->least = found->greatest;
+    found->found |= nans == NAN_GREATEST;
+    hv_free(&floats);
     return answer;
 }
 
@@ -292,7 +322,15 @@ static int32_t overflows(const hv_column *keys, uint64_t sum, bool *answer_is, h
 
 static int32_t sum_of_keys(const hv_column *keys, nan_order nans, uint64_t *count, uint64_t *bits, hv_error *error) {
     bool is_past = false;
-    int32_t answer = hv_float_sum(keys, count, bits, error);
+    hv_column floats = HV_EMPTY;
+    hv_session session;
+    hv_total total = {0, 0, HV_NULL, 1, 0};
+    hv_session_initial(&session);
+    int32_t answer = typed_keys(keys, &floats, error);
+    if (!answer) answer = hv_sum(&session, &floats, &total, error);
+    *count = hv_length(keys) - hv_null_count(keys);
+    *bits = total.as_unsigned;
+    hv_free(&floats);
     if (!answer && nans == NAN_GREATEST) answer = overflows(keys, *bits, &is_past, error);
     return !answer && is_past ? HV_CAST_OUT_OF_RANGE : answer;
 }

@@ -69,7 +69,7 @@ typedef struct float_extremes {
  * greatest where there is one, and the least where there is nothing else. INTERRUPTED, 21. */
 int32_t float_column_extremes(const hv_column *column, nan_order nans, float_extremes *found, hv_error *error);
 
-/* How many rows are not null, and the bits, of 64, of their exact sum, as hv_float_sum. Where NaNs are the greatest, 14
+/* How many rows are not null, and the bits, of 64, of their exact sum, as hv_sum. Where NaNs are the greatest, 14
  * for a sum of finite rows that is past the finite floats, as PostgreSQL refuses it. 21. */
 int32_t float_column_sum(const hv_column *column, nan_order nans, uint64_t *count, uint64_t *bits, hv_error *error);
 

@@ -20,7 +20,7 @@ int32_t float_total_add(float_total *total, const hv_column *column, hv_error *e
 /* Adds all rows of another. */
 void float_total_join(float_total *total, const float_total *other);
 
-/* The bits of the sum, as hv_float_sum has them: a NaN where a row is one or both infinities are rows, an infinity past
+/* The bits of the sum, as hv_sum has them: a NaN where a row is one or both infinities are rows, an infinity past
  * the finite floats, -0.0 where there are rows and all are -0.0. */
 uint64_t float_total_bits(const float_total *total);
 

@@ -38,7 +38,7 @@ static int32_t add_batch(walk *at, hv_error *error) {
 
 /* Adds the single rows that wait: as a column, which takes longer for few of them. */
 static int32_t add_few(walk *at, hv_error *error) {
-    hv_value value = {0, 0, HV_SIGNED, 0};
+    hv_value value = {0, 0, HV_SIGNED, 0, 0};
     int32_t answer = HV_OK;
     if (hv_builder_runs(&at->made) >= MOST_RUNS) return TOO_MANY_RUNS;
     if (is_interrupted()) return INTERRUPTED;
@@ -58,7 +58,7 @@ static int32_t add_value(walk *at, const hv_value *value, uint64_t rows, hv_erro
 }
 
 static int32_t add_rows(walk *at, int64_t number, uint64_t rows, hv_error *error) {
-    const hv_value value = {0, number, HV_SIGNED, 0};
+    const hv_value value = {0, number, HV_SIGNED, 0, 0};
     if (rows == 0) return HV_OK;
     if (rows > 1) return add_value(at, &value, rows, error);
     at->few[at->waiting++] = number;
@@ -148,7 +148,7 @@ static int32_t add_step_buckets(walk *at, const number_run *run, hv_error *error
 
 /* Adds what is made of the runs of a stretch, which are numbers, from row `first` on. */
 static int32_t add_runs(walk *at, const run_parts *runs, const int64_t *numbers, uint64_t first, hv_error *error) {
-    const hv_value null = {0, 0, HV_NULL, 0};
+    const hv_value null = {0, 0, HV_NULL, 0, 0};
     uint64_t start = 0;
     int32_t answer = HV_OK;
     for (size_t run = 0; !answer && run < runs->count; run++) {

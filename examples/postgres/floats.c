@@ -26,7 +26,7 @@ row_value hv_float_value(uint8_t kind, Datum number) {
 
 void hv_floats_of(const char *function, bytea *bytes, hv_column *out) {
     const hv_kind of_null = {HV_U64, 1, 0, 0};
-    const hv_value null = {0, 0, HV_NULL, 0};
+    const hv_value null = {0, 0, HV_NULL, 0, 0};
     hv_error error = {0, 0, 0};
     hv_column column = HV_EMPTY;
     hv_column_of(function, bytes, &column);
