@@ -14,7 +14,7 @@ const THRESHOLD: i64 = 40;
 #[derive(Clone, Copy, Debug, Default, PartialEq)]
 struct Found {
     rows: usize,
-    sum: i128,
+    sum: i64,
 }
 
 fn filtered(part: &Column) -> Result<Column, Error> {
@@ -22,7 +22,7 @@ fn filtered(part: &Column) -> Result<Column, Error> {
 }
 
 fn summed(part: &Column) -> Result<Column, Error> {
-    Column::new(&[part.sum()?.total as i64])
+    Column::new(&[i64::try_from(part.sum()?.total)?])
 }
 
 /// Works each part on a thread of its own; returns how long that takes, and what is left.
@@ -42,7 +42,7 @@ fn worked(
     let (time, mut found) = (begin.elapsed(), Found::default());
     for part in made? {
         found.rows += part.len();
-        found.sum += part.sum()?.total;
+        found.sum += i64::try_from(part.sum()?.total)?;
     }
     Ok((time, found))
 }
@@ -74,12 +74,12 @@ fn run(rows: usize, turns: usize, threads: &[usize]) -> Result<bool, Error> {
     let items: Vec<i64> = (0..rows).map(|row| (row / 29 * 37 % 101) as i64).collect();
     let all = Found {
         rows,
-        sum: items.iter().map(|item| i128::from(*item)).sum(),
+        sum: items.iter().sum(),
     };
     let kept = items.iter().filter(|item| **item >= THRESHOLD);
     let kept = Found {
         rows: kept.clone().count(),
-        sum: kept.map(|item| i128::from(*item)).sum(),
+        sum: kept.sum(),
     };
     let flat = Column::new(&items)?;
     drop(items);

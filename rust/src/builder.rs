@@ -61,8 +61,12 @@ impl Builder {
     /// Appends `count` rows of one value; refused as `CastOutOfRange` for a number that the type does not have, as
     /// `TypeMismatch` for a value of another sort, and as `NullNotAllowed` for null in a type without null.
     pub fn append_value(&mut self, value: impl Into<Value>, count: usize) -> Result<(), Error> {
-        let value = value.into().fitted(self.kind)?;
-        let (passed, text) = value.passed();
+        self.append_row(&value.into().fitted(self.kind)?, count)
+    }
+
+    /// Appends `count` rows that are one of the type.
+    pub(crate) fn append_row(&mut self, row: &Value, count: usize) -> Result<(), Error> {
+        let (passed, text) = row.passed();
         let (handle, bytes) = (self.handle.get(), text.as_ptr());
         ask(|fields| unsafe {
             raw::hv_append_value(handle, &passed, bytes, text.len(), count, fields)

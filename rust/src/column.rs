@@ -295,7 +295,8 @@ impl Column {
 }
 
 /// What the rows of a column mean. Calls that give back its rows keep it: copies, slices, takes, filters and so on, as
-/// `hivevigil.h` lists them; no call asks what it says.
+/// `hivevigil.h` lists them. Rows that are looked up, sums, and the least and the greatest row go by it: floats are
+/// floats, and dates have no sum. All other calls take rows as they are stored.
 impl Column {
     /// Returns the logical type, a format of Arrow as `tsu:UTC`; `None` where the column has none.
     ///

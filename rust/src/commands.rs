@@ -1,6 +1,6 @@
 //! Commands on columns.
-use crate::raw::{self, Handle};
-use crate::{fits, Column, Error, ErrorKind, Fields, Form, Kind, Operator, Session, Value};
+use crate::raw::{self, Handle, RawValue};
+use crate::{Column, Error, ErrorKind, Fields, Form, Kind, Operator, Session, Value};
 use std::ops::{Bound, RangeBounds};
 
 /// Commands, each of which makes a column.
@@ -101,7 +101,7 @@ impl Column {
 
     /// Finds the first row that a cast does not serve, as the refusal of it.
     fn first_misfit(&self, kind: Kind) -> Option<Error> {
-        for run in self.runs().ok()? {
+        for run in self.with_logical_type("").ok()?.runs().ok()? {
             let run = run.ok()?;
             let refused = match run.value {
                 Value::Null if !kind.is_nullable() => {
@@ -173,16 +173,18 @@ impl Column {
         })
     }
 
-    /// Compares each row with one value, of the column's sort or null. Any number is compared with integers and
-    /// decimals: each row of `i8` is less than 300, and 0.51 is greater than 0.505. The answer is in runs where the
-    /// column is.
+    /// Compares each row with one value, of the column's sort or null. Any number is compared with integers, decimals
+    /// and floats, as the exact numbers that they are, and by IEEE 754 where one is a NaN or an infinity: each row of
+    /// `i8` is less than 300, and 0.51 is greater than 0.505. Dates, times and durations are compared as they are
+    /// stored. The answer is in runs where the column is, and of floats in as few as possible. Refused as `Unsupported`
+    /// for lists, and as `TypeMismatch` for a value of another sort.
     ///
     /// ```
     /// use hivevigil::{Column, Operator, Value};
     /// let above = Column::new(&[4u64, 7])?.compare_value(Operator::Greater, 4)?;
     /// assert_eq!((above.at(0)?, above.at(1)?), (Value::Truth(false), Value::Truth(true)));
-    /// let all = Column::new(&[4i8, 7])?.compare_value(Operator::Less, 300)?;
-    /// assert_eq!((all.at(0)?, all.at(1)?), (Value::Truth(true), Value::Truth(true)));
+    /// let all = Column::new(&[4i8, 7])?.compare_value(Operator::Less, 4.5)?;
+    /// assert_eq!((all.at(0)?, all.at(1)?), (Value::Truth(true), Value::Truth(false)));
     /// # Ok::<(), hivevigil::Error>(())
     /// ```
     pub fn compare_value(
@@ -190,40 +192,50 @@ impl Column {
         operator: Operator,
         value: impl Into<Value>,
     ) -> Result<Column, Error> {
-        let (operator, value) = fits::comparison(operator, value.into(), self.kind());
-        if self.form() == Form::Runs && !self.kind().is_list() {
-            return self.compared_by_runs(operator, &value);
+        if self.kind().is_list() {
+            return Err(Error::of(ErrorKind::Unsupported));
         }
-        let (passed, text) = value.passed();
-        self.command(|session, column, out, fields| unsafe {
-            let (some, count) = (text.as_ptr(), text.len());
-            raw::hv_compare_scalar(
-                session,
-                column,
-                operator as u8,
-                &passed,
-                some,
-                count,
-                out,
-                fields,
-            )
-        })
-        .map_err(|error| error.not_compared(self.kind(), value.sort()))
+        let value = value.into();
+        let compared = match value.as_number() {
+            Some(number) => self.compared_with_number(operator, &number),
+            None => self.compared_with_row(operator, &value),
+        };
+        match compared {
+            Err(error) if error.kind() == Some(ErrorKind::TypeMismatch) => {
+                match self.logical_type() {
+                    Some(_) => self.with_logical_type("")?.compare_value(operator, value), // times are not numbers
+                    None => Err(error.not_compared(self.kind(), value.sort())),
+                }
+            }
+            compared => compared,
+        }
     }
 
-    /// Compares each row with one value as a column of it, which is one run: no row is written.
-    fn compared_by_runs(&self, operator: Operator, value: &Value) -> Result<Column, Error> {
+    /// Compares each row with a number of any type.
+    fn compared_with_number(&self, operator: Operator, number: &RawValue) -> Result<Column, Error> {
+        self.part(|column, out, fields| unsafe {
+            raw::hv_compare_number(column, operator as u8, number, out, fields)
+        })
+    }
+
+    /// Compares each row with one of the column's type: runs with a column of it, which is one run.
+    fn compared_with_row(&self, operator: Operator, value: &Value) -> Result<Column, Error> {
+        let (passed, text) = value.passed();
+        let (some, count) = (text.as_ptr(), text.len());
+        if self.form() != Form::Runs {
+            let operator = operator as u8;
+            return self.command(|session, column, out, fields| unsafe {
+                raw::hv_compare_scalar(session, column, operator, &passed, some, count, out, fields)
+            });
+        }
         let kind = match value {
             Value::Null => self.kind().nullable(),
             _ => self.kind().not_nullable(),
         };
-        let (passed, text) = value.passed();
-        let (some, count) = (text.as_ptr(), text.len());
-        Column::made(|out, fields| unsafe {
+        let constant = Column::made(|out, fields| unsafe {
             raw::hv_constant(&kind, &passed, some, count, self.len(), out, fields)
-        })
-        .and_then(|constant| self.combined(operator as u8, &constant))
-        .map_err(|error| error.not_compared(self.kind(), value.sort()))
+        })?;
+        self.combined(operator as u8, &constant)
     }
 
     /// Puts a value in place of each null, after which the type has no null; refused as `NullFill` for null, as

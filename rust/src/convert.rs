@@ -183,8 +183,15 @@ macro_rules! others {
 others! {
     bool, Truth, "a boolean";
     Decimal, Decimal, "a decimal";
+    f64, Float, "a float";
     String, Text, "a text";
     Vec<u8>, Bytes, "bytes";
+}
+
+impl From<f32> for Value {
+    fn from(item: f32) -> Value {
+        Value::Float(item.into())
+    }
 }
 
 impl From<&str> for Value {

@@ -64,41 +64,6 @@ impl Decimal {
     }
 }
 
-impl AtScale {
-    /// Counts a float that is not NaN in units of the last place of a scale of 0 to 38, exactly. It is 53 bits times a
-    /// power of two, and these bits times 10^scale are `floor` * 2^64 + `low`.
-    pub(crate) fn of_float(float: f64, scale: u32) -> AtScale {
-        let exponent = (float.to_bits() >> 52 & 0x7ff) as i32;
-        let fraction = u128::from(float.to_bits() & ((1 << 52) - 1));
-        let bits = match exponent {
-            0 => fraction << 1,
-            _ => fraction | 1 << 52,
-        };
-        let (side, tens) = (float.total_cmp(&0.0), 10u128.pow(scale));
-        let lowest = bits * u128::from(tens as u64);
-        let (mut floor, mut low) = (bits * (tens >> 64) + (lowest >> 64), lowest as u64);
-        let mut power = exponent - 1075 + 64; // the point is 64 bits to the right of `floor`
-        if float.is_infinite() {
-            return AtScale::Outside(side);
-        }
-        while power > 0 && (floor, low) != (0, 0) {
-            if floor >> 126 != 0 {
-                return AtScale::Outside(side);
-            }
-            (floor, low, power) = (floor << 1 | u128::from(low >> 63), low << 1, power - 1);
-        }
-        let lost = u32::try_from(-power).unwrap_or(0);
-        let whole = floor.checked_shr(lost).unwrap_or(0);
-        let is_exact = low == 0 && whole.checked_shl(lost).unwrap_or(0) == floor;
-        match (float < 0.0, is_exact) {
-            (false, true) => AtScale::Exact(whole as i128),
-            (false, false) => AtScale::Above(whole as i128),
-            (true, true) => AtScale::Exact(-(whole as i128)),
-            (true, false) => AtScale::Above(-(whole as i128) - 1),
-        }
-    }
-}
-
 impl PartialEq for Decimal {
     fn eq(&self, other: &Decimal) -> bool {
         self.at_scale(other.scale) == AtScale::Exact(other.digits)

@@ -1,7 +1,6 @@
-//! Which values fit a type, and how a column is compared with a number that its type does not have.
+//! Which values fit a type.
 use crate::decimal::AtScale;
-use crate::{Decimal, Error, ErrorKind, Kind, Operator, Value};
-use std::cmp::Ordering;
+use crate::{Decimal, Error, ErrorKind, Kind, Value};
 use std::ops::RangeInclusive;
 
 impl Kind {
@@ -10,7 +9,7 @@ impl Kind {
     }
 
     /// Returns the numbers that a column of a numeric type may hold, without scale. C does not test the precision.
-    pub(crate) fn range(self) -> RangeInclusive<i128> {
+    fn range(self) -> RangeInclusive<i128> {
         let bits = 8 << (self.number % 4);
         if self.is_decimal() {
             i128::MIN..=i128::MAX
@@ -47,6 +46,7 @@ impl Value {
             Value::Unsigned(_) | Value::Signed(_) => "an integer",
             Value::Truth(_) => "a boolean",
             Value::Decimal(_) => "a decimal",
+            Value::Float(_) => "a float",
             Value::Text(_) => "a text",
             Value::Bytes(_) => "bytes",
         }
@@ -79,6 +79,7 @@ impl Value {
             Value::Truth(_) => kind.is_list() || kind.number == Kind::BOOL.number,
             Value::Text(_) => kind.is_list() || kind.number == Kind::UTF8.number,
             Value::Bytes(_) => kind.is_list() || kind.number == Kind::BINARY.number,
+            Value::Float(_) => kind.is_list(),
             _ => kind.is_list() || kind.is_numeric(),
         }
     }
@@ -97,61 +98,6 @@ impl Value {
         match number.at_scale(kind.places()) {
             AtScale::Exact(digits) if kind.has(digits) => Ok(Value::of_digits(digits, kind)),
             _ => Err(Error::misfit(number, kind)),
-        }
-    }
-}
-
-/// Finds the comparison with a number of the type that answers what `row operator value` does for its rows. A number
-/// that lies past the type, or between two of its numbers, is decided by one that the type has: each row is below 300
-/// where each is at most 127, and above 0.505 where it is above 0.50.
-pub(crate) fn comparison(operator: Operator, value: Value, kind: Kind) -> (Operator, Value) {
-    match value.number().filter(|_| kind.is_numeric()) {
-        Some(number) => decided(operator, number.at_scale(kind.places()), kind),
-        None => (operator, value),
-    }
-}
-
-/// Finds the same of a float, by the exact number that it is; NaN is unequal to each row. `None` where rows of the type
-/// are not compared with floats: those that are not numbers, and decimals of a scale that is not 0 to 38.
-pub(crate) fn float_comparison(
-    operator: Operator,
-    float: f64,
-    kind: Kind,
-) -> Option<(Operator, Value)> {
-    let scale = u32::try_from(kind.places()).ok()?;
-    match kind.is_numeric() && scale <= 38 {
-        true if float.is_nan() && operator != Operator::NotEqual => {
-            Some(decided(Operator::Equal, AtScale::Above(0), kind))
-        }
-        true if float.is_nan() => Some(decided(operator, AtScale::Above(0), kind)),
-        true => Some(decided(operator, AtScale::of_float(float, scale), kind)),
-        false => None,
-    }
-}
-
-fn decided(operator: Operator, at: AtScale, kind: Kind) -> (Operator, Value) {
-    use Operator::{Greater, GreaterOrEqual, Less, LessOrEqual, NotEqual};
-    let below = matches!(operator, Less | LessOrEqual);
-    let above = matches!(operator, Greater | GreaterOrEqual);
-    let side = match at {
-        AtScale::Outside(side) => side,
-        AtScale::Exact(digits) | AtScale::Above(digits) if kind.range().contains(&digits) => {
-            Ordering::Equal
-        }
-        AtScale::Exact(digits) | AtScale::Above(digits) => digits.cmp(&0),
-    };
-    match at {
-        AtScale::Exact(digits) if side.is_eq() => (operator, Value::of_digits(digits, kind)),
-        AtScale::Above(digits) if side.is_eq() && below => {
-            (LessOrEqual, Value::of_digits(digits, kind))
-        }
-        AtScale::Above(digits) if side.is_eq() && above => {
-            (Greater, Value::of_digits(digits, kind))
-        }
-        _ => {
-            let holds = operator == NotEqual || (side.is_gt() && below) || (side.is_lt() && above);
-            let decided = if holds { LessOrEqual } else { Greater };
-            (decided, Value::of_digits(*kind.range().end(), kind))
         }
     }
 }

@@ -1,7 +1,6 @@
 //! Columns of floats, stored by their keys.
-use crate::column::turn_of;
 use crate::error::What;
-use crate::{ask, raw, Column, Error, ErrorKind, Kind, Native, Operator};
+use crate::{raw, Column, Error, ErrorKind, Kind, Native, Operator, Value};
 use std::marker::PhantomData;
 
 /// Has the values of floats of 32 or 64 bits.
@@ -15,12 +14,14 @@ mod sealed {
 
     /// Says what a float is by its bits.
     pub trait Pattern: Sized {
-        /// Returns the bits, in the low part.
-        fn bits(self) -> u64;
+        /// Names the format of Arrow for columns of these floats.
+        const FORMAT: &'static str;
         /// Returns the float with these bits.
         fn of(bits: u64) -> Self;
         /// Returns the same number in 64 bits.
         fn wide(self) -> f64;
+        /// Returns the float that is this number, which it has.
+        fn narrow(wide: f64) -> Self;
         /// Returns the place in the total order, counted from 0.0.
         fn key(self) -> i64;
         /// Makes the column of the bits of rows.
@@ -31,19 +32,20 @@ mod sealed {
 }
 
 macro_rules! float {
-    ($($type:ty, $bits:ty, $key:ty, $keys:ident;)*) => { $(
+    ($($type:ty, $bits:ty, $key:ty, $keys:ident, $format:literal, $narrow:expr;)*) => { $(
         impl Float for $type {
             const KEYS: Kind = Kind::$keys;
         }
         impl sealed::Pattern for $type {
-            fn bits(self) -> u64 {
-                u64::from(self.to_bits())
-            }
+            const FORMAT: &'static str = $format;
             fn of(bits: u64) -> $type {
                 <$type>::from_bits(bits as $bits)
             }
             fn wide(self) -> f64 {
                 f64::from(self)
+            }
+            fn narrow(wide: f64) -> $type {
+                $narrow(wide)
             }
             fn key(self) -> i64 {
                 let magnitude = i64::from(self.abs().to_bits() as $key);
@@ -62,8 +64,19 @@ macro_rules! float {
 }
 
 float! {
-    f32, u32, i32, I32;
-    f64, u64, i64, I64;
+    f32, u32, i32, I32, "f", single;
+    f64, u64, i64, I64, "g", std::convert::identity;
+}
+
+/// Returns the float of 32 bits that is this number; a NaN keeps its sign and its payload.
+fn single(wide: f64) -> f32 {
+    let bits = wide.to_bits();
+    match wide.is_nan() {
+        true => f32::from_bits(
+            (bits >> 32) as u32 & 0x8000_0000 | 0x7f80_0000 | (bits >> 29) as u32 & 0x7f_ffff,
+        ),
+        false => wide as f32,
+    }
 }
 
 /// Says how floats are compared.
@@ -85,7 +98,8 @@ enum FloatPairing {
     Divide = 14,
 }
 
-/// Holds a column of floats: that of their keys, which are their places in the total order.
+/// Holds a column of floats: that of their keys, which are their places in the total order, under the logical type of
+/// these floats.
 ///
 /// ```
 /// use hivevigil::{Floats, Operator};
@@ -122,11 +136,12 @@ impl<T: Float> Floats<T> {
         Floats::of_keys(Column::constant(T::KEYS, number.key(), rows)?)
     }
 
-    /// Takes a column as the keys of floats. Refused as `TypeMismatch` unless it has integers of the width.
+    /// Takes a column as the keys of floats, whatever its logical type. Refused as `TypeMismatch` unless it has
+    /// integers of the width.
     pub fn of_keys(keys: Column) -> Result<Floats<T>, Error> {
         match keys.kind().not_nullable() == T::KEYS {
             true => Ok(Floats {
-                keys,
+                keys: keys.with_logical_type(T::FORMAT)?,
                 float: PhantomData,
             }),
             false => {
@@ -137,7 +152,8 @@ impl<T: Float> Floats<T> {
         }
     }
 
-    /// Returns the keys, whose slices, takes and filters are those of the floats.
+    /// Returns the keys, under the logical type of the floats: slices, takes and filters are those of the floats, and
+    /// so are the rows that are looked up, the sum, the least and the greatest.
     pub fn keys(&self) -> &Column {
         &self.keys
     }
@@ -154,18 +170,7 @@ impl<T: Float> Floats<T> {
 
     /// Returns a row, `None` for null; refused as `OutOfBounds` past the end.
     pub fn at(&self, row: usize) -> Result<Option<T>, Error> {
-        let _turn = turn_of(&[&self.keys]);
-        let (mut is_valid, mut bits) = (0, 0);
-        ask(|fields| unsafe {
-            raw::hv_float_at(
-                self.keys.handle.get(),
-                row,
-                &mut is_valid,
-                &mut bits,
-                fields,
-            )
-        })?;
-        Ok((is_valid != 0).then(|| T::of(bits)))
+        Ok(self.keys.get::<f64>(row)?.map(T::narrow))
     }
 
     /// Returns all rows, `None` for null.
@@ -191,38 +196,43 @@ impl<T: Float> Floats<T> {
         right: T,
         order: FloatOrder,
     ) -> Result<Column, Error> {
-        self.keys.part(|keys, out, fields| unsafe {
-            raw::hv_float_compare(keys, operator as u8, right.bits(), order as u8, out, fields)
-        })
+        match order {
+            FloatOrder::Ieee => self.keys.compare_value(operator, right.wide()),
+            FloatOrder::Total => {
+                let places = self.keys.with_logical_type("")?;
+                places.compare_value(operator, right.key())
+            }
+        }
     }
 
     /// Finds the least and the greatest row that is not null, of numbers or of all floats; `None` where there is none.
     pub fn least_and_greatest(&self, order: FloatOrder) -> Result<Option<(T, T)>, Error> {
-        let (mut is_found, mut least, mut greatest) = (0, 0, 0);
-        ask(|fields| unsafe {
-            raw::hv_float_min_max(
-                self.keys.handle.get(),
-                order as u8,
-                &mut is_found,
-                &mut least,
-                &mut greatest,
-                fields,
-            )
-        })?;
-        Ok((is_found != 0).then(|| (T::of(least), T::of(greatest))))
+        let (least, greatest) = match order {
+            FloatOrder::Ieee => self.keys.least_and_greatest()?,
+            FloatOrder::Total => {
+                let (least, greatest) = self.keys.with_logical_type("")?.least_and_greatest()?;
+                (Floats::<T>::of_key(least)?, Floats::<T>::of_key(greatest)?)
+            }
+        };
+        match (least, greatest) {
+            (Value::Float(least), Value::Float(greatest)) => {
+                Ok(Some((T::narrow(least), T::narrow(greatest))))
+            }
+            _ => Ok(None),
+        }
+    }
+
+    /// Returns the float that has a key, or null.
+    fn of_key(key: Value) -> Result<Value, Error> {
+        let keys = Column::constant(T::KEYS.nullable(), key, 1)?;
+        Floats::<T>::of_keys(keys)?.keys.at(0)
     }
 
     /// Adds the rows that are not null, exactly, and rounds once: an infinity past the finite floats, NaN where a row
     /// is or both infinities are. Returns the sum and how many rows were added.
     pub fn sum(&self) -> Result<(f64, u64), Error> {
-        if T::KEYS != f64::KEYS {
-            return self.cast::<f64>()?.sum();
-        }
-        let (mut count, mut bits) = (0, 0);
-        ask(|fields| unsafe {
-            raw::hv_float_sum(self.keys.handle.get(), &mut count, &mut bits, fields)
-        })?;
-        Ok((f64::from_bits(bits), count))
+        let count = self.len() - self.keys.null_count();
+        Ok((self.keys.sum()?.total.try_into()?, count as u64))
     }
 
     /// Adds the two floats at each place as IEEE 754 says, rounded once, at the cost of the runs of both: an infinity past
@@ -301,12 +311,9 @@ impl<T: Float> Floats<T> {
         to: &'static str,
         convert: impl Fn(&Column) -> Result<Column, Error>,
     ) -> Result<Column, Error> {
-        convert(&self.keys).map_err(|error| {
-            let row = first_refused(&self.keys, error, convert);
-            let found = row.and_then(|row| Some((row, self.at(row).ok()??)));
-            found.map_or(error, |(row, float)| {
-                error.inexact(row, What::Float(float.wide()), to)
-            })
+        convert(&self.keys).map_err(|error| match first_refused(&self.keys, error, convert) {
+            Some((row, Value::Float(float))) => error.inexact(row, What::Float(float), to),
+            _ => error,
         })
     }
 
@@ -337,8 +344,8 @@ impl<T: Float> Floats<T> {
             })
         };
         Floats::of_keys(convert(integers).map_err(|error| {
-            let row = first_refused(integers, error, convert);
-            let found = row.and_then(|row| Some((row, integers.at(row).ok()?.number()?)));
+            let found = first_refused(integers, error, convert);
+            let found = found.and_then(|(row, value)| Some((row, value.number()?)));
             found.map_or(error, |(row, number)| {
                 error.inexact(row, What::Number(number.into()), format_of(T::KEYS))
             })
@@ -375,17 +382,10 @@ fn first_refused(
     column: &Column,
     error: Error,
     convert: impl Fn(&Column) -> Result<Column, Error>,
-) -> Option<usize> {
+) -> Option<(usize, Value)> {
     if error.kind() != Some(ErrorKind::CastOutOfRange) {
         return None;
     }
-    let (mut fits, mut refused) = (0, column.len()); // the rows before the first of both are converted
-    while fits + 1 < refused {
-        let middle = fits + (refused - fits) / 2;
-        match convert(&column.slice(fits..middle).ok()?) {
-            Ok(_) => fits = middle,
-            Err(_) => refused = middle,
-        }
-    }
-    Some(fits)
+    let row = column.first_refused(|rows| convert(rows).is_err()).ok()?;
+    Some((row, column.at(row).ok()?))
 }

@@ -82,7 +82,7 @@ impl Column {
 }
 
 /// Returns the type of the sums of integers of a type.
-fn sums_of(kind: Kind) -> Kind {
+pub(crate) fn sums_of(kind: Kind) -> Kind {
     match kind.is_signed() {
         true => Kind::I64,
         false => Kind::U64,

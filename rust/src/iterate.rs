@@ -64,11 +64,12 @@ pub struct Runs<'a> {
 impl Runs<'_> {
     fn run(&self, run: usize) -> Result<Run, Error> {
         let rows = match self.form {
-            Form::Runs => return self.column.run(run),
+            Form::Runs => self.column.rows_of_run(run)?,
             Form::Constant => 0..self.column.len(),
             Form::Flat | Form::Lists => run..run + 1,
         };
-        self.column.at(run).map(|value| Run { rows, value })
+        let value = self.column.at(rows.start)?;
+        Ok(Run { rows, value })
     }
 }
 

@@ -2,11 +2,11 @@
 //! caller owes. Nothing here is proved.
 //!
 //! ```
-//! use hivevigil::{Column, Sum, Value};
+//! use hivevigil::{Column, Value};
 //!
 //! let rows = [Some(4i64), Some(4), None, None, Some(9)];
 //! let runs = Column::try_from(&rows)?.encode()?;
-//! assert_eq!(runs.sum()?, Sum { total: 17, empty: false });
+//! assert_eq!(runs.sum()?.total, Value::Signed(17));
 //! for run in runs.runs()? {
 //!     let run = run?;
 //!     println!("rows {:?}: {}", run.rows, run.value);
@@ -55,9 +55,9 @@ pub use native::Native;
 pub use parts::SplitBy;
 pub use table::{
     ColumnFooter, Columns, Difference, Groups, LoadOptions, Order, RowsFooter, SaveOptions, Table,
-    TableError, TableFooter, Threshold,
+    TableError, TableFooter,
 };
-pub use value::{DecimalSum, Fold, Operator, Sum, SumParts, Value};
+pub use value::{Fold, Operator, Sum, SumParts, Value};
 
 /// Which kernels are registered, and the numbers by which they choose: form and cost, never an answer.
 #[repr(C)]

@@ -21,7 +21,7 @@ impl Column {
     /// let parts = runs.split(3, SplitBy::Runs)?;
     /// let sums: Vec<_> = parts
     ///     .into_iter()
-    ///     .map(|part| std::thread::spawn(move || part.sum().map(|sum| sum.total)))
+    ///     .map(|part| std::thread::spawn(move || i64::try_from(part.sum()?.total)))
     ///     .collect();
     /// let sums = sums.into_iter().map(|sum| sum.join().unwrap()).collect::<Result<Vec<_>, _>>()?;
     /// assert_eq!(sums, [16, 7, 9]);
@@ -55,7 +55,7 @@ impl Column {
         for shown in bounds(count, parts) {
             stops.push(match shown {
                 0 => 0,
-                _ => self.run(first + shown - 1)?.rows.end,
+                _ => self.rows_of_run(first + shown - 1)?.end,
             });
         }
         Ok(stops)

@@ -1,10 +1,11 @@
 //! Questions to columns, and what is read out of them.
 use crate::column::turn_of;
+use crate::groups::sums_of;
 use crate::raw::{self, Pair, RawTotal, RawValue};
 use crate::{
-    ask, Column, Decimal, DecimalSum, Error, ErrorKind, Fields, Form, Kind, Native, Run, Session,
-    Sum, SumParts, Value,
+    ask, Column, Error, ErrorKind, Fields, Form, Kind, Native, Run, Session, Sum, SumParts, Value,
 };
+use std::ops::Range;
 
 /// Questions.
 impl Column {
@@ -61,63 +62,72 @@ impl Column {
         unsafe { raw::hv_offset(self.handle.get()) }
     }
 
-    /// Adds the rows that are not null, one at a time; refused as `Unsupported` unless they are integers, and
-    /// as `CastOutOfRange` where the sum leaves the range of 64 bits: the first field is the row with which it does.
+    /// Adds the rows that are not null, by what they mean: integers and durations one at a time, in 64 bits; decimals
+    /// exactly, at the scale of the column and whatever its precision; floats exactly, and rounded once: an infinity
+    /// past the finite floats, NaN where a row is or both infinities are. Refused as `Unsupported` for dates, times of
+    /// day, timestamps and all other rows, and as `CastOutOfRange` where the sum leaves 64 bits, or 38 digits: the
+    /// first field is the row with which it does.
     ///
     /// ```
-    /// let refused = hivevigil::Column::new(&[i64::MAX, 0, 1])?.sum().unwrap_err();
+    /// use hivevigil::{Column, Decimal, Floats, Kind, Value};
+    /// let refused = Column::new(&[i64::MAX, 0, 1])?.sum().unwrap_err();
     /// let sentence = "integer overflow: with row 2 the sum leaves the range of i64";
     /// assert_eq!((refused.fields.first, refused.to_string().as_str()), (2, sentence));
+    /// let prices = Column::constant(Kind::decimal(4, 2), Decimal::new(1050, 2), 1000)?;
+    /// assert_eq!(prices.sum()?.total, Value::Decimal(Decimal::new(1_050_000, 2)));
+    /// let floats = Floats::of(&[1e100, 1.0, -1e100])?;
+    /// assert_eq!(floats.keys().sum()?.total, Value::Float(1.0));
     /// # Ok::<(), hivevigil::Error>(())
     /// ```
     pub fn sum(&self) -> Result<Sum, Error> {
-        let (session, mut total) = (Session::initial(), RawTotal::default());
-        ask(|fields| unsafe { raw::hv_sum(&session, self.handle.get(), &mut total, fields) })
-            .map_err(|error| {
-                error.about(ErrorKind::Unsupported, self.kind(), "has no sum", None)
-            })?;
-        let number = match total.kind {
-            0 => return Err(self.overflow()?),
-            1 => i128::from(total.as_unsigned),
-            _ => i128::from(total.as_signed),
-        };
-        Ok(Sum {
-            total: number,
-            empty: total.empty != 0,
-        })
+        let (total, empty) = self.added().map_err(|error| self.without_sum(error))?;
+        if total == Value::Null {
+            let past = |rows: &Column| matches!(rows.added(), Ok((Value::Null, _)));
+            return Err(Error::overflow(
+                self.first_refused(past)?,
+                sums_of(self.kind()),
+            ));
+        }
+        Ok(Sum { total, empty })
     }
 
-    /// Adds the decimals that are not null, exactly, at the scale of the column and whatever its precision; refused as
-    /// `Unsupported` unless the rows are decimals, and as `CastOutOfRange` where the sum leaves 38 digits: the first
-    /// field is the row with which it does.
-    ///
-    /// ```
-    /// use hivevigil::{Column, Decimal, DecimalSum, Kind};
-    /// let prices = Column::constant(Kind::decimal(4, 2), Decimal::new(1050, 2), 1000)?;
-    /// let total = Decimal::new(1_050_000, 2);
-    /// assert_eq!(prices.decimal_sum()?, DecimalSum { total, empty: false });
-    /// let large = Decimal::new(10i128.pow(37), 0);
-    /// let refused = Column::constant(Kind::decimal(38, 0), large, 30)?.decimal_sum().unwrap_err();
-    /// let sentence = "decimal overflow: with row 9 the sum leaves 38 digits";
-    /// assert_eq!((refused.fields.first, refused.to_string().as_str()), (9, sentence));
-    /// # Ok::<(), hivevigil::Error>(())
-    /// ```
-    pub fn decimal_sum(&self) -> Result<DecimalSum, Error> {
-        let (mut sum, mut is_empty) = (Pair::default(), 0);
-        ask(|fields| unsafe {
-            raw::hv_decimal_sum(self.handle.get(), &mut sum, &mut is_empty, fields)
-        })
-        .map_err(|error| {
-            let words = "has no sum of decimals";
-            error
-                .about(ErrorKind::Unsupported, self.kind(), words, None)
-                .of_digits()
-        })?;
-        let digits = (i128::from(sum.high) << 64) + i128::from(sum.low);
-        Ok(DecimalSum {
-            total: Decimal::new(digits, self.kind().scale),
-            empty: is_empty != 0,
-        })
+    /// Adds the rows, and says whether each is null; the sum is null where it left the range of 64 bits.
+    fn added(&self) -> Result<(Value, bool), Error> {
+        let (session, mut total) = (Session::initial(), RawTotal::default());
+        ask(|fields| unsafe { raw::hv_sum(&session, self.handle.get(), &mut total, fields) })?;
+        Ok((Value::of_total(total, self), total.empty != 0))
+    }
+
+    /// Puts the refusal of a sum in words.
+    fn without_sum(&self, error: Error) -> Error {
+        let kind = self.kind();
+        match error.kind() {
+            Some(ErrorKind::Unsupported) if kind.is_unsigned() || kind.is_signed() => {
+                let words =
+                    "dates, times of day and timestamps have no sum, and durations have one";
+                Error::said(ErrorKind::Unsupported, words)
+            }
+            Some(ErrorKind::Unsupported) => {
+                error.about(ErrorKind::Unsupported, kind, "has no sum", None)
+            }
+            _ => error.of_digits(),
+        }
+    }
+
+    /// Finds the first row such that the rows up to it are refused, where all rows are.
+    pub(crate) fn first_refused(
+        &self,
+        is_refused: impl Fn(&Column) -> bool,
+    ) -> Result<usize, Error> {
+        let (mut served, mut refused) = (0, self.len()); // as many rows from the first one on
+        while served + 1 < refused {
+            let middle = served + (refused - served) / 2;
+            match is_refused(&self.slice(..middle)?) {
+                true => refused = middle,
+                false => served = middle,
+            }
+        }
+        Ok(served)
     }
 
     /// Returns what the rows add to a sum, by which the sum of joined rows is known; refused as `Unsupported` unless
@@ -149,32 +159,6 @@ impl Column {
                 total: total as u128,
             },
         })
-    }
-
-    /// Finds the row with which the sum leaves the range of 64 bits, as the refusal of it.
-    fn overflow(&self) -> Result<Error, Error> {
-        let wide = match self.kind().is_signed() {
-            true => Kind::I64,
-            false => Kind::U64,
-        };
-        let (range, mut sum) = (wide.range(), 0);
-        for run in self.runs()? {
-            let run = run?;
-            let step = run.value.number().map_or(0, |number| number.digits);
-            let room = match step > 0 {
-                true => range.end() - sum,
-                false => sum - range.start(),
-            };
-            let rows_that_fit = room.checked_div(step.abs()).unwrap_or(i128::MAX);
-            if rows_that_fit < run.rows.len() as i128 {
-                return Ok(Error::overflow(
-                    run.rows.start + rows_that_fit as usize,
-                    wide,
-                ));
-            }
-            sum += step * run.rows.len() as i128;
-        }
-        Ok(Error::overflow(self.len(), wide))
     }
 
     /// Returns whether all rows are equal, null equal to null.
@@ -215,17 +199,17 @@ impl Column {
         Ok(hash)
     }
 
-    /// Finds the least row that is not null; `Null` where there is none.
+    /// Finds the least row that is not null, of floats the least number; `Null` where there is none.
     pub fn least(&self) -> Result<Value, Error> {
-        self.extreme(0)
+        Ok(self.least_and_greatest()?.0)
     }
 
-    /// Finds the greatest row that is not null; `Null` where there is none.
+    /// Finds the greatest row that is not null, of floats the greatest number; `Null` where there is none.
     pub fn greatest(&self) -> Result<Value, Error> {
-        self.extreme(1)
+        Ok(self.least_and_greatest()?.1)
     }
 
-    /// Finds both at once.
+    /// Finds both at once. Among floats NaNs have no place, and -0.0 is below 0.0.
     pub fn least_and_greatest(&self) -> Result<(Value, Value), Error> {
         let (session, mut room) = (Session::initial(), 64);
         loop {
@@ -258,22 +242,14 @@ impl Column {
         }
     }
 
-    fn extreme(&self, greatest: u8) -> Result<Value, Error> {
-        let session = Session::initial();
-        shown(self, |value, text, fields| unsafe {
-            raw::hv_extreme(
-                &session,
-                self.handle.get(),
-                greatest,
-                value,
-                text.as_mut_ptr(),
-                text.len(),
-                fields,
-            )
-        })
-    }
-
-    /// Looks up row `row`; refused as `OutOfBounds` past the end.
+    /// Looks up row `row`, by what it means: a float where the logical type says so. Refused as `OutOfBounds` past the
+    /// end.
+    ///
+    /// ```
+    /// use hivevigil::{Floats, Value};
+    /// assert_eq!(Floats::of(&[0.5, 2.0])?.keys().at(1)?, Value::Float(2.0));
+    /// # Ok::<(), hivevigil::Error>(())
+    /// ```
     pub fn at(&self, row: usize) -> Result<Value, Error> {
         shown(self, |value, text, fields| unsafe {
             raw::hv_at(
@@ -290,7 +266,7 @@ impl Column {
 
 /// Rows and parts read out.
 impl Column {
-    /// Looks up row `row` as `T`, `None` where it is null: an integer, `bool`, `Decimal`, `String` or `Vec<u8>`;
+    /// Looks up row `row` as `T`, `None` where it is null: an integer, `f64`, `bool`, `Decimal`, `String` or `Vec<u8>`;
     /// refused as `CastOutOfRange` where `T` does not have the integer, and as `TypeMismatch` where the row is of
     /// another sort.
     ///
@@ -407,26 +383,24 @@ impl Column {
         Ok(run)
     }
 
-    /// Looks up the rows of a run, none where the window does not reach it, and their value.
+    /// Looks up the rows of a run, none where the window does not reach it, and their value, as [`Column::at`] does.
+    /// Refused as `OutOfBounds` past the last run, and as `Unsupported` of other forms.
     pub fn run(&self, run: usize) -> Result<Run, Error> {
-        let (mut start, mut stop) = (0, 0);
-        let value = shown(self, |value, text, fields| unsafe {
-            let (room, len) = (text.as_mut_ptr(), text.len());
-            raw::hv_run(
-                self.handle.get(),
-                run,
-                &mut start,
-                &mut stop,
-                value,
-                room,
-                len,
-                fields,
-            )
+        let value = self.values()?.at(run)?;
+        let rows = self.rows_of_run(run)?;
+        Ok(Run { rows, value })
+    }
+
+    /// Finds the rows of a run.
+    pub(crate) fn rows_of_run(&self, run: usize) -> Result<Range<usize>, Error> {
+        let mut stops = [0u64; 2]; // of the run before, which the first one does not have, and of this one
+        let absent = usize::from(run == 0);
+        let room = &mut stops[absent..];
+        ask(|fields| unsafe {
+            let (first, len) = (run + absent - 1, room.len());
+            raw::hv_read_ends_u64(self.handle.get(), first, room.as_mut_ptr(), len, fields)
         })?;
-        Ok(Run {
-            rows: start..stop,
-            value,
-        })
+        Ok(stops[0] as usize..stops[1] as usize)
     }
 }
 

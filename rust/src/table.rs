@@ -17,7 +17,6 @@ mod floats;
 mod footer;
 mod groups;
 mod held;
-mod keys;
 mod message;
 mod reading;
 mod rows;
@@ -27,7 +26,6 @@ mod show;
 mod sorting;
 mod writing;
 
-pub use comparing::Threshold;
 pub use error::{Difference, TableError};
 pub use footer::{ColumnFooter, RowsFooter, TableFooter};
 pub use groups::Groups;

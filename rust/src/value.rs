@@ -1,11 +1,11 @@
 //! Rows and sums.
-use crate::raw::RawValue;
+use crate::raw::{RawTotal, RawValue};
 use crate::{Column, Decimal};
 use std::cmp::Ordering;
 use std::fmt;
 
-/// A row.
-#[derive(Clone, Debug, PartialEq, Eq)]
+/// A row. Two are equal where they are the same row, so floats where their bits are.
+#[derive(Clone, Debug)]
 pub enum Value {
     /// No value.
     Null,
@@ -17,13 +17,34 @@ pub enum Value {
     Truth(bool),
     /// A decimal, of the column's scale.
     Decimal(Decimal),
+    /// Holds a float of a column that has floats by its logical type.
+    Float(f64),
     /// A text.
     Text(String),
     /// Bytes.
     Bytes(Vec<u8>),
 }
 
-/// Numbers and booleans as Rust writes them, decimals as "10.50", texts and bytes quoted, `null`.
+impl PartialEq for Value {
+    fn eq(&self, other: &Value) -> bool {
+        match (self, other) {
+            (Value::Null, Value::Null) => true,
+            (Value::Unsigned(item), Value::Unsigned(other)) => item == other,
+            (Value::Signed(item), Value::Signed(other)) => item == other,
+            (Value::Truth(item), Value::Truth(other)) => item == other,
+            (Value::Decimal(item), Value::Decimal(other)) => item == other,
+            (Value::Float(item), Value::Float(other)) => item.to_bits() == other.to_bits(),
+            (Value::Text(text), Value::Text(other)) => text == other,
+            (Value::Bytes(bytes), Value::Bytes(other)) => bytes == other,
+            _ => false,
+        }
+    }
+}
+
+impl Eq for Value {}
+
+/// Numbers and booleans as Rust writes them, floats as `{:?}` does, decimals as "10.50", texts and bytes quoted,
+/// `null`.
 impl fmt::Display for Value {
     fn fmt(&self, formatter: &mut fmt::Formatter<'_>) -> fmt::Result {
         match self {
@@ -32,26 +53,19 @@ impl fmt::Display for Value {
             Value::Signed(item) => item.fmt(formatter),
             Value::Truth(item) => item.fmt(formatter),
             Value::Decimal(item) => item.fmt(formatter),
+            Value::Float(item) => write!(formatter, "{item:?}"),
             Value::Text(text) => write!(formatter, "{text:?}"),
             Value::Bytes(bytes) => write!(formatter, "b\"{}\"", bytes.escape_ascii()),
         }
     }
 }
 
-/// A sum, which is within the range of 64 bits; `empty`: no row is valid, and the sum is 0.
-#[derive(Clone, Copy, Debug, PartialEq, Eq)]
+/// Holds a sum: of integers and durations in 64 bits, with a sign where they have one; of decimals at their scale, in
+/// up to 38 digits; of floats the `f64` that is nearest to it. `empty`: no row is valid, and the sum is 0.
+#[derive(Clone, Debug, PartialEq, Eq)]
 pub struct Sum {
     /// Holds the sum of the rows that are not null.
-    pub total: i128,
-    /// Says whether every row is null, or the column has none.
-    pub empty: bool,
-}
-
-/// Holds a sum of decimals, at the scale of their column and of up to 38 digits; `empty`: no row is valid, and it is 0.
-#[derive(Clone, Copy, Debug, PartialEq, Eq)]
-pub struct DecimalSum {
-    /// Holds the sum of the rows that are not null.
-    pub total: Decimal,
+    pub total: Value,
     /// Says whether every row is null, or the column has none.
     pub empty: bool,
 }
@@ -136,10 +150,7 @@ impl Value {
             1 => Value::Unsigned(raw.as_unsigned),
             2 => Value::Signed(raw.as_signed),
             3 => Value::Truth(raw.truth != 0),
-            4 => {
-                let digits = (i128::from(raw.as_signed) << 64) | i128::from(raw.as_unsigned);
-                Value::Decimal(Decimal::new(digits, column.kind().scale))
-            }
+            4 => raw.decimal(column.kind().scale),
             5 => {
                 text.truncate(raw.as_unsigned as usize);
                 Value::Text(String::from_utf8(text).expect("texts are UTF-8"))
@@ -148,7 +159,35 @@ impl Value {
                 text.truncate(raw.as_unsigned as usize);
                 Value::Bytes(text)
             }
+            7 => Value::Float(f64::from_bits(raw.as_unsigned)),
+            8 => raw.decimal(raw.scale),
             _ => Value::Null,
+        }
+    }
+
+    /// Takes the sum of a column; null where it left the range of 64 bits.
+    pub(crate) fn of_total(total: RawTotal, column: &Column) -> Value {
+        let raw = RawValue {
+            as_unsigned: total.as_unsigned,
+            as_signed: total.as_signed,
+            kind: total.kind,
+            truth: 0,
+            scale: total.scale,
+        };
+        Value::of(raw, Vec::new(), column)
+    }
+
+    /// Passes a number of any type as C does; `None` for all else.
+    pub(crate) fn as_number(&self) -> Option<RawValue> {
+        let (raw, _) = self.passed();
+        match self {
+            Value::Unsigned(_) | Value::Signed(_) | Value::Float(_) => Some(raw),
+            Value::Decimal(item) => Some(RawValue {
+                kind: 8,
+                scale: item.scale,
+                ..raw
+            }),
+            _ => None,
         }
     }
 
@@ -159,6 +198,7 @@ impl Value {
             as_signed,
             kind,
             truth,
+            scale: 0,
         };
         match self {
             Value::Null => (raw(0, 0, 0, 0), &[]),
@@ -169,8 +209,16 @@ impl Value {
                 let (low, high) = (item.digits as u64, (item.digits >> 64) as i64);
                 (raw(4, low, high, 0), &[])
             }
+            Value::Float(item) => (raw(7, item.to_bits(), 0, 0), &[]),
             Value::Text(text) => (raw(5, text.len() as u64, 0, 0), text.as_bytes()),
             Value::Bytes(bytes) => (raw(6, bytes.len() as u64, 0, 0), bytes),
         }
+    }
+}
+
+impl RawValue {
+    fn decimal(&self, scale: i8) -> Value {
+        let digits = (i128::from(self.as_signed) << 64) | i128::from(self.as_unsigned);
+        Value::Decimal(Decimal::new(digits, scale))
     }
 }

@@ -37,7 +37,7 @@ fn runs_answer_as_rows() -> Result<(), Error> {
     assert_eq!(
         runs.sum()?,
         Sum {
-            total: 13,
+            total: Value::Signed(13),
             empty: false
         }
     );
@@ -78,10 +78,10 @@ fn runs_answer_as_rows() -> Result<(), Error> {
 }
 
 /// Returns the sum of each window of a hundred rows, by slices of the column that are made and dropped.
-fn sums_of_windows(column: Column) -> Result<Vec<i128>, Error> {
+fn sums_of_windows(column: Column) -> Result<Vec<i64>, Error> {
     (0..column.len() - 100)
         .step_by(37)
-        .map(|start| Ok(column.slice(start..start + 100)?.try_clone()?.sum()?.total))
+        .map(|start| i64::try_from(column.slice(start..start + 100)?.try_clone()?.sum()?.total))
         .collect()
 }
 
@@ -89,14 +89,8 @@ fn sums_of_windows(column: Column) -> Result<Vec<i128>, Error> {
 fn threads_share_buffers() -> Result<(), Error> {
     let rows: Vec<i64> = (0..30_000).map(|row| row / 3).collect();
     let runs = Column::new(&rows)?.encode()?;
-    let sum = |start: usize| {
-        rows[start..start + 100]
-            .iter()
-            .copied()
-            .map(i128::from)
-            .sum()
-    };
-    let due: Vec<i128> = (0..rows.len() - 100).step_by(37).map(sum).collect();
+    let sum = |start: usize| rows[start..start + 100].iter().sum();
+    let due: Vec<i64> = (0..rows.len() - 100).step_by(37).map(sum).collect();
     let running = (0..4)
         .map(|_| {
             runs.try_clone()
@@ -268,7 +262,7 @@ fn other_types() -> Result<(), Error> {
     assert_eq!(
         Column::new::<u64>(&[])?.sum()?,
         Sum {
-            total: 0,
+            total: Value::Unsigned(0),
             empty: true
         }
     );

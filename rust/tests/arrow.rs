@@ -37,6 +37,7 @@ fn cell_of(value: Value) -> Cell {
         Value::Truth(truth) => Cell::Truth(truth),
         Value::Text(text) => Cell::Bytes(text.into_bytes()),
         Value::Bytes(bytes) => Cell::Bytes(bytes),
+        Value::Float(_) => unreachable!("no column has a logical type"),
         Value::Decimal(decimal) => Cell::Number(decimal.digits),
     }
 }

@@ -1,12 +1,12 @@
 //! Sums of decimals, what two columns of them give, and rows picked of them, in every form, against integers of 128
 //! bits.
-use hivevigil::{Column, Decimal, DecimalSum, ErrorKind, Kind, Value};
+use hivevigil::{Column, Decimal, ErrorKind, Kind, Sum, Value};
 
 const LIMIT: i128 = 10i128.pow(38);
 const SCALE: i8 = 2;
 
 /// Adds the rows, as long as the sum has 38 digits; else finds the row with which it does not.
-fn due(rows: &[Option<i128>]) -> Result<DecimalSum, usize> {
+fn due(rows: &[Option<i128>]) -> Result<Sum, usize> {
     let mut sum = 0i128;
     for (row, number) in rows.iter().enumerate() {
         let next = sum + number.unwrap_or(0);
@@ -15,8 +15,8 @@ fn due(rows: &[Option<i128>]) -> Result<DecimalSum, usize> {
         }
         sum = next;
     }
-    Ok(DecimalSum {
-        total: Decimal::new(sum, SCALE),
+    Ok(Sum {
+        total: Value::Decimal(Decimal::new(sum, SCALE)),
         empty: rows.iter().all(Option::is_none),
     })
 }
@@ -28,11 +28,12 @@ fn check(rows: &[Option<i128>]) {
     for column in [flat.encode_rows().unwrap(), flat] {
         match due(rows) {
             Ok(sum) => {
-                let found = column.decimal_sum().unwrap();
-                assert_eq!((found, found.total.scale), (sum, SCALE));
+                let found = column.sum().unwrap();
+                assert_eq!(found, sum);
+                assert_eq!(Decimal::try_from(found.total).unwrap().scale, SCALE);
             }
             Err(row) => {
-                let refused = column.decimal_sum().unwrap_err();
+                let refused = column.sum().unwrap_err();
                 assert_eq!(refused.kind(), Some(ErrorKind::CastOutOfRange));
                 assert_eq!(refused.fields.first, row as u64);
                 let sentence = format!("decimal overflow: with row {row} the sum leaves 38 digits");
@@ -66,18 +67,14 @@ fn constants_and_slices_are_summed_by_runs() {
     let price = Decimal::new(1050, SCALE);
     let many = Column::constant(Kind::decimal(4, SCALE), price, 1 << 60).unwrap();
     assert_eq!(
-        many.decimal_sum().unwrap().total,
-        Decimal::new(1050 << 60, SCALE)
+        many.sum().unwrap().total,
+        Value::Decimal(Decimal::new(1050 << 60, SCALE))
     );
     let part = many.slice(5..9).unwrap();
-    assert_eq!(part.decimal_sum().unwrap().total, Decimal::new(4200, SCALE));
-}
-
-#[test]
-fn other_columns_have_no_sum_of_decimals() {
-    let refused = Column::new(&[4i64]).unwrap().decimal_sum().unwrap_err();
-    assert_eq!(refused.kind(), Some(ErrorKind::Unsupported));
-    assert_eq!(refused.to_string(), "i64 has no sum of decimals");
+    assert_eq!(
+        part.sum().unwrap().total,
+        Value::Decimal(Decimal::new(4200, SCALE))
+    );
 }
 
 /// Works two columns row by row, or finds the first row that has no answer of this many digits.

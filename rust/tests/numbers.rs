@@ -299,7 +299,7 @@ fn sums_past_64_bits_are_refused() -> Result<(), Error> {
     assert_eq!(refused.fields.first, row as u64);
     assert_eq!(
         Column::constant(Kind::I16, -256, row)?.sum()?.total,
-        i128::from(i64::MIN)
+        Value::Signed(i64::MIN)
     );
     let most = Column::constant(Kind::U64, u64::MAX, usize::MAX)?
         .sum()
@@ -307,7 +307,7 @@ fn sums_past_64_bits_are_refused() -> Result<(), Error> {
     assert_eq!(most.fields.first, 1);
     assert_eq!(
         Column::try_from([u64::MAX - 1, 1])?.sum()?.total,
-        i128::from(u64::MAX)
+        Value::Unsigned(u64::MAX)
     );
     check_refused(
         Column::try_from(["a"])?.sum(),

@@ -1,8 +1,8 @@
 //! The cases of tables that each language answers (examples/corpus/table_cases.txt). An answer that differs fails, unless
 //! known_differences.txt lists it; what is listed there has to differ as it says.
 use hivevigil::{
-    Builder, Column, Decimal, Error, FloatOrder, Floats, Fold, Kind, Operator, Order, SaveOptions,
-    Table, TableError, Threshold, Value,
+    Builder, Column, Decimal, Error, Fold, Kind, Operator, Order, SaveOptions, Table, TableError,
+    Value,
 };
 use std::collections::BTreeMap;
 use std::path::Path;
@@ -64,20 +64,19 @@ fn decimal_of(word: &str) -> Value {
 }
 
 /// Reads what rows are compared with; `+5` and `-5` are of a type with sign.
-fn threshold_of(word: &str) -> Threshold {
-    let value = match word {
+fn threshold_of(word: &str) -> Value {
+    match word {
         "null" => Value::Null,
         "true" | "false" => Value::Truth(word == "true"),
         _ if word.starts_with('"') => Value::Text(text_of(word)),
         _ if word.starts_with('x') => Value::Bytes(bytes_of(word)),
         _ if word.ends_with('d') => decimal_of(&word[..word.len() - 1]),
-        _ if word.contains(['.', 'n', 'i']) => return Threshold::Float(float_of(word)),
+        _ if word.contains(['.', 'n', 'i']) => Value::Float(float_of(word)),
         _ => match word.parse() {
             Ok(item) if !word.starts_with('+') => Value::Unsigned(item),
             _ => Value::Signed(word.parse().unwrap()),
         },
-    };
-    Threshold::Value(value)
+    }
 }
 
 fn float_of(word: &str) -> f64 {
@@ -100,6 +99,7 @@ fn shown_value(value: &Value) -> String {
     match value {
         Value::Text(text) => word_of(text),
         Value::Bytes(bytes) => hex_of(bytes),
+        Value::Float(number) => shown_float(*number),
         other => other.to_string(),
     }
 }
@@ -154,10 +154,7 @@ fn value_of(word: &str, of: &Type) -> Value {
             Value::Signed(key_of((float_of(word) as f32).to_bits().into(), 32))
         }
         _ if of.kind.is_decimal() && word != "null" => decimal_of(word),
-        _ => match threshold_of(word) {
-            Threshold::Value(value) => value,
-            Threshold::Float(_) => Value::Null,
-        },
+        _ => threshold_of(word),
     }
 }
 
@@ -277,25 +274,10 @@ fn shown_table(table: &Table) -> Result<String, TableError> {
             }
         );
         for row in 0..if kind.is_list() { 0 } else { table.rows() } {
-            let word = match (width, column.at(row)?) {
-                (64, Value::Signed(key)) => shown_float(f64::from_bits(bits_of(key, 64))),
-                (32, Value::Signed(key)) => {
-                    shown_float(f32::from_bits(bits_of(key, 32) as u32).into())
-                }
-                (_, value) => shown_value(&value),
-            };
-            text += &format!(" {word}");
+            text += &format!(" {}", shown_value(&column.at(row)?));
         }
     }
     Ok(text)
-}
-
-fn bits_of(key: i64, width: u32) -> u64 {
-    if key >= 0 {
-        key as u64
-    } else {
-        (-1 - key) as u64 + (1 << (width - 1))
-    }
 }
 
 // ---- Calls ----
@@ -382,22 +364,11 @@ fn column_answer(table: &Table, name: &str, call: &str) -> Result<String, TableE
     if call == "count" {
         return Ok((column.len() - column.null_count()).to_string());
     }
-    if table.logical_type(name)?.as_deref() == Some("g") {
-        let floats = Floats::<f64>::of_keys(column.try_clone()?)?;
-        if call == "sum" {
-            return Ok(shown_float(floats.sum()?.0));
-        }
-        let found = floats.least_and_greatest(FloatOrder::Ieee)?;
-        return Ok(found.map_or("null".to_string(), |(least, most)| {
-            shown_float(if call == "min" { least } else { most })
-        }));
-    }
-    Ok(match call {
-        "min" => shown_value(&column.least()?),
-        "max" => shown_value(&column.greatest()?),
-        _ if column.kind().is_decimal() => column.decimal_sum()?.total.to_string(),
-        _ => column.sum()?.total.to_string(),
-    })
+    Ok(shown_value(&match call {
+        "min" => column.least()?,
+        "max" => column.greatest()?,
+        _ => column.sum()?.total,
+    }))
 }
 
 /// Says what a call answers: a table, or a word.

@@ -248,6 +248,8 @@ fn what_a_column_does_not_serve_is_refused_by_its_name() -> Result<(), Error> {
 #[test]
 fn times_have_no_sum_and_durations_have() {
     let table = readings().unwrap();
+    let levels = table["level"].cast(Kind::I64.nullable()).unwrap();
+    let table = table.with_column("level", levels).unwrap();
     let times = table.with_logical_type("level", "tsu:UTC").unwrap();
     let said =
         "column \"level\": dates, times of day and timestamps have no sum, and durations have one";

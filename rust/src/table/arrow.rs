@@ -1,5 +1,5 @@
 //! Tables in and out of Arrow: a batch is an array of structs, a table a stream of batches.
-use super::floats::{bits, is_float, keys, Stored};
+use super::floats::{bits, has_floats, is_float, keys};
 use super::{refuse_twice, Table, TableError};
 use crate::arrow::{
     ArrowArray, ArrowArrayStream, ArrowError, ArrowOptions, ArrowSchema, Flaw, Reading,
@@ -32,12 +32,13 @@ impl Table {
     pub fn to_arrow_stream(&self, batch_rows: usize) -> Result<ArrowArrayStream, TableError> {
         let mut parts = Vec::new();
         for (name, column) in self {
-            let (column, bits_of_float) = match Stored::of(column) {
-                Stored::Floats(keys) => (bits(keys), true),
-                Stored::AsTheyAre(column) => (column.try_clone(), false),
+            let bits_of_float = has_floats(column);
+            let sent = match bits_of_float {
+                true => bits(column),
+                false => column.try_clone(),
             };
-            let column = column.map_err(TableError::of(name))?;
-            parts.push((name, column.logical_type(), column, bits_of_float));
+            let sent = sent.map_err(TableError::of(name))?;
+            parts.push((name, column.logical_type(), sent, bits_of_float));
         }
         let columns = parts.iter().map(|(name, format, column, bits_of_float)| {
             let options = ArrowOptions {

@@ -1,6 +1,5 @@
 //! The columns of a table: which there are, under which names, and what their numbers are.
 use super::error::number;
-use super::floats::Stored;
 use super::{Table, TableError};
 use crate::{raw, Column, Error, ErrorKind, Float, Floats};
 
@@ -73,8 +72,8 @@ impl Table {
         name: &str,
         floats: &Floats<T>,
     ) -> Result<Table, TableError> {
-        let keys = Stored::of_keys(floats.keys()).map_err(TableError::of(name))?;
-        self.with_column(name, keys)
+        let keys = floats.keys().try_clone();
+        self.with_column(name, keys.map_err(TableError::of(name))?)
     }
 
     /// Returns the column of floats of a name; refused as `NoSuchColumn`, and as `TypeMismatch` where it does not have
@@ -85,7 +84,7 @@ impl Table {
             ErrorKind::TypeMismatch,
             "it does not have floats of this width",
         );
-        let is_float = matches!(Stored::of(column), Stored::Floats(_));
+        let is_float = column.logical_type().as_deref() == Some(T::FORMAT);
         let keys = is_float.then_some(column).ok_or(asked);
         keys.and_then(Column::try_clone)
             .and_then(|keys| Floats::of_keys(keys).map_err(|_| asked))

@@ -1,6 +1,5 @@
 //! Columns of integers as differences, in files: of each row that is not null to the one before it that is not, and of
 //! the first one to 0. Times at regular steps are one run of these. docs/BYTES.md says when a file has them.
-use super::keys::numbers;
 use super::reading::{untyped, Unread};
 use super::runs::{runs_of, Shown};
 use crate::{Column, Error, Form, Kind, Native};
@@ -43,6 +42,23 @@ pub(super) fn read(message: &[u8], kind: Kind, form: Form, most: usize) -> Resul
 
 pub(super) fn is_integer(kind: Kind) -> bool {
     kind.is_unsigned() || kind.is_signed()
+}
+
+/// Reads the rows of a column of integers; where a row is null it may be any.
+fn numbers(column: &Column) -> Result<Vec<i128>, Error> {
+    fn items<T: Native + Into<i128>>(column: &Column) -> Result<Vec<i128>, Error> {
+        Ok(column.numbers::<T>()?.into_iter().map(Into::into).collect())
+    }
+    match column.kind().not_nullable() {
+        Kind::U8 => items::<u8>(column),
+        Kind::U16 => items::<u16>(column),
+        Kind::U32 => items::<u32>(column),
+        Kind::U64 => items::<u64>(column),
+        Kind::I8 => items::<i8>(column),
+        Kind::I16 => items::<i16>(column),
+        Kind::I32 => items::<i32>(column),
+        _ => items::<i64>(column),
+    }
 }
 
 /// Returns the differences of a column in runs; `None` where one does not fit 64 bits.

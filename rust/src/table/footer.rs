@@ -1,10 +1,10 @@
 //! What the end of a file says of a table and its columns.
+use super::comparing::may_hold;
 use super::differences::is_integer;
-use super::floats::Stored;
 use super::message::{put_content, put_number, Fields};
 use super::reading::{untyped, Unread};
 use super::runs::Shown;
-use super::{bounds, no_such, TableError, Threshold};
+use super::{bounds, no_such, TableError};
 use crate::{Column, Error, Form, Kind, Operator, Value};
 
 /// Holds what the end of a file says of a table, for which no column is read.
@@ -57,10 +57,10 @@ impl TableFooter {
         &self,
         name: &str,
         operator: Operator,
-        value: impl Into<Threshold>,
+        value: impl Into<Value>,
     ) -> Result<bool, TableError> {
         let column = self.column(name)?;
-        let found = column.may_have(operator, value.into());
+        let found = column.may_have(operator, &value.into());
         found.map_err(TableError::of(name))
     }
 }
@@ -95,12 +95,12 @@ impl ColumnFooter {
         (self.kept_items(rows) as u64).saturating_mul(each)
     }
 
-    fn may_have(&self, operator: Operator, value: Threshold) -> Result<bool, Error> {
+    fn may_have(&self, operator: Operator, value: &Value) -> Result<bool, Error> {
         let Some(rows) = &self.rows else {
             return Ok(true);
         };
         let bounds = self.typed(Column::from_bytes(&rows.bounds_message())?)?;
-        value.may_hold(Stored::of(&bounds), operator)
+        may_hold(&bounds, operator, value)
     }
 
     /// Returns a column, or its bounds, under the logical type of the footer.
@@ -167,7 +167,7 @@ impl ColumnFooter {
 
 impl RowsFooter {
     fn of(column: &Column, differences: Option<Form>) -> Result<RowsFooter, Error> {
-        let runs = column.encode_rows()?;
+        let runs = column.with_logical_type("")?.encode_rows()?; // the bounds are of what is stored
         let bounds = runs.least_and_greatest()?;
         Ok(RowsFooter {
             kind: column.kind(),

@@ -1,13 +1,10 @@
 //! What is asked of the groups of a table: runs of neighbouring rows that are equal in some columns.
 use super::differences::is_integer;
-use super::floats::{doubles, Stored};
+use super::floats::has_floats;
 use super::held::Held;
-use super::keys::Keys;
-use super::runs::{runs_of, shown_by_name, Shown, Stretches};
-use super::{refuse_twice, Table, TableError};
-use crate::{raw, Column, Error, ErrorKind, Floats, Fold, Kind, Value};
-use std::cmp::Ordering;
-use std::ops::Range;
+use super::runs::{runs_of, Shown};
+use super::{Table, TableError};
+use crate::{raw, Builder, Column, Error, ErrorKind, Floats, Fold, Kind, Operator, Value};
 
 /// Holds the rows of a table by runs of neighbours that are equal in all columns of keys, null equal to null: rows that
 /// are sorted by the keys come in one group for each. Each call returns a table of a row for each group, all flat: the
@@ -28,8 +25,9 @@ use std::ops::Range;
 pub struct Groups<'a> {
     table: &'a Table,
     keys: Table,
-    stretches: Stretches,
-    numbers: Column, // of each row that of its group, from 0
+    sizes: Column,     // how many rows each group has
+    stops: Vec<usize>, // where each group ends
+    numbers: Column,   // of each row that of its group, from 0
 }
 
 /// Groups of neighbouring rows.
@@ -40,37 +38,45 @@ impl Table {
         &self,
         names: impl IntoIterator<Item = impl AsRef<str>>,
     ) -> Result<Groups<'_>, TableError> {
-        let mut columns = Vec::new();
-        for name in names {
-            let place = self.place(name.as_ref())?;
-            columns.push((self.names[place].as_str(), &self.columns[place]));
+        let names: Vec<_> = names.into_iter().collect();
+        let names: Vec<&str> = names.iter().map(AsRef::as_ref).collect();
+        let rows = names.concat() + "rows"; // which no key is called
+        let made = self.held.groups(&names, &rows);
+        let found = Table::holding(made.map_err(|error| self.refusal(error, &names))?)?;
+        let sizes = found.column(&rows)?.decode()?;
+        let mut stops = sizes.numbers::<usize>()?;
+        for group in 1..stops.len() {
+            stops[group] += stops[group - 1];
         }
-        if columns.is_empty() {
-            return Err(TableError::NoKeys);
-        }
-        refuse_twice(columns.iter().map(|(name, _)| *name))?;
-        let shown = shown_by_name(columns.iter().copied())?;
-        let stretches = Stretches::of(shown.iter());
-        let places: Vec<usize> = (0..stretches.stops.len()).collect();
-        let starts = Column::new(&stretches.starts())?;
-        let keys = columns.iter().map(|(name, column)| {
-            let first_rows = column.take(&starts).and_then(|rows| rows.decode());
-            Ok((name.to_string(), first_rows.map_err(TableError::of(name))?))
-        });
-        let keys = keys.collect::<Result<Vec<_>, TableError>>()?;
+        let groups: Vec<usize> = (0..stops.len()).collect();
         Ok(Groups {
             table: self,
-            keys: Table::of(&keys, places.len())?,
-            numbers: runs_of(&stretches.stops, &Column::new(&places)?)?,
-            stretches,
+            keys: found.select(&names)?.decoded()?,
+            sizes,
+            numbers: runs_of(&stops, &Column::new(&groups)?)?,
+            stops,
         })
+    }
+}
+
+impl Table {
+    /// Writes the rows of each column out in a flat form.
+    fn decoded(&self) -> Result<Table, TableError> {
+        let columns = self.iter().map(|(name, column)| {
+            let flat = column.decode().map_err(TableError::of(name))?;
+            Ok((name.to_string(), flat))
+        });
+        Table::of(
+            &columns.collect::<Result<Vec<_>, TableError>>()?,
+            self.rows(),
+        )
     }
 }
 
 impl Groups<'_> {
     /// Counts the groups.
     pub fn len(&self) -> usize {
-        self.stretches.stops.len()
+        self.keys.rows()
     }
 
     /// Returns whether there is none.
@@ -81,7 +87,7 @@ impl Groups<'_> {
     /// Counts the rows of each group, in `u64`, under the name `size`.
     pub fn size(&self) -> Result<Table, TableError> {
         let mut found = self.keys.held.try_clone()?;
-        put_new(&mut found, "size", &self.sizes()?)?;
+        put_new(&mut found, "size", &self.sizes)?;
         Table::holding(found)
     }
 
@@ -133,103 +139,100 @@ impl Groups<'_> {
 
     /// Answers for the rows of a column. Sums of durations are durations, and rows that are picked mean what they did.
     fn answer(&self, column: &Column, fold: Fold) -> Result<Column, Error> {
-        let rows = Stored::of(column);
-        let folded = |column: &Column| Ok(self.numbers.fold_by(column, fold)?.1);
         let is_integer = is_integer(column.kind());
-        let is_float = matches!(rows, Stored::Floats(_));
         match fold {
-            Fold::Rows => self.sizes(),
-            Fold::Count if is_integer => folded(column),
-            Fold::Count => folded(&zeros_of(column)?),
-            Fold::Sum if is_float => self.float_sums(column),
-            Fold::Sum if column.kind().is_decimal() => self.decimal_sums(column)?.typed_as(column),
-            Fold::Sum if is_integer => match times_of(column).as_deref() {
-                Some("tD") if column.kind().not_nullable() == Kind::I64 => {
-                    folded(column)?.typed_as(column)
-                }
-                Some("tD") | None => folded(column),
-                Some(_) => {
-                    let words =
-                        "dates, times of day and timestamps have no sum, and durations have one";
-                    Err(Error::said(ErrorKind::Unsupported, words))
-                }
-            },
-            Fold::Sum => {
-                let unsupported = Error::of(ErrorKind::Unsupported);
-                let kind = column.kind().not_nullable();
-                Err(unsupported.about(ErrorKind::Unsupported, kind, "has no sum", None))
+            Fold::Rows => self.sizes.try_clone(),
+            Fold::Sum => self.sums(column),
+            Fold::Count if !is_integer => self.folded(&zeros_of(column)?, fold),
+            Fold::Least | Fold::Greatest if has_floats(column) => {
+                self.folded(&without_nan(column)?, fold)
             }
-            _ if is_integer && !is_float => folded(column),
-            _ => self.picked(rows, fold),
+            _ if is_integer => self.folded(column, fold),
+            _ if column.kind().is_list() => Err(Error::of(ErrorKind::Unsupported)),
+            Fold::Least => self.extremes(column, Column::least),
+            Fold::Greatest => self.extremes(column, Column::greatest),
+            _ => self.picked(column, fold),
         }
     }
 
-    fn sizes(&self) -> Result<Column, Error> {
-        let zeros = Column::constant(Kind::U8, 0, self.table.rows())?;
-        Ok(self.numbers.fold_by(&zeros, Fold::Rows)?.1)
+    /// Answers for the rows of a column of integers.
+    fn folded(&self, column: &Column, fold: Fold) -> Result<Column, Error> {
+        Ok(self.numbers.fold_by(column, fold)?.1)
     }
 
-    fn ranges(&self) -> impl Iterator<Item = Range<usize>> + '_ {
-        let starts = self.stretches.starts().into_iter();
-        starts
-            .zip(&self.stretches.stops)
-            .map(|(start, stop)| start..*stop)
+    /// Asks the rows of each group.
+    fn of_each<'c, T>(
+        &'c self,
+        column: &'c Column,
+        ask: impl Fn(&Column) -> Result<T, Error> + 'c,
+    ) -> impl Iterator<Item = Result<T, Error>> + 'c {
+        let starts = [0].into_iter().chain(self.stops.iter().copied());
+        let groups = starts.zip(&self.stops);
+        groups.map(move |(start, stop)| ask(&column.slice(start..*stop)?))
     }
 
-    fn float_sums(&self, keys: &Column) -> Result<Column, Error> {
-        let floats = doubles(keys)?;
-        let sums = self.ranges().map(|rows| {
-            let (sum, count) = Floats::<f64>::of_keys(floats.keys().slice(rows)?)?.sum()?;
-            Ok((count > 0).then_some(sum))
+    /// Finds the least or the greatest row of each group that is not null.
+    fn extremes(
+        &self,
+        column: &Column,
+        ask: fn(&Column) -> Result<Value, Error>,
+    ) -> Result<Column, Error> {
+        let mut builder = Builder::new(column.kind().nullable())?;
+        for row in self.of_each(column, ask) {
+            builder.append_row(&row?, 1)?;
+        }
+        builder.finish()?.decode()?.typed_as(column)
+    }
+
+    /// Picks the first or the last row of each group that is not null, by the number of its run.
+    fn picked(&self, column: &Column, fold: Fold) -> Result<Column, Error> {
+        let Shown { stops, values } = Shown::of(column)?;
+        let runs: Vec<usize> = (0..stops.len()).collect();
+        let runs = Column::new(&runs)?;
+        let null = Column::constant(runs.kind().nullable(), Value::Null, runs.len())?;
+        let runs = values.is_valid()?.choose(&runs, &null)?;
+        let picked = self.folded(&runs_of(&stops, &runs)?, fold)?;
+        values.take(&picked)?.decode()
+    }
+
+    /// Adds the rows of each group.
+    fn sums(&self, column: &Column) -> Result<Column, Error> {
+        match column.slice(..0)?.sum()?.total {
+            Value::Float(_) => self.float_sums(column),
+            Value::Decimal(_) => self.decimal_sums(column)?.typed_as(column),
+            _ if is_duration(column) => self.folded(column, Fold::Sum)?.typed_as(column),
+            _ => self.folded(column, Fold::Sum),
+        }
+    }
+
+    fn float_sums(&self, column: &Column) -> Result<Column, Error> {
+        let sums = self.of_each(column, Column::sum).map(|sum| {
+            let sum = sum?;
+            (!sum.empty).then(|| f64::try_from(sum.total)).transpose()
         });
-        let sums = Floats::of_options(&sums.collect::<Result<Vec<_>, Error>>()?)?;
-        Stored::of_keys(&sums.keys().decode()?)
+        let floats = Floats::of_options(&sums.collect::<Result<Vec<_>, Error>>()?)?;
+        floats.keys().decode()
     }
 
     fn decimal_sums(&self, column: &Column) -> Result<Column, Error> {
-        let (mut digits, mut valid) = (Vec::new(), Vec::new());
-        let (precision, scale) = (GREATEST_PRECISION, column.kind().scale);
-        for (group, rows) in self.ranges().enumerate() {
-            let sum = column.slice(rows)?.decimal_sum();
-            let sum =
-                sum.map_err(|error| error.in_group(group, Kind::decimal(precision, scale)))?;
-            digits.push(sum.total.digits);
-            valid.push(!sum.empty);
+        let kind = Kind::decimal(GREATEST_PRECISION, column.kind().scale).nullable();
+        let mut builder = Builder::new(kind)?;
+        for (group, sum) in self.of_each(column, Column::sum).enumerate() {
+            let sum = sum.map_err(|error| error.in_group(group, kind.not_nullable()))?;
+            let total = if sum.empty { Value::Null } else { sum.total };
+            builder.append_row(&total, 1)?;
         }
-        Column::decimals(&digits, precision, scale, Some(&valid))
-    }
-
-    /// Takes one row for each group: the least, the greatest, the first or the last that is not null, and no NaN.
-    fn picked(&self, rows: Stored, fold: Fold) -> Result<Column, Error> {
-        let shown = Shown::of(rows.column())?;
-        let is_by_value = matches!(fold, Fold::Least | Fold::Greatest);
-        let keys = match rows.numbers().filter(|_| is_by_value) {
-            Some(numbers) => Keys::of(&shown.values)?.within(&numbers),
-            None => Keys::of(&shown.values)?,
-        };
-        let groups = self.ranges().map(|rows| {
-            let first = shown.stops.partition_point(|stop| *stop <= rows.start);
-            let before_last = shown.stops.partition_point(|stop| *stop < rows.end);
-            best(&keys, first..(before_last + 1).min(shown.stops.len()), fold)
-        });
-        let chosen: Vec<Option<usize>> = groups.collect();
-        shown.values.take(&Column::try_from(&chosen)?)?.decode()
+        builder.finish()?.decode()
     }
 }
 
 const GREATEST_PRECISION: u8 = 38;
 
-/// Finds the run of a group that answers; `None` where each is null.
-fn best(keys: &Keys, runs: Range<usize>, fold: Fold) -> Option<usize> {
-    let mut valid = runs.filter(|run| keys.is_valid(*run));
-    let first = valid.next()?;
-    let better = |best: usize, run: usize| match (fold, keys.compare_valid(run, best)) {
-        (Fold::Last, _) | (Fold::Least, Ordering::Less) | (Fold::Greatest, Ordering::Greater) => {
-            run
-        }
-        _ => best,
-    };
-    Some(valid.fold(first, better))
+/// Returns floats with null in place of each NaN.
+fn without_nan(column: &Column) -> Result<Column, Error> {
+    let null = Column::constant(column.kind().nullable(), Value::Null, column.len())?;
+    let are_numbers = column.compare_value(Operator::GreaterOrEqual, f64::NEG_INFINITY)?;
+    are_numbers.choose(column, &null.typed_as(column)?)
 }
 
 /// Returns integers that are null where the rows of a column are.
@@ -244,21 +247,11 @@ fn zeros_of(column: &Column) -> Result<Column, Error> {
     valid.choose(&of(Value::from(0))?, &of(Value::Null)?)
 }
 
-/// Returns which times a format of Arrow names: `td` for dates, `tt` for times of day, `ts` for timestamps, `tD` for
-/// durations, and `None` for all else.
-fn times_of(column: &Column) -> Option<String> {
-    let format = column.logical_type()?;
-    let (times, unit) = (format.get(..2)?, format.get(2..)?);
-    let is_unit = |unit: &str| ["s", "m", "u", "n"].contains(&unit);
-    let is_served = match times {
-        "td" => ["D", "m"].contains(&unit),
-        "tt" | "tD" => is_unit(unit),
-        "ts" => unit
-            .split_once(':')
-            .map_or(false, |(unit, zone)| is_unit(unit) && !zone.contains('\0')),
-        _ => false,
-    };
-    is_served.then(|| times.to_string())
+/// Returns whether the rows are durations, by a format of Arrow.
+fn is_duration(column: &Column) -> bool {
+    let format = column.logical_type();
+    let is_named = matches!(format.as_deref(), Some("tDs" | "tDm" | "tDu" | "tDn"));
+    is_named && column.kind().not_nullable() == Kind::I64
 }
 
 /// Puts a column under a name that there is not yet.

@@ -2,7 +2,7 @@
 use super::TableError;
 use crate::column::turn_if;
 use crate::raw::{self, Handle, TableHandle};
-use crate::{ask, Column, Error, Fields};
+use crate::{ask, Column, Error, Fields, Fold};
 use std::cell::UnsafeCell;
 use std::ops::Range;
 use std::ptr;
@@ -77,6 +77,20 @@ impl Held {
         let (table, other) = (self.handle.get(), other.handle.get());
         Held::made(are_lists, |out, fields| unsafe {
             raw::hv_table_append(table, other, out, fields)
+        })
+    }
+
+    /// Returns the keys of each group of neighbouring rows that are equal in the columns of these names, and under one
+    /// more name how many rows it has.
+    pub(super) fn groups(&self, names: &[&str], rows: &str) -> Result<Held, Error> {
+        let any = names.first().copied().unwrap_or("");
+        let text = |name| Column::texts(&[name], None);
+        let (keys, answer, counted) = (Column::texts(names, None)?, text(rows)?, text(any)?);
+        let (keys, answer) = (keys.handle.get(), answer.handle.get());
+        let (counted, folds) = (counted.handle.get(), [Fold::Rows as u8]);
+        self.part(|table, out, fields| unsafe {
+            let (folds, len) = (folds.as_ptr(), folds.len());
+            raw::hv_table_group_by(table, keys, answer, counted, folds, len, out, fields)
         })
     }
 

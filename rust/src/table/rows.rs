@@ -1,8 +1,7 @@
 //! The rows of a table: those of a range, of a mask, of indices, and those of another table after them.
 use super::error::number;
-use super::floats::Stored;
 use super::held::Held;
-use super::{Difference, Table, TableError, Threshold};
+use super::{Difference, Table, TableError};
 use crate::arrow::concat;
 use crate::commands::ends_of;
 use crate::{raw, Column, Error, ErrorKind, Fields, Operator, Value};
@@ -52,8 +51,7 @@ impl Table {
     }
 
     /// Keeps the rows where `row operator value` is true of the column of a name, as [`Column::compare_value`]
-    /// compares; floats are compared as numbers, by IEEE 754. Refused as `NoSuchColumn`, and as `TypeMismatch` for a
-    /// value of another sort.
+    /// compares. Refused as `NoSuchColumn`, and as `TypeMismatch` for a value of another sort.
     ///
     /// ```
     /// use hivevigil::{Column, Floats, Operator, Table};
@@ -67,10 +65,9 @@ impl Table {
         &self,
         name: &str,
         operator: Operator,
-        value: impl Into<Threshold>,
+        value: impl Into<Value>,
     ) -> Result<Table, TableError> {
-        let rows = Stored::of(self.column(name)?);
-        let mask = value.into().compared(rows, operator);
+        let mask = self.column(name)?.compare_value(operator, value);
         self.filter(&mask.map_err(TableError::of(name))?)
     }
 

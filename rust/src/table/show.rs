@@ -1,5 +1,4 @@
 //! What a table looks like.
-use super::floats::{doubles, Stored};
 use super::Table;
 use crate::{Column, Form, Value};
 use std::fmt;
@@ -74,26 +73,9 @@ fn first_rows(column: &Column) -> Result<String, fmt::Error> {
     if column.kind().is_list() {
         return Ok(String::new());
     }
-    let first = column.slice(..count.min(ROWS)).map_err(|_| fmt::Error)?;
-    let mut words: Vec<String> = match Stored::of(column) {
-        Stored::AsTheyAre(_) => {
-            let rows = first.rows().collect::<Result<Vec<Value>, _>>();
-            rows.map_err(|_| fmt::Error)?
-                .iter()
-                .map(Value::to_string)
-                .collect()
-        }
-        Stored::Floats(_) => {
-            let floats = doubles(&first).and_then(|floats| floats.options());
-            let word =
-                |float: Option<f64>| float.map_or("null".to_string(), |float| format!("{float:?}"));
-            floats
-                .map_err(|_| fmt::Error)?
-                .into_iter()
-                .map(word)
-                .collect()
-        }
-    };
+    let rows = column.rows().take(ROWS).collect::<Result<Vec<Value>, _>>();
+    let rows = rows.map_err(|_| fmt::Error)?;
+    let mut words: Vec<String> = rows.iter().map(Value::to_string).collect();
     words.extend((count > ROWS).then(|| "..".to_string()));
     Ok(words.join(", "))
 }
