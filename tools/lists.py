@@ -169,7 +169,7 @@ class Lists:
         self.same("exceptions of Python", classes, expected)
         self.same("types of Python", list(package.TYPES), [name.lower() for name in self.types])
         self.same("operators of Python", list(package.OPERATORS), [SIGNS[name] for name in self.operators])
-        self.same("folds of Python", list(package.groups.FOLDS), [name.lower() for name in self.folds])
+        self.same("folds of Python", list(package._grouping.FOLDS), [name.lower() for name in self.folds])
         forms = {number: name.lower() for name, number in without(self.forms, "NONE").items()}
         self.same("forms of Python", dict(package.FORMS), forms)
 

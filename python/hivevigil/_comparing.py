@@ -1,29 +1,25 @@
 """Comparisons with one value or a column, by name and by Python's operators, which make masks.
 
 A number that the column's type does not have still has a place among its rows: 300 is above every i8, and 0.505 lies
-between two decimals of scale 2. Such a comparison is one with a number that the type has, which answers the same.
+between two decimals of scale 2. The library compares rows with such numbers exactly.
 """
 from __future__ import annotations
 
 import operator
 from decimal import Decimal
-from fractions import Fraction
 from numbers import Real
 from typing import TYPE_CHECKING, Any, Optional
 
-from . import _decimals, _float_columns, _floats, _times
+from . import _decimals, _float_columns, _floats, _numbers, _times
 from ._library import calls, session
 from ._making import is_array
-from ._types import TYPES, WHOLE_NUMBERS, range_of
-from ._values import is_missing, is_truth, is_whole, operator_of, passed, stored
+from ._types import TYPES, WHOLE_NUMBERS
+from ._values import is_missing, is_truth, is_whole, operator_of, passed
 from .errors import CastOutOfRange, ColumnLength, TypeMismatch, in_words
 from .logical import LogicalType
 
 if TYPE_CHECKING:
     from .column import Column
-
-_WIDE = range(-(2**127), 2**127)  # what a decimal is stored as, in units of its least place
-_DIGITS = 60  # more than any type has
 
 
 class Comparisons:
@@ -86,17 +82,17 @@ def with_value(column: Column, sign: str, value: Any) -> Column:
         raise TypeError(f"a column is compared with a column or one value: {made}")
     if is_number(value) and is_whole(value):
         value = operator.index(value)  # those of NumPy have no absolute of their least one
-    if _floats.is_float(column._logical) and not is_missing(value):
-        return _float_columns.with_value(column, sign, _float_columns.checked_number(column._logical, value))
-    if column._logical is not None:
-        if not is_missing(value):
-            value = _times.exact(column._logical, value)
-        return with_value(column.storage(), sign, value)
-    name, number = TYPES[column._kind.number], None
-    if is_number(value) and (name in WHOLE_NUMBERS or name == "decimal"):
-        fits = _WIDE if name == "decimal" else range_of(name)
-        sign, number = _decided(sign, *_place(value, column._kind.scale), fits)
-    parts = passed(column._kind, value) if number is None else stored(name, number)
+    logical = column._logical
+    if logical is not None and not is_missing(value):
+        if not _floats.is_float(logical):
+            return with_value(column.storage(), sign, _times.exact(logical, value))
+        if not is_number(value):
+            raise TypeError(f"a value of type {logical} is a number, not {in_words(value)}")
+    name = TYPES[column._kind.number]
+    if is_number(value) and (logical is not None or name in (*WHOLE_NUMBERS, "decimal")):
+        decided, number = _numbers.decided(column, sign, value)
+        return column._made(calls.hv_compare_number, column, operator_of(decided), number)
+    parts = passed(column._kind, value)
     if column.form == "runs" and name != "list":
         return column._made(calls.hv_combine, column, operator_of(sign), _constant(column, parts, is_missing(value)))
     return column._made(calls.hv_compare_scalar, session, column, operator_of(sign), *parts)
@@ -125,36 +121,6 @@ def is_number(value: Any) -> bool:
     is among its integers, has none."""
     is_duration = type(value).__name__ == "timedelta64"
     return (is_whole(value) or isinstance(value, (Decimal, Real))) and not is_truth(value) and not is_duration
-
-
-def _place(value: Any, scale: int) -> tuple[int, bool]:
-    """The greatest number of least places that is not above a value, and whether it is the value."""
-    if isinstance(value, Decimal):
-        is_nan, is_past = value.is_nan(), value.is_infinite() or bool(value) and value.adjusted() + scale > _DIGITS
-    else:
-        is_nan, is_past = value != value, abs(value) == float("inf")
-    if is_nan:
-        raise ValueError(f"{value} has no place among numbers, and no row is compared with it")
-    if is_past:
-        return (10**_DIGITS if value > 0 else -(10**_DIGITS)), False
-    if not value:
-        return 0, True
-    if isinstance(value, Decimal) and value.adjusted() + scale < -_DIGITS:
-        return (0 if value > 0 else -1), False
-    exact = Fraction(operator.index(value)) if is_whole(value) else Fraction(*value.as_integer_ratio())
-    scaled = exact * Fraction(10) ** scale
-    return scaled.numerator // scaled.denominator, scaled.denominator == 1
-
-
-def _decided(sign: str, floor: int, exact: bool, fits: range) -> tuple[str, int]:
-    """A comparison with a number that fits, which answers as that with the value whose place this is."""
-    least, greatest = fits[0], fits[-1]
-    if exact and floor in fits:
-        return sign, floor
-    below = sign in ("<", "<=", "==")
-    if floor < least or sign in ("==", "!="):
-        return ("<" if below else ">="), least  # of no row, or of every row
-    return ("<=" if below else ">"), min(floor, greatest)
 
 
 def with_column(column: Column, sign: str, right: Column) -> Column:

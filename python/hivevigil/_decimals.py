@@ -1,36 +1,19 @@
-"""Columns of decimals: their exact sum, the same numbers at other scales, and two of them worked row by row."""
+"""Columns of decimals: the same numbers at other scales, and two of them worked row by row."""
 from __future__ import annotations
 
-import ctypes
 import operator
 from collections.abc import Sequence
 from decimal import Decimal
 from typing import TYPE_CHECKING, Any, Callable, Optional
 
 from . import _runs
-from ._library import Kind, Pair, ask, calls
+from ._library import Kind, calls
 from ._types import GREATEST_PRECISION, SCALES, TYPES, WHOLE_NUMBERS, text_of
-from ._values import decimal_of, is_missing, is_whole, unscaled
+from ._values import is_missing, is_whole, unscaled
 from .errors import CastOutOfRange, ColumnLength
 
 if TYPE_CHECKING:
     from .column import Column
-
-
-def total(column: Column) -> Decimal:
-    """The sum of the rows that are not null, at the scale of the column; an OverflowError where it leaves 38 digits on
-    the way from row to row."""
-    found, is_empty = Pair(), ctypes.c_uint8()
-    try:
-        ask(calls.hv_decimal_sum, column, found, is_empty)
-    except CastOutOfRange as left:
-        row = left.fields[0]
-        said = f"it leaves {GREATEST_PRECISION} digits at row {row}, which is {column[row]}"
-        raise OverflowError(f"sum: {said}: the rows before it make {total(column.slice(0, row))}") from None
-    return decimal_of((found.high << 64) + found.low, column._kind.scale)
-
-
-# ---- Scales ----
 
 
 def is_decimal(column: Column) -> bool:

@@ -1,24 +1,22 @@
-"""Columns of floats: made of arrays and of bits, as arrays, compared, summed, converted."""
+"""Columns of floats: made of arrays and of bits, as arrays, compared, converted."""
 from __future__ import annotations
 
 import array
-import ctypes
 import math
 from fractions import Fraction
 from typing import TYPE_CHECKING, Any, Callable, Optional
 
 from . import _floats, _reading, _runs
-from ._library import Kind, ask, calls
+from ._library import Kind, calls
 from ._making import numbers_of, validity_of
 from ._types import TYPES, WHOLE_NUMBERS, range_of
-from ._values import NOT_FLOAT, is_missing, operator_of
+from ._values import NOT_FLOAT
 from .errors import CastOutOfRange, TypeMismatch, in_words
 from .logical import LogicalType, storage_of
 
 if TYPE_CHECKING:
     from .column import Column
 
-_IEEE, _TOTAL = 1, 0
 _AS_THEY_ARE, _CANONICAL = 0, 1
 _WIDE = LogicalType("float", "64")
 
@@ -171,29 +169,11 @@ def to_pandas(column: Column) -> Any:
 # ---- Questions ----
 
 
-def total(column: Column) -> tuple[float, int]:
-    """The exact sum of the rows that are not null, rounded once to a float of 64 bits, and how many they are."""
-    wide = column if column._logical == _WIDE else converted(column, storage_of(_WIDE, True), _WIDE, "sum")
-    count, found = ctypes.c_uint64(), ctypes.c_uint64()
-    ask(calls.hv_float_sum, wide, count, found)
-    return _floats.value_of_bits("64", found.value), count.value
-
-
-def least_and_greatest(column: Column, skip_nan: bool) -> tuple[Optional[float], Optional[float]]:
-    """The least and the greatest number, None twice where there is none. Without `skip_nan` both are NaN where a row
-    is: NaNs are the first or the last in the total order."""
-    logical: Any = column._logical
-    is_found, least, greatest = ctypes.c_uint8(), ctypes.c_uint64(), ctypes.c_uint64()
-    ask(calls.hv_float_min_max, column, _IEEE if skip_nan else _TOTAL, is_found, least, greatest)
-    if not is_found.value:
-        return None, None
-    ends = [_floats.value_of_bits(logical.unit, each.value) for each in (least, greatest)]
-    return (float("nan"), float("nan")) if _floats.any_nan(ends) else (ends[0], ends[1])
-
-
 def has_nan(column: Column) -> bool:
-    """Whether a row is a NaN."""
-    return _floats.any_nan(end for end in least_and_greatest(column, False) if end is not None)
+    """Whether a row is a NaN: these are the first or the last in the order of keys."""
+    logical: Any = column._logical
+    ends: Any = column.storage().min_max()
+    return _floats.any_nan(_floats.shown(logical, key) for key in ends if key is not None)
 
 
 def number_bounds(bounds: Column) -> Column:
@@ -219,17 +199,10 @@ def without_nan(column: Column) -> Column:
 def _numbers(values: Column) -> Column:
     """The keys of the rows, flat, with null in place of each NaN."""
     nulls = values.constant(None, values._length, f"{TYPES[values._kind.number]}?")
-    return values._made(calls.hv_if_else, with_value(values, "<=", float("inf")), values, nulls).decode()
+    return values._made(calls.hv_if_else, values.le(math.inf), values, nulls).decode()
 
 
 # ---- Comparisons ----
-
-
-def with_value(column: Column, sign: str, value: Any) -> Column:
-    """Row by row whether `row sign value`, as numbers by IEEE 754, for a number of any kind, exactly."""
-    logical: Any = column._logical
-    decided, constant = _floats.decided(logical, sign, value)
-    return column._made(calls.hv_float_compare, column, operator_of(decided), constant, _IEEE)
 
 
 def with_column(column: Column, sign: str, right: Column) -> Column:
@@ -241,7 +214,7 @@ def with_column(column: Column, sign: str, right: Column) -> Column:
         return _flipped(with_column(column, "==", right))
     holds = _one_pattern_each(column).compare(sign, _one_pattern_each(right))
     bounded = right if sign in ("<", "<=") else column
-    is_number = _of_values(bounded, lambda values: with_value(values, "<=", float("inf")))
+    is_number = bounded.le(math.inf)
     if holds.form == "flat":
         is_number = is_number.decode()
     return holds.gt(_flipped(is_number))  # both: where a NaN is bounded, it holds of none
@@ -334,12 +307,3 @@ def _conversion(column: Column, kind: Kind, logical: Optional[LogicalType]) -> O
         return number if number is not None and number in fits else None
 
     return whole
-
-
-def checked_number(logical: Any, value: Any) -> Any:
-    """A number, with which rows are compared."""
-    from ._comparing import is_number
-
-    if not is_missing(value) and not is_number(value):
-        raise TypeError(f"a value of type {logical} is a number, not {in_words(value)}")
-    return value

@@ -1,4 +1,4 @@
-"""Values of floats: their bits, their keys, and what a comparison with a number of any size means.
+"""Values of floats: their bits, their keys, and the ones next to other numbers.
 
 A column of floats of 16, 32 or 64 bits stores each by its key, an integer of that width: the place of the float in the
 total order of IEEE 754, counted from 0.0. The library makes keys of bits and bits of keys; this module has single values.
@@ -8,10 +8,9 @@ from __future__ import annotations
 import math
 import struct
 from collections.abc import Iterable, Sequence
-from decimal import Decimal
 from fractions import Fraction
 from numbers import Integral
-from typing import Any, Optional, Union
+from typing import Any, Optional
 
 from ._values import is_missing, is_whole
 from .errors import in_words
@@ -20,8 +19,6 @@ from .logical import LogicalType, sort_of_class
 _FLOATS = {"16": "e", "32": "f", "64": "d"}  # letters of struct
 WORDS = {"16": "H", "32": "I", "64": "Q"}  # of unsigned integers with the same bits
 INFINITIES = {"16": 0x7C00, "32": 0x7F80_0000, "64": 0x7FF0_0000_0000_0000}
-_QUIET_NANS = {"16": 0x7E00, "32": 0x7FC0_0000, "64": 0x7FF8_0000_0000_0000}
-_FAR = 400  # decimal digits before or after the point, past all floats
 
 
 def is_float(logical: Optional[LogicalType]) -> bool:
@@ -118,42 +115,11 @@ def shown(logical: LogicalType, key: int) -> float:
     return value_of_bits(logical.unit, bits_of_key(logical.unit, key))
 
 
-# ---- Comparisons ----
+# ---- Near numbers ----
 
 
-def decided(logical: LogicalType, sign: str, value: Any) -> tuple[str, int]:
-    """A comparison with a float of this type, by its bits, that answers as that with a number of any kind. Such a number
-    may lie between two floats: no row equals it, and a row is below it exactly where it is at most the lower of both."""
-    unit = logical.unit
-    if value != value:
-        return sign, _QUIET_NANS[unit]
-    number = _exact(value)
-    near = _nearest(logical, number)
-    if near == number:
-        return sign, bits_of(logical, near)
-    if sign in ("==", "!="):
-        return sign, _QUIET_NANS[unit]
-    key = -1 if near == 0 else stored(logical, near)
-    lower = bits_of_key(unit, key if near < number else key - 1)
-    return ("<=" if sign in ("<", "<=") else ">"), lower
-
-
-def _exact(value: Any) -> Union[Fraction, float]:
-    """The number that a value is; one far past all floats, or far nearer to 0 than any, is another such."""
-    if isinstance(value, Decimal):
-        if value.is_infinite():
-            return float(value)
-        if value and abs(value.adjusted()) > _FAR:
-            power = Fraction(10) ** (_FAR if value.adjusted() > 0 else -_FAR)
-            return power if value > 0 else -power
-        return Fraction(value)
-    if abs(value) == float("inf"):
-        return float(value)
-    return Fraction(int(value)) if is_whole(value) else Fraction(*map(int, value.as_integer_ratio()))
-
-
-def _nearest(logical: LogicalType, number: Union[Fraction, float]) -> float:
-    """The float of the type next to a number, below or above it."""
+def nearest(logical: LogicalType, number: Any) -> float:
+    """The float of the type next to a number, below or above it; an infinity past the finite ones."""
     try:
         wide = float(number)
         letter = _FLOATS[logical.unit]
@@ -170,7 +136,7 @@ def rounded(logical: LogicalType, number: Fraction) -> float:
         # the odd float on the other side of the number, so that a type of fewer bits rounds it once
         odd = math.nextafter(near, math.inf if number > near else -math.inf)
         near = near if logical.unit == "64" else odd
-    return _nearest(logical, near)
+    return nearest(logical, near)
 
 
 def whole_of(value: float) -> Optional[int]:

@@ -46,7 +46,7 @@ class Held:
     def of(cls, columns: Mapping[str, Column], rows: Optional[int] = None) -> Held:
         """The table of these columns, each of this number of rows, or of that of the first."""
         made = cls()
-        _refuse(*answered(calls.hv_table_new, rows or 0, made._handle))
+        refuse(*answered(calls.hv_table_new, rows or 0, made._handle))
         beside = "the table" if rows is not None else f"column {in_words(next(iter(columns), ''))}"
         for name, column in columns.items():
             if rows == 0 and column._length:  # a table without rows and columns takes one of any rows
@@ -60,7 +60,7 @@ class Held:
         number, fields = answered(calls.hv_table_put, self, data, len(data), column)
         if number == _ROW_COUNT:
             raise _uneven(name, fields.second, beside, fields.third)
-        _refuse(number, fields)
+        refuse(number, fields)
         self._names, self._found = None, {}
 
     def made(
@@ -82,7 +82,7 @@ class Held:
             raise ValueError("sort: at least one column says the order")
         if number == _KEY_OF_LISTS:
             raise Unsupported().saying(f"column {in_words(names[fields.first])}: sort: lists have no order")
-        _refuse(number, fields)
+        refuse(number, fields)
         return found
 
     def made_by_names(self, call: Any, names: Sequence[Any], *arguments: Any, **said: Any) -> Held:
@@ -99,7 +99,7 @@ class Held:
         number, fields = answered(calls.hv_table_append, self, other, found._handle)
         if number in (_OTHER_TYPE, Unsupported.number):
             return None
-        _refuse(number, fields)
+        refuse(number, fields)
         return found
 
     # ---- Looking ----
@@ -123,7 +123,7 @@ class Held:
         if number == ColumnLength.number:
             room = (ctypes.c_uint8 * fields.first)()
             number, fields = answered(calls.hv_table_name, self, place, room, len(room), size)
-        _refuse(number, fields)
+        refuse(number, fields)
         return bytes(room[: size.value]).decode()
 
     def place(self, name: str) -> int:
@@ -186,7 +186,7 @@ def _uneven(name: str, rows: int, beside: str, wanted: int) -> ColumnLength:
     return refused
 
 
-def _refuse(number: int, fields: Fields) -> None:
+def refuse(number: int, fields: Fields) -> None:
     """Raises the refusal of a number that calls on columns answer too, if it is one."""
     if number:
         raise refusal(number, fields.first, fields.second, fields.third)

@@ -93,7 +93,7 @@ session = initial_session()
 
 # what calls are called here that have another name
 _METHODS = {
-    "extreme": "min and max", "compare_scalar": "compare", "combine": "compare", "if_else": "where", "hash": "hash_rows", "decimal_sum": "sum", "serialize": "record", "deserialize": "from_record",
+    "extreme": "min and max", "compare_scalar": "compare", "compare_number": "compare", "combine": "compare", "if_else": "where", "hash": "hash_rows", "serialize": "record", "deserialize": "from_record",
     "runs": "from_runs", "lists": "from_lists", "clone": "copy", "concat_columns": "concat",
     "export_with": "to_arrow",
     "export_stream": "to_arrow", "encode_rows": "to_runs", "read_bools": "truths", "read_validity": "validity",
@@ -105,11 +105,11 @@ _METHODS = {
 _LONG = frozenset("hv_" + name for name in (
     "u8", "u16", "u32", "u64", "i8", "i16", "i32", "i64", "bools", "decimals", "texts", "large_texts",
     "runs", "compact", "encode", "encode_rows", "decode", "cast", "take", "filter", "take_from", "compare",
-    "compare_scalar", "combine", "not", "is_null", "is_valid", "if_else", "equals", "hash", "fill", "float_cast", "float_of_integers", "float_to_integers", "float_combine", "fold_by", "running_totals", "sum", "decimal_sum", "is_constant", "is_sorted", "extreme", "min_max",
+    "compare_scalar", "compare_number", "combine", "not", "is_null", "is_valid", "if_else", "equals", "hash", "fill", "float_cast", "float_of_integers", "float_to_integers", "float_combine", "running_totals", "sum", "is_constant", "is_sorted", "extreme", "min_max",
     "read_u8", "read_u16", "read_u32", "read_u64", "read_i8", "read_i16", "read_i32", "read_i64", "read_decimals",
     "read_bools_from", "read_validity_from", "read_large_offsets", "read_bytes", "read_ends_u64",
     "write_size", "write", "read_column", "is_message",
-    "table_filter", "table_take", "table_append", "table_drop_null", "table_sort",
+    "table_filter", "table_take", "table_append", "table_drop_null", "table_sort", "table_group_by",
 ))
 _MANY = 16384  # rows, runs, items or bytes: from here on a call takes longer than the clones that it is lent
 _LIST = 12  # the number of the type of lists

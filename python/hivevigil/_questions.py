@@ -3,14 +3,14 @@ from __future__ import annotations
 
 import ctypes
 from decimal import Decimal
-from typing import TYPE_CHECKING, Any, Optional
+from typing import TYPE_CHECKING, Any
 
-from . import _comparing, _decimals, _float_columns, _floats, _runs, _times
+from . import _comparing, _floats, _runs, _times
 from ._library import Total, Value, ask, calls, session
 from ._making import is_array
-from ._types import TYPES, WHOLE_NUMBERS, range_of
-from ._values import Scalar, is_missing, is_truth, shown
-from .errors import ColumnLength, Unsupported, in_words
+from ._types import GREATEST_PRECISION, TYPES, WHOLE_NUMBERS, range_of
+from ._values import Scalar, is_missing, is_truth, number_in, shown
+from .errors import CastOutOfRange, ColumnLength, Unsupported, in_words
 from .logical import LogicalType
 
 if TYPE_CHECKING:
@@ -24,19 +24,20 @@ _CLASSES: dict[str, Any] = {
 def total(column: Column) -> Any:
     """The sum of the rows that are not null; an OverflowError where it leaves 64 bits, or of decimals 38 digits, on the way
     from row to row."""
-    logical = column._there()._logical
-    if _floats.is_float(logical):
-        return _float_columns.total(column)[0]
-    if logical is not None:
-        refuse_other_sums(column, "sum")
-        return _times.shown(logical, total(column.storage()))
-    if TYPES[column._kind.number] == "decimal":
-        return _decimals.total(column)
     found = Total()
-    ask(calls.hv_sum, session, column, found)
-    if found.kind:
-        return int(found.as_unsigned if found.kind == 1 else found.as_signed)
-    raise leaving(column, "sum")
+    try:
+        ask(calls.hv_sum, session, column, found)
+    except Unsupported:
+        refuse_other_sums(column, "sum")
+        raise
+    except CastOutOfRange as left:
+        row = left.fields[0]
+        said = f"it leaves {GREATEST_PRECISION} digits at row {row}, which is {column[row]}"
+        raise OverflowError(f"sum: {said}: the rows before it make {total(column.slice(0, row))}") from None
+    number = number_in(found, found.scale)
+    if number is None:
+        raise leaving(column, "sum")
+    return _meant(column, number)
 
 
 def refuse_other_sums(column: Column, call: str) -> None:
@@ -59,12 +60,6 @@ def leaving(column: Column, call: str) -> OverflowError:
     name, stored = sum_type(column), column.storage()
     row, value, before = _overflow(stored, range_of(name))
     return OverflowError(f"{call}: it leaves {name} at row {row}, which is {value}: the rows before it make {before}")
-
-
-def float_mean(column: Column) -> Optional[float]:
-    """The sum of floats that are not null, by how many they are; None of no rows."""
-    found, count = _float_columns.total(column)
-    return found / count if count else None
 
 
 def _overflow(column: Column, fits: range) -> tuple[int, int, int]:
@@ -101,8 +96,7 @@ def value_of(column: Column, call: Any, *arguments: Any) -> Scalar:
         value, text = Value(), ctypes.create_string_buffer(room)
         try:
             ask(call, *arguments, value, text, room)
-            answer: Scalar = _times.value_of(column._logical, shown(value, column._kind, text))
-            return answer
+            return _meant(column, shown(value, column._kind, text))
         except ColumnLength as short:
             room = short.fields[0]
 
@@ -115,9 +109,15 @@ def least_and_greatest(column: Column) -> tuple[Scalar, Scalar]:
         try:
             ask(calls.hv_min_max, session, column, least, low, room, greatest, high, room)
             found = shown(least, column._kind, low), shown(greatest, column._kind, high)
-            return _times.value_of(column._logical, found[0]), _times.value_of(column._logical, found[1])
+            return _meant(column, found[0]), _meant(column, found[1])
         except ColumnLength as short:
             room = short.fields[0]
+
+
+def _meant(column: Column, answer: Scalar) -> Scalar:
+    """The value of what C answered of a column: of integers that are times the time, while floats are answered as such."""
+    value: Scalar = answer if isinstance(answer, float) else _times.value_of(column._logical, answer)
+    return value
 
 
 def has(column: Column, value: Any) -> bool:
@@ -139,7 +139,7 @@ def has(column: Column, value: Any) -> bool:
     if isinstance(value, _CLASSES.get(name, ())) and is_truth(value) == (name == "bool"):
         try:
             return _is_true_anywhere(column.eq(value))
-        except ValueError:  # NaN, or a text that is not UTF-8
+        except ValueError:  # a text that is not UTF-8
             return False
     return value in _runs.rows(column)
 

@@ -29,16 +29,14 @@ def mean(column: Column) -> Optional[float]:
     """The mean of the rows that are not null; None where there is none."""
     if TYPES[column._there()._kind.number] != "decimal":
         refuse_other_than_numbers(column, "mean")
-    if _floats.is_float(column._logical):
-        return _questions.float_mean(column)
     count = column._length - column.null_count
     if not count:
         return None
     try:
-        total = Fraction(_questions.total(column))
+        total = _questions.total(column)
     except OverflowError:  # past 64 bits, or 38 digits, on the way
-        total = Fraction(sum(Fraction(number) * rows for number, rows in weighed(column)))
-    return float(total / count)
+        total = sum(Fraction(number) * rows for number, rows in weighed(column))
+    return total / count if isinstance(total, float) else float(Fraction(total) / count)
 
 
 def variance(column: Column, ddof: Any) -> Optional[float]:

@@ -3,18 +3,20 @@ from __future__ import annotations
 
 import ctypes
 import operator
+import struct
 from datetime import date, time, timedelta
 from decimal import Decimal
 from numbers import Rational, Real
-from typing import Any, Union
+from typing import Any, Optional, Union
 
-from ._library import Kind, Value
-from ._types import OPERATORS, TYPES, WHOLE_NUMBERS, range_of, text_of
+from ._library import Kind, Total, Value
+from ._types import OPERATORS, SCALES, TYPES, WHOLE_NUMBERS, range_of, text_of
 from .errors import OutOfBounds, in_words
 
 Scalar = Union[int, float, bool, Decimal, str, bytes, date, time, timedelta, None]
-_UNSIGNED, _SIGNED, _TRUTH, _DECIMAL, _TEXT, _BYTES = range(1, 7)
+_UNSIGNED, _SIGNED, _TRUTH, _DECIMAL, _TEXT, _BYTES, _DOUBLE, _SCALED = range(1, 9)
 MOST_ROWS = _LOW = 2**64 - 1
+_OF_128_BITS = range(-(2**127), 2**127)
 _SORTS = {
     **dict.fromkeys(WHOLE_NUMBERS, "an integer"), "bool": "a boolean", "utf8": "a text", "binary": "bytes",
     "list": "a list, which no call takes",
@@ -160,11 +162,32 @@ def stored(name: str, number: int) -> tuple[Value, bytes, int]:
     return (Value(number, 0, _UNSIGNED, 0) if name[0] == "u" else Value(0, number, _SIGNED, 0)), b"", 0
 
 
+def scaled_passed(number: int, scale: int) -> Optional[Value]:
+    """A number with this many of its digits after the point, as C takes numbers of any type; None where it has no room."""
+    if number not in _OF_128_BITS or scale not in SCALES:
+        return None
+    return Value(number & _LOW, number >> 64, _SCALED, 0, scale)
+
+
+def double_passed(number: float) -> Value:
+    """A float of 64 bits, as C takes numbers of any type."""
+    return Value(struct.unpack("=Q", struct.pack("=d", number))[0], 0, _DOUBLE)
+
+
 def shown(value: Value, kind: Kind, text: ctypes.Array[ctypes.c_char]) -> Scalar:
     """A value that C answered about a column of this type; `text` is the buffer that was passed with it."""
-    if value.kind == _DECIMAL:
-        return decimal_of((value.as_signed << 64) + value.as_unsigned, kind.scale)
-    if value.kind < _DECIMAL:
-        return (None, value.as_unsigned, value.as_signed, bool(value.truth))[value.kind]
+    if value.kind == _TRUTH:
+        return bool(value.truth)
+    if value.kind not in (_TEXT, _BYTES):
+        return number_in(value, kind.scale)
     data = text.raw[: value.as_unsigned]
     return data.decode() if value.kind == _TEXT else data
+
+
+def number_in(answer: Union[Value, Total], scale: int) -> Union[int, float, Decimal, None]:
+    """The number that C answered, a decimal of this scale; None where it answered none."""
+    if answer.kind == _DOUBLE:
+        return ctypes.c_double.from_buffer(answer).value
+    if answer.kind in (_DECIMAL, _SCALED):
+        return decimal_of((answer.as_signed << 64) + answer.as_unsigned, scale)
+    return (None, answer.as_unsigned, answer.as_signed)[answer.kind]

@@ -567,8 +567,8 @@ class Column(_comparing.Comparisons, _pairs.Pairs, _ufuncs.Ufuncs):
 
     def min_max(self, skip_nan: bool = True) -> tuple[Scalar, Scalar]:
         """Both at once."""
-        if _floats.is_float(self._logical):
-            return _float_columns.least_and_greatest(self, skip_nan)
+        if not skip_nan and _floats.is_float(self._logical) and _float_columns.has_nan(self):
+            return float("nan"), float("nan")
         return _questions.least_and_greatest(self)
 
     def __getitem__(self, key: Any) -> Any:

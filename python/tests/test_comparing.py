@@ -1,4 +1,5 @@
 """Comparisons with numbers that the column's type does not have answer as those of Python's exact numbers."""
+import math
 import operator
 from decimal import Decimal
 from fractions import Fraction
@@ -19,6 +20,7 @@ NUMBERS = st.one_of(
     st.decimals(allow_nan=False), st.decimals(-3, 3, places=4), st.fractions(), st.floats(allow_nan=False),
     st.sampled_from([Decimal("1E+999999"), Decimal("-1E+999999"), Decimal("1E-999999"), Decimal("-1E-999999")]),
     st.sampled_from([Decimal("Infinity"), Decimal("-Infinity"), Decimal("0E+999999"), 0.1, -0.0]),
+    st.sampled_from([2**200, 2**200 + 1, -(2**127) - 1, Decimal(1).scaleb(-60) + 0, Decimal("3." + "0" * 60), 10**38 * 5]),
 )
 
 
@@ -42,6 +44,42 @@ def test_numbers_beside_the_rows(sample, sign, data):
     row = data.draw(st.sampled_from(sample.rows))
     near = Fraction(row or 0) + data.draw(st.sampled_from([Fraction(0), Fraction(1, 2000), Fraction(-1, 2000)]))
     assert sample.column.compare(sign, near).to_list() == due(sample.rows, sign, near)
+
+
+LEAST, MOST = 5e-324, 1.7976931348623157e308
+FLOATS = [
+    0.0, -0.0, LEAST, -LEAST, MOST, -MOST, math.inf, -math.inf, 2.0**53, 2.0**53 + 2, 2.0**200, 2.0**200 + 2.0**148,
+    0.1, math.nextafter(0.1, 0), 1 / 3, math.nextafter(1 / 3, 1), None,
+]
+BETWEEN_FLOATS = [
+    Fraction(LEAST) / 2, -Fraction(LEAST) / 2, Fraction(MOST) * 2, -Fraction(MOST) * 2, Fraction(1, 3), 2**200 + 1,
+    2**53 + 1, Decimal("0.1"), Decimal("1E-999999"), Decimal("-1E-999999"), 10**400, Decimal("-1E+400"),
+]
+
+
+@pytest.mark.parametrize("value", BETWEEN_FLOATS)
+def test_numbers_between_two_floats(value):
+    column = Column.of(FLOATS, "float64?")
+    for sign, holds in SIGNS.items():
+        assert column.compare(sign, value).to_list() == [None if row is None else holds(row, value) for row in FLOATS]
+
+
+@pytest.mark.parametrize("scale", [-128, -40, 127])
+def test_numbers_next_to_decimals_of_far_scales(scale):
+    unit = Fraction(10) ** -scale
+    rows = [Decimal((0, (7,), -scale)), Decimal((1, (3,), -scale)), Decimal(0), None]
+    column = Column.of(rows, f"decimal(38, {scale})?")
+    for value in (7 * unit, 7 * unit + unit / 3, -3 * unit - unit / 3, Fraction(1, 3), 10**30, unit * 10**39, -unit * 10**39):
+        for sign in SIGNS:
+            exact = [None if row is None else SIGNS[sign](Fraction(row), value) for row in rows]
+            assert column.compare(sign, value).to_list() == exact, (sign, value)
+
+
+def test_the_form_is_that_of_the_column():
+    for rows in ([1, 5, 5], [Decimal("1.5"), Decimal("5"), Decimal("5")]):
+        column = Column.of(rows)
+        assert [each.gt(2.5).form for each in (column, column.to_runs())] == ["flat", "runs"]
+        assert Column.constant(rows[0], 4).lt(2.5).form == "constant"
 
 
 def test_by_hand():
@@ -83,10 +121,13 @@ def test_values_of_another_sort(column, value, said):
 
 
 @pytest.mark.parametrize("value", [Decimal("NaN"), Decimal("sNaN"), float("nan"), numpy.float32("nan")])
-def test_what_has_no_place(value):
-    for column in (Column.of([1]), Column.of([Decimal("1.5")])):
-        with pytest.raises(ValueError, match="has no place among numbers"):
-            column.lt(value)
+def test_nan_is_unequal_to_each_row(value):
+    for rows in ([1, None], [Decimal("1.5"), None], [1.5, None]):
+        for column in (Column.of(rows), Column.of(rows).to_runs()):
+            assert {sign: column.compare(sign, value).to_list() for sign in SIGNS} == {
+                sign: [sign == "!=", None] for sign in SIGNS
+            }
+            assert float("nan") not in column
 
 
 def test_decimals_of_values_have_room():
