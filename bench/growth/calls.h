@@ -27,6 +27,8 @@ CALL(hv_take_from, "`hv_take_from`, codes and column in runs", ALL, hv_take_from
 CALL(hv_compare, "`hv_compare`", PLAIN, hv_compare(SESSION, COLUMN, HV_LT, &in->other, OUT))
 CALL(hv_compare_scalar, "`hv_compare_scalar`", PLAIN,
      hv_compare_scalar(SESSION, COLUMN, HV_LE, &in->value, TEXT, OUT))
+CALL(hv_compare_number, "`hv_compare_number`", NUMBERS | DECIMALS,
+     hv_compare_number(COLUMN, HV_LE, &(hv_value){.as_unsigned = 11, .kind = HV_SCALED, .scale = 1}, OUT))
 CALL(hv_fill, "`hv_fill`", PLAIN, hv_fill(SESSION, COLUMN, &in->value, TEXT, OUT))
 CALL(hv_combine, "`hv_combine`", PLAIN, hv_combine(COLUMN, HV_LT, &in->other, OUT))
 CALL(hv_combine, "`hv_combine`", NUMBERS, hv_combine(COLUMN, HV_ADD, &in->other, OUT))
@@ -58,6 +60,12 @@ CALL(hv_min_max, "`hv_extreme`, `hv_min_max`", PLAIN,
      hv_min_max(SESSION, COLUMN, &in->least, in->bytes, ROOM / 2,
                 &in->greatest, in->bytes + ROOM / 2, ROOM / 2, &in->error))
 CALL(hv_at, "`hv_at`", PLAIN, hv_at(COLUMN, in->start, &in->least, ROOM_FOR_TEXT, &in->error))
+#define MEANT "`hv_sum`, `hv_min_max`, `hv_at`, by the format of floats and of decimals"
+CALL(hv_sum, MEANT, FLOATS | DECIMALS | CONSTANTS, hv_sum(SESSION, &in->typed, &in->total, &in->error))
+CALL(hv_min_max, MEANT, FLOATS | DECIMALS | CONSTANTS,
+     hv_min_max(SESSION, &in->typed, &in->least, NULL, 0, &in->greatest, NULL, 0, &in->error))
+CALL(hv_at, MEANT, FLOATS | DECIMALS | CONSTANTS,
+     hv_at(&in->typed, in->start, &in->least, NULL, 0, &in->error))
 CALL(hv_null_count, "`hv_null_count`", ALL, (in->size = hv_null_count(COLUMN), 0))
 #define SIZES "`hv_length`, `hv_kind_of`, `hv_form`, `hv_offset`, `hv_bytes_used`"
 CALL(hv_length, SIZES, ALL, (in->size = hv_length(COLUMN), 0))
@@ -66,7 +74,6 @@ CALL(hv_form, SIZES, ALL, (in->flag = hv_form(COLUMN), 0))
 CALL(hv_offset, SIZES, ALL, (in->size = hv_offset(COLUMN), 0))
 CALL(hv_bytes_used, SIZES, ALL, (in->size = hv_bytes_used(COLUMN), 0))
 
-CALL(hv_decimal_sum, "`hv_decimal_sum`", DECIMALS, hv_decimal_sum(COLUMN, in->pairs, &in->flag, &in->error))
 CALL(hv_decimal_cast, "`hv_decimal_cast`, `hv_decimal_to_integers`", NUMBERS | DECIMALS,
      hv_decimal_cast(COLUMN, 20, 4, OUT))
 CALL(hv_decimal_to_integers, "`hv_decimal_cast`, `hv_decimal_to_integers`", DECIMALS,
@@ -74,11 +81,6 @@ CALL(hv_decimal_to_integers, "`hv_decimal_cast`, `hv_decimal_to_integers`", DECI
 CALL(hv_float_encode, "`hv_float_encode`", INTEGERS, hv_float_encode(&in->bits, 1, OUT))
 CALL(hv_float_decode, "`hv_float_decode`", FLOATS | CONSTANTS, hv_float_decode(COLUMN, OUT))
 CALL(hv_float_compare, "`hv_float_compare`", FLOATS | CONSTANTS, hv_float_compare(COLUMN, HV_LT, 0, 1, OUT))
-CALL(hv_float_at, "`hv_float_at`", FLOATS, hv_float_at(COLUMN, in->start, &in->flag, &in->number, &in->error))
-CALL(hv_float_min_max, "`hv_float_min_max`", FLOATS | CONSTANTS,
-     hv_float_min_max(COLUMN, 1, &in->flag, &in->number, &in->other_number, &in->error))
-CALL(hv_float_sum, "`hv_float_sum`", FLOATS | CONSTANTS,
-     hv_float_sum(COLUMN, &in->number, &in->other_number, &in->error))
 #define CONVERSIONS "`hv_float_cast`, `hv_float_of_integers`, `hv_float_to_integers`, `hv_float_combine`"
 CALL(hv_float_cast, CONVERSIONS, FLOATS, hv_float_cast(COLUMN, HV_I32, 0, OUT))
 CALL(hv_float_of_integers, CONVERSIONS, NUMBERS, hv_float_of_integers(COLUMN, HV_I64, 0, OUT))
@@ -155,6 +157,7 @@ CALL(hv_compare_value, "`hv_compare_value` (`hivevigil_helpers.h`)", PLAIN,
 #undef TEXT
 #undef ROOM_FOR_TEXT
 #undef OUT
+#undef MEANT
 #undef SIZES
 #undef CONVERSIONS
 #undef READS

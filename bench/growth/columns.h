@@ -30,7 +30,7 @@ typedef struct inputs {
     unsigned kind;
     hv_session session;
     hv_column column, other;  /* of the kind, the second with runs that end elsewhere */
-    hv_column dates;          /* `column`, under the format of dates */
+    hv_column dates, typed;   /* `column`, under the format of dates, and under that of its floats or decimals */
     hv_column mask, places, codes, bits, few; /* in runs, the last of five rows */
     hv_column five, all;                      /* the same five indices, flat, and a constant that is true */
     hv_column ends, values;   /* the parts of `column`, where it is in runs */
@@ -42,7 +42,7 @@ typedef struct inputs {
     hv_error error;
     hv_total total;
     size_t size, start, stop, start_of_run, message_size, dates_size;
-    uint64_t number, other_number;
+    uint64_t number;
     uint8_t flag, text[ROOM], bytes[ROOM], message[ROOM], dates_message[ROOM];
 } inputs;
 
@@ -106,7 +106,7 @@ static inline void values_of(const inputs *in, hv_column *out) {
 
 /* The column of the kind, and another one. */
 static inline void make_columns(inputs *in) {
-    const hv_value one = {0, 1, HV_SIGNED, 0};
+    const hv_value one = {0, 1, HV_SIGNED, 0, 0};
     const hv_kind number = {HV_I64, 1, 0, 0};
     hv_column flat = HV_EMPTY, values = HV_EMPTY, encoded = HV_EMPTY;
     values_of(in, in->kind == NESTED ? &flat : &values);
@@ -132,7 +132,7 @@ static inline void make_columns(inputs *in) {
 /* Masks, indices, codes and bits of floats in runs, and five indices. */
 static inline void make_others(inputs *in) {
     const hv_kind truth = {HV_BOOL, 0, 0, 0};
-    const hv_value is_true = {0, 0, HV_TRUTH, 1};
+    const hv_value is_true = {0, 0, HV_TRUTH, 1, 0};
     const uint8_t truths[1] = {0x15};
     const uint64_t codes[RUN_COUNT] = {0, 3, 1, 4, 2}, words[RUN_COUNT] = {0, 1, 2, 0, 1};
     uint64_t places[RUN_COUNT];
@@ -164,6 +164,8 @@ static inline void make_inputs(inputs *in, unsigned kind, size_t rows) {
     if (kind & PLAIN) MADE(hv_at(&in->column, 0, &in->value, in->text, ROOM, NULL));
     MADE(hv_write(&in->column, in->message, ROOM, &in->message_size, NULL));
     MADE(hv_with_type(&in->column, (const uint8_t *)"tdD", 3, &in->dates, NULL));
+    const char *meaning = kind == DECIMALS ? "d:10,2" : kind & (FLOATS | CONSTANTS) ? "g" : "";
+    MADE(hv_with_type(&in->column, (const uint8_t *)meaning, strlen(meaning), &in->typed, NULL));
     MADE(hv_write(&in->dates, in->dates_message, ROOM, &in->dates_size, NULL));
 }
 #endif

@@ -358,7 +358,7 @@ pub fn passed(item: i128, signed: bool) -> RawValue {
         as_unsigned,
         as_signed,
         kind,
-        truth: 0,
+        ..RawValue::default()
     }
 }
 
