@@ -138,8 +138,11 @@ static void answer(const uint8_t *bytes, size_t len) {
         return;
     }
     size_t rows = hv_length(&column);
+    hv_column stored = HV_EMPTY; /* without a format, by which floats are answered as doubles */
     printf("%zu rows:", rows);
-    print_rows(&column, rows < SHOWN ? rows : SHOWN);
+    expect(hv_with_type(&column, (const uint8_t *)"", 0, &stored, &error), 0, "hv_with_type");
+    print_rows(&stored, rows < SHOWN ? rows : SHOWN);
+    hv_free(&stored);
     print_format(&column, len);
     print_written(&column);
     putchar('\n');
