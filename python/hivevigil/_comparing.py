@@ -91,7 +91,8 @@ def with_value(column: Column, sign: str, value: Any) -> Column:
     name = TYPES[column._kind.number]
     if is_number(value) and (logical is not None or name in (*WHOLE_NUMBERS, "decimal")):
         decided, number = _numbers.decided(column, sign, value)
-        return column._made(calls.hv_compare_number, column, operator_of(decided), number)
+        asked = column if logical else column.storage()  # not by a format that Python does not read
+        return column._made(calls.hv_compare_number, asked, operator_of(decided), number)
     parts = passed(column._kind, value)
     if column.form == "runs" and name != "list":
         return column._made(calls.hv_combine, column, operator_of(sign), _constant(column, parts, is_missing(value)))
