@@ -1,6 +1,6 @@
 /* Do masks, indices, codes and comparisons in short runs lose by staying in runs? Each question is asked in two ways, in
  * turns in one process: its argument as it is, in runs; and as calls worked before they read runs, where the argument is
- * written out row by row first. Both answer the same rows, which is tested. Prints the table of docs/PERFORMANCE.md:
+ * written out row by row first. Both answer the same rows, which is tested. Prints the table of bench/results:
  * the time of the first way divided by that of the second. run.sh builds and runs it. */
 #include "hivevigil.h"
 #include "hivevigil_helpers.h"
