@@ -1,8 +1,8 @@
 -- Items and their flags, read by index.
 use Rattle.std.proofs.Common.{◌≡◌, ◌∙◌, ◌<◌, ◌≤◌, ℕ, zero, suc, ℤ, List, [], ◌∷◌, Bool, true, false, Some, None, length, map, refl, sym, ap, arith}
-use Rattle.std.specs.Prelude.{slice_get, slice_index_or, option_map}
-use Rattle.std.proofs.lemmas.List.{length-map}
-use Rattle.std.proofs.lemmas.Option.{slice_get-map}
+use Rattle.std.specs.Prelude.{replicate, slice_get, slice_index_or, option_map}
+use Rattle.std.proofs.lemmas.List.{get_or-replicate, length-map, length-replicate}
+use Rattle.std.proofs.lemmas.Option.{slice_get-get_or, slice_get-map}
 use Rattle.column_core.specs.Optionals.{optionals}
 use Rattle.column_sums.specs.Reach.{has_number}
 use Rattle.column_core.proofs.OptionalRows.{length-optionals-le, null-at, optionals-at}
@@ -50,3 +50,12 @@ has_number-at number (item ∷ items) [] k within = absurd (omega (arith, within
 has_number-at number (item ∷ items) (true ∷ flags) zero within = refl
 has_number-at number (item ∷ items) (false ∷ flags) zero within = refl
 has_number-at number (item ∷ items) (flag ∷ flags) (suc k) within = has_number-at number items flags k (omega (arith, within))
+
+-- a copy is read as what is copied
+pub copy-at : {B : Type 0} (n k : ℕ) (x : B) → k < n → slice_get (replicate n x) k ≡ Some x
+copy-at n k x within = slice_get-get_or (replicate n x) k x (omega (arith, within, length-replicate n x)) ∙ ap Some (get_or-replicate n k x x within)
+
+-- items of which none is valid are so many nulls
+pub optionals-none : {B : Type 0} (xs : List B) → optionals xs (replicate (length xs) false) ≡ replicate (length xs) None
+optionals-none [] = refl
+optionals-none (x ∷ xs) = ap (λ os. None ∷ os) (optionals-none xs)

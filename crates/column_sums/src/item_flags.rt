@@ -42,26 +42,6 @@ impl ItemFlags for AllValid {
     }
 }
 
-/// Counts items that are all null.
-#[derive(Drop)]
-pub struct AllNull {
-    pub count: usize,
-}
-
-impl ItemFlags for AllNull {
-    ghost flags = { λ items. replicate items.count false };
-
-    #[inline]
-    fn is_valid(&self, _index: usize) -> bool {
-        false
-    }
-
-    #[inline(always)]
-    fn flags_of_eight(&self, _index: usize) -> u64 {
-        0
-    }
-}
-
 /// Has a bit for each item, which says whether it is valid.
 #[derive(Drop)]
 pub struct ByBits<'a, A: Allocator> {

@@ -1,5 +1,5 @@
 //! Optional numbers as a flat column stores them: items, and a flag for each.
-ghost use Rattle.std.specs.Prelude.{◌≡◌, ◌<◌, ◌≤◌, ◌+◌, ℤ, List, Option, Some, length, map, option_map, slice_get, IfSome};
+ghost use Rattle.std.specs.Prelude.{◌≡◌, ◌<◌, ◌≤◌, ◌+◌, ℤ, List, Option, None, Some, length, map, option_map, replicate, slice_get, IfSome};
 ghost use Rattle.column_core.specs.Optionals.{optionals};
 ghost use Rattle.column_sums.specs.Reach.{AreFlagsOfEight, AreSized, IsStored};
 ghost use Rattle.column_sums.specs.SumRange.{sum_range};
@@ -87,6 +87,31 @@ impl<'a, V: NativePType, T: SummedIn<V>, F: ItemFlags> Numbers<V> for Items<'a, 
         let items = self.items;
         prove!(index < items.len());
         items[index].to_summed()
+    }
+}
+
+/// Counts numbers that are all null. No type of items is named, so that all share one loop.
+#[derive(Drop)]
+pub struct AllNull {
+    pub count: usize,
+}
+
+impl<V: NativePType> Numbers<V> for AllNull {
+    ghost numbers = { λ own. replicate own.count None };
+
+    #[inline]
+    fn number(&self, _index: usize) -> Option<V> {
+        None
+    }
+
+    #[inline(always)]
+    fn size_between(&self, _from: usize, _to: usize) -> Option<u64> {
+        Some(0)
+    }
+
+    #[inline(always)]
+    fn flags_of_eight(&self, _from: usize) -> Option<u64> {
+        Some(0)
     }
 }
 

@@ -17,8 +17,8 @@ mod unsigned;
 
 pub use answer::{SumAnswer, SumValue};
 pub use flat::sum_view;
-pub use item_flags::{AllNull, AllValid, ByBits, ItemFlags};
-pub use items::{Items, Numbers};
+pub use item_flags::{AllValid, ByBits, ItemFlags};
+pub use items::{AllNull, Items, Numbers};
 pub use numbers::{signed_at, unsigned_at};
 pub use run_sum::RunSum;
 pub use runs::{Runs, sum_in_runs};

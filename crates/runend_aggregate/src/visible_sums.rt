@@ -52,10 +52,7 @@ where
             let flags = &AllValid { count };
             sum_numbers(array, ends, &Items { items, flags }, sum)
         }
-        Validity::AllInvalid => {
-            let flags = &AllNull { count };
-            sum_numbers(array, ends, &Items { items, flags }, sum)
-        }
+        Validity::AllInvalid => sum_numbers(array, ends, &AllNull { count }, sum),
         Validity::Bits(bits) => {
             let flags = &ByBits { bits };
             sum_numbers(array, ends, &Items { items, flags }, sum)
