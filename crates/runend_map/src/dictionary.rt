@@ -27,8 +27,8 @@ use std::alloc::Allocator;
 /// has. A dictionary of integers gives a run column in minimal form: no run is hidden, neighbours differ (null is equal
 /// to null), the offset is 0 and the last end is the length. One of booleans gives a run column of the visible runs.
 /// Both have flat values and ends of the same type. Any other dictionary gives a flat column. The dictionary may be of
-/// any form and of any kind: one in runs, or of one value, is not written out. Only codes of visible runs are looked
-/// at.
+/// any form and of any kind: one in runs is written out only where it has no more rows than there are runs of codes,
+/// and one of one value is not. Only codes of visible runs are looked at.
 ///
 /// Refused as `TypeMismatch` unless the codes are integers, however little memory there is; then as
 /// `OutOfBounds`, with the code and the number of rows of the dictionary, at the first code that is not null
@@ -57,8 +57,9 @@ pub fn take_from<A: Allocator + Copy>(
 }
 
 /// Returns the dictionary's row for each code, null for null, flat, in a type with null where the dictionary's or the
-/// codes' has. Both may be of any form, and the dictionary of any kind: one in runs, or of one value, is not written
-/// out. Where the codes are in runs, only those of visible runs are looked up, each once, and a constant code once.
+/// codes' has. Both may be of any form, and the dictionary of any kind: one in runs is written out only where it has no
+/// more rows than codes are looked up, and one of one value is not. Where the codes are in runs, only those of visible
+/// runs are looked up, each once, and a constant code once.
 ///
 /// Refused as `TypeMismatch` unless the codes are integers, however little memory there is; then as
 /// `OutOfBounds`, with the code and the number of rows of the dictionary, at the first code that is not null

@@ -15,8 +15,9 @@ use runend_column::take_rows;
 use std::alloc::Allocator;
 
 /// Returns the rows of a column of any form at the indices, null for null, as a flat column. Its type has null where
-/// the column's or the indices' has. A run column is not written out: the run of each index is looked up, and if the
-/// values are in runs themselves, one row is written for each of the column's runs.
+/// the column's or the indices' has. A run column is written out only where it has no more rows than there are indices:
+/// else the run of each index is looked up, and if the values are in runs themselves, one row is written for each of
+/// the column's runs.
 ///
 /// Refused as `OutOfBounds`, with the index and the number of rows, at the first valid index that is
 /// negative or not below that number; else only as `OutOfMemory`.
@@ -33,7 +34,7 @@ pub fn rows_at<A: Allocator + Copy>(
     ensures session { ctx.new ≡ ctx.old }
 {
     match array {
-        ArrayRef::RunEnd(runs) => rows_of_runs(runs, indices, ctx),
+        ArrayRef::RunEnd(runs) if runs.len() > indices.len() => rows_of_runs(runs, indices, ctx),
         _ => take_rows(array, indices, ctx),
     }
 }
