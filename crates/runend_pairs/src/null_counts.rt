@@ -1,45 +1,101 @@
 //! How many rows of a column are null.
-ghost use Rattle.std.specs.Prelude.{◌≡◌, ◌-◌, ◌<◌, None, cond, count_by, is_none, length, min, option_map, slice_index, slice_index_or};
+ghost use Rattle.std.specs.Prelude.{◌≡◌, ◌-◌, ◌<◌, List, None, Option, cond, count_by, is_none, length, map, min, option_map, slice_index, slice_index_or};
 ghost use Rattle.column_base.specs.Validity.{validity_flags};
 ghost use Rattle.column_core.specs.FlatView.{leaf_in};
 ghost use Rattle.column_core.specs.Leaf.{leaf_rows, single_rows};
 ghost use Rattle.column_core.specs.ScalarView.{sees};
-ghost use Rattle.column_core.specs.Value.{Single};
+ghost use Rattle.column_core.specs.Value.{Single, Value};
 ghost use Rattle.runend_array.specs.Array.{rows};
 ghost use Rattle.runend_array.specs.Column.{column_of_runs, column_rows};
-ghost use Rattle.runend_pairs.specs.NullCounts.{null_rows};
+ghost use Rattle.runend_array.specs.Lists.{list_rows};
+ghost use Rattle.runend_windows.specs.Window.{run_rows};
+ghost use Rattle.runend_pairs.specs.NullCounts.{null_rows, where_true};
 
 use crate::runs::stop_in;
 use column_core::{FlatView, ScalarView, Validity};
-use runend_array::{ArrayRef, ConstantArray, RunEndArray, RunEndArrayExt, RunEndArraySlotsExt};
+use runend_array::{
+    ArrayRef, ConstantArray, ListViewArray, RowValidity, RunEndArray, RunEndArrayExt,
+    RunEndArraySlotsExt,
+};
 use std::alloc::Allocator;
 
-/// Returns how many rows of a column of any kind are null. Takes a step for each visible run, and one for each row of
-/// lists; the bits of a flat column are counted 64 at a time, and a constant takes one step. Takes no memory, and is
-/// never refused.
+/// Returns how many rows of a column of any kind are null. Takes a step for each visible run, of lists for each run of
+/// their validity; bits are counted 64 at a time, and a constant takes one step. Takes no memory, and is never refused.
 pub fn null_count<A: Allocator + Copy>(array: &ArrayRef<A>) -> usize
     ensures { result ≡ null_rows (rows array.now) }
 {
     match array {
-        ArrayRef::RunEnd(runs) => nulls_of_runs(runs),
+        ArrayRef::RunEnd(runs) => nulls_in_runs(
+            runs,
+            &Values {
+                values: runs.values(),
+            },
+        ),
         ArrayRef::Constant(constant) => nulls_of_constant(constant),
+        ArrayRef::ListView(lists) => nulls_of_lists(lists),
         _ => match array.flat_view() {
             Some(flat) => nulls_of_flat(flat, array.len()),
-            None => nulls_of_rows(array),
+            None => unreachable!(),
         },
     }
 }
 
-// How many rows of visible runs are null: each run is looked at once.
-fn nulls_of_runs<A: Allocator + Copy>(runs: &RunEndArray<A>) -> usize
-    ensures { result ≡ null_rows (column_rows (column_of_runs runs.now)) }
+/// Says which of some runs show null.
+trait NullRuns {
+    // What each run shows: of a row that is not null, that it is not.
+    ghost shown: { Self → List (Option Value) };
+
+    /// Returns how many of the `count` rows of a run are null: all, where the run shows null, else none.
+    fn nulls_of(&self, run: usize, count: usize) -> usize
+        requires { run < length (shown self.now) }
+        ensures { result ≡ cond (is_none (slice_index_or (shown self.now) run None)) count 0 };
+}
+
+/// Shows null where a value is null.
+#[derive(Drop)]
+struct Values<'a, A: Allocator> {
+    values: &'a ArrayRef<A>,
+}
+
+impl<'a, A: Allocator + Copy> NullRuns for Values<'a, A> {
+    ghost shown = { λ own. rows own.values.now };
+
+    fn nulls_of(&self, run: usize, count: usize) -> usize {
+        match self.values.scalar_at(run) {
+            Ok(row) if is_null_row(&row) => count,
+            _ => 0,
+        }
+    }
+}
+
+/// Shows null where a flag is not true.
+#[derive(Drop)]
+struct Flags<'a, A: Allocator> {
+    flags: &'a ArrayRef<A>,
+}
+
+impl<'a, A: Allocator + Copy> NullRuns for Flags<'a, A> {
+    ghost shown = { λ own. map where_true (rows own.flags.now) };
+
+    fn nulls_of(&self, run: usize, count: usize) -> usize {
+        match self.flags.scalar_at(run) {
+            Ok(ScalarView::Bool(true)) => 0,
+            _ => count,
+        }
+    }
+}
+
+// How many of the rows of visible runs are null. Each run is looked at once.
+fn nulls_in_runs<N: NullRuns, A: Allocator + Copy>(runs: &RunEndArray<A>, shows: &N) -> usize
+    requires { length (N.shown shows.now) ≡ length runs.now.ends }
+    ensures { result ≡ null_rows (run_rows runs.now.ends (N.shown shows.now) runs.now.offset runs.now.count) }
 {
     let visible = runs.visible_runs();
     let mut count = 0;
     let mut row = 0;
     for run in visible.start..visible.end {
         let stop = stop_of_run(runs, run);
-        count += where_null(runs.values(), run, stop.saturating_sub(row));
+        count += shows.nulls_of(run, stop.saturating_sub(row));
         row = stop;
     }
     count
@@ -53,17 +109,6 @@ fn stop_of_run<A: Allocator + Copy>(runs: &RunEndArray<A>, run: usize) -> usize
     match runs.ends() {
         ArrayRef::Primitive(ends) => stop_in(ends, run, runs.offset()).min(runs.len()),
         _ => unreachable!(),
-    }
-}
-
-// `count` where this row is null, else 0.
-fn where_null<A: Allocator + Copy>(values: &ArrayRef<A>, index: usize, count: usize) -> usize
-    requires { index < length (rows values.now) }
-    ensures { result ≡ cond (is_none (slice_index_or (rows values.now) index None)) count 0 }
-{
-    match values.scalar_at(index) {
-        Ok(row) if is_null_row(&row) => count,
-        _ => 0,
     }
 }
 
@@ -108,14 +153,20 @@ fn valid_count<A: Allocator>(validity: &Validity<A>, count: usize) -> usize
     }
 }
 
-// How many rows of any form are null, each looked at.
-fn nulls_of_rows<A: Allocator + Copy>(array: &ArrayRef<A>) -> usize
-    ensures { result ≡ null_rows (rows array.now) }
+// How many lists are null.
+fn nulls_of_lists<A: Allocator + Copy>(lists: &ListViewArray<A>) -> usize
+    ensures { result ≡ null_rows (list_rows lists.now) }
 {
-    let row_count = array.len();
-    let mut nulls = 0;
-    for row in 0..row_count {
-        nulls += where_null(array, row, 1);
+    match lists.validity() {
+        RowValidity::NonNullable => 0,
+        RowValidity::AllValid => 0,
+        RowValidity::AllInvalid => lists.len(),
+        RowValidity::Bits(bits) => lists.len().saturating_sub(bits.true_count()),
+        RowValidity::Runs(runs) => nulls_in_runs(
+            runs,
+            &Flags {
+                flags: runs.values(),
+            },
+        ),
     }
-    nulls
 }
