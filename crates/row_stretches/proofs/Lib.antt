@@ -1,3 +1,4 @@
 pub mod Places
 pub mod TrueRows
 pub mod Cuts
+pub mod Copies

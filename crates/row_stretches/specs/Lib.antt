@@ -1,3 +1,5 @@
 pub mod Stretches
 pub mod Masks
 pub mod Pieces
+pub mod Copies
+pub mod FewRuns

@@ -17,7 +17,7 @@ use std::alloc::Allocator;
 pub(crate) struct Pieces<A: Allocator> {
     // Where each piece ends, in rows of all pieces.
     pub(crate) ends: Vec<u64, A>,
-    // The run that each piece is of.
+    // The run that each piece is of, or the row of lists that it repeats.
     pub(crate) runs: Vec<u64, A>,
     // How many rows the pieces have.
     pub(crate) count: usize,
@@ -104,8 +104,8 @@ fn push_stretch<E: UnsignedPType, A: Allocator + Copy>(
     Ok(())
 }
 
-// Puts this number of rows of a run after the others.
-fn push_piece<A: Allocator + Copy>(
+/// Puts this number of rows of a run after the others.
+pub(crate) fn push_piece<A: Allocator + Copy>(
     pieces: &mut Pieces<A>,
     run: usize,
     rows: usize,

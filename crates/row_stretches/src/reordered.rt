@@ -9,15 +9,17 @@ ghost use Rattle.runend_windows.specs.Ends.{IsEndsType, ends_of};
 ghost use Rattle.runend_windows.specs.Window.{IsWindow, run_rows};
 ghost use Rattle.runend_encode.specs.Joined.{AllHaveRows};
 ghost use Rattle.runend_encode.specs.Starts.{rows_at};
-ghost use Rattle.runend_array.specs.Array.{dtype_of, rows};
-ghost use Rattle.runend_array.specs.Column.{column_dtype, column_of_runs, column_rows};
+ghost use Rattle.runend_array.specs.Array.{column_of, dtype_of, rows};
+ghost use Rattle.runend_array.specs.Column.{IsFlat, column_dtype, column_of_runs, column_rows};
 ghost use Rattle.runend_array.specs.Lists.{list_dtype, list_rows};
 ghost use Rattle.row_stretches.specs.Pieces.{ArePieces};
 ghost use Rattle.row_stretches.specs.Stretches.{IsWithin, stretch_rows};
 
+use crate::few_runs::is_in_few_runs;
+use crate::lists::lists_in;
 use crate::pieces::{Pieces, pieces_among};
 use crate::positions::{positions_of, rows_at_positions};
-use crate::stretches::{Stretch, row_count};
+use crate::stretches::{Stretch, are_long, row_count};
 use column_core::{FlatColumn, PrimitiveArray, PrimitiveValues, VortexError, VortexResult};
 use runend_array::{
     ArrayRef, Canonical, ExecutionCtx, ListViewArray, RunEnd, RunEndArray, RunEndArrayExt,
@@ -28,8 +30,9 @@ use std::alloc::Allocator;
 
 /// Returns the rows of these stretches of a column of any form, one stretch after another: of a constant as one; of
 /// runs as runs, equal neighbours joined except of lists, or flat where runs would show fewer than two rows each; of
-/// any other column flat. Takes one search for each stretch of runs and a step for each run in it; of flat columns and
-/// of lists a step for each row. Refused only as `OutOfMemory`.
+/// any other column flat. Takes one search for each stretch of runs and a step for each run in it; of a flat column a
+/// step for each row, and of lists too, unless their offsets, sizes and validity are in few runs: then a search for
+/// each run of these in a stretch, where the stretches have two rows each at least. Refused only as `OutOfMemory`.
 pub fn rows_in<A: Allocator + Copy>(
     column: &ArrayRef<A>,
     order: &[Stretch],
@@ -40,6 +43,7 @@ pub fn rows_in<A: Allocator + Copy>(
     ensures only { IsOkUnless result VortexError.OutOfMemory }
     ensures rows { IfOk result (λ made. rows made ≡ stretch_rows (rows column.now) order.now) }
     ensures dtype { IfOk result (λ made. dtype_of made ≡ dtype_of column.now) }
+    ensures flat { IsFlat (column_of column.now) → IfOk result (λ made. IsFlat (column_of made)) }
     ensures session { ctx.new ≡ ctx.old }
 {
     match column {
@@ -52,6 +56,9 @@ pub fn rows_in<A: Allocator + Copy>(
             // No run column has other ends.
             _ => flat_rows_in(*ctx.allocator(), column, order),
         },
+        ArrayRef::ListView(lists) if is_in_few_runs(column) && are_long(order) => {
+            lists_in(*ctx.allocator(), lists, order)
+        }
         _ => flat_rows_in(*ctx.allocator(), column, order),
     }
 }
@@ -173,6 +180,7 @@ fn flat_rows_in<A: Allocator + Copy>(
     ensures only { IsOkUnless result VortexError.OutOfMemory }
     ensures rows { IfOk result (λ made. rows made ≡ stretch_rows (rows column.now) order.now) }
     ensures dtype { IfOk result (λ made. dtype_of made ≡ dtype_of column.now) }
+    ensures flat { IfOk result (λ made. IsFlat (column_of made)) }
 {
     let positions = positions_of(alloc, order)?;
     let taken = rows_at_positions(alloc, column, positions.as_slice());

@@ -1,5 +1,5 @@
 //! Stretches of rows, and how many rows they have together.
-ghost use Rattle.std.specs.Prelude.{◌≡◌, ◌-◌, ◌^◌, ◌<◌, length};
+ghost use Rattle.std.specs.Prelude.{◌≡◌, ◌-◌, ◌/◌, ◌^◌, ◌<◌, ◌≤◌, ◌↔◌, IsTrue, length};
 ghost use Rattle.row_stretches.specs.Stretches.{stretch_places};
 
 /// Names the rows from `start` to `stop - 1`: none where it stops where it starts, or before.
@@ -19,6 +19,14 @@ pub fn row_count(order: &[Stretch]) -> usize
         count += row_count_of(*stretch);
     }
     count
+}
+
+/// Returns whether stretches have two rows each at least, as a mean.
+pub(crate) fn are_long(order: &[Stretch]) -> bool
+    requires small { length (stretch_places order.now) < 2 ^ 64 }
+    ensures { IsTrue result ↔ (length order.now ≤ length (stretch_places order.now) / 2) }
+{
+    order.len() <= row_count(order) / 2
 }
 
 // How many rows one stretch has.

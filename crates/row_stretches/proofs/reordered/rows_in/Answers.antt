@@ -4,6 +4,8 @@ use Rattle.std.proofs.lemmas.List.{length-replicate}
 use Rattle.column_core.specs.Value.{FlatValue, Single, Value}
 use Rattle.runend_array.specs.Array.{column_of, rows}
 use Rattle.runend_array.specs.Column.{Runs, column_of_runs, column_rows, end_numbers}
+use Rattle.runend_array.specs.Lists.{list_rows}
+use Rattle.runend_array.proofs.ListRows.{length-list_rows}
 use Rattle.runend_windows.specs.Window.{IsWindow}
 use Rattle.runend_windows.proofs.RunRows.{length-run_rows}
 use Rattle.row_stretches.specs.Stretches.{IsWithin, stretch_rows}
@@ -48,3 +50,31 @@ returns-in-Primitive-clause-rows g c =
     let r = c.deref-in-Primitive.result.now in
     let own : rows c.args.column.now ≡ column_rows (column_of_runs r) = rw (c.in-RunEnd.is, c.deref-in-Primitive.ensures) refl in
     subst (λ (all : List (Option Value)). IfOk c.rows_of_runs_in.result (λ made. rows made ≡ stretch_rows all c.args.order.now)) (sym own) c.rows_of_runs_in.ensures.rows
+
+-- a constant and runs are not flat
+pub returns-in_ok-part-in-Constant-clause-flat : goal.returns-in_ok-part-in-Constant-clause-flat
+returns-in_ok-part-in-Constant-clause-flat g c = λ flat. absurd (rw c.in-Constant.is at flat)
+
+pub returns-in-Primitive-clause-flat : goal.returns-in-Primitive-clause-flat
+returns-in-Primitive-clause-flat g c = λ flat. absurd (rw c.in-RunEnd.is at flat)
+
+-- lists in few runs
+pub are_long-requires : goal.are_long-requires
+are_long-requires g c = record {
+  small = let same = length-rows (rows c.args.column.now) c.args.order.now c.requires.within in omega (arith, same, c.requires.small);
+}
+
+pub lists_in-requires-clause-within : goal.lists_in-requires-clause-within
+lists_in-requires-clause-within g c =
+    let lists = c.deref-in-ListView.result.now in
+    let own : rows c.args.column.now ≡ list_rows lists = rw (c.in-ListView.is, c.deref-in-ListView.ensures) refl in
+    subst (λ (n : ℕ). All (IsWithin n) c.args.order.now) (ap length own ∙ length-list_rows lists) c.requires.within
+
+pub lists_in-requires-clause-small : goal.lists_in-requires-clause-small
+lists_in-requires-clause-small g c = let same = length-rows (rows c.args.column.now) c.args.order.now c.requires.within in omega (arith, same, c.requires.small)
+
+pub returns-in-ListView-clause-rows : goal.returns-in-ListView-clause-rows
+returns-in-ListView-clause-rows g c =
+    let lists = c.deref-in-ListView.result.now in
+    let own : rows c.args.column.now ≡ list_rows lists = rw (c.in-ListView.is, c.deref-in-ListView.ensures) refl in
+    subst (λ (all : List (Option Value)). IfOk c.lists_in.result (λ made. rows made ≡ stretch_rows all c.args.order.now)) (sym own) c.lists_in.ensures.rows
