@@ -18,7 +18,7 @@ from pathlib import Path
 
 ROOT = Path(__file__).resolve().parent.parent
 ALLOWED = ROOT / "tools/house.txt"
-CRATES = 41
+CRATES = 42
 HEAD = re.compile(r"^ *(pub(?:\([a-z]+\))? )?(?:const )?(?:unsafe )?(?:extern \"C\" )?fn (\w+)", re.M)
 OFFSET, COUNT = re.compile(r"\boffset: usize\b"), re.compile(r"\b(?:count|length|len): usize\b")
 # Phrases by what they say, and how each is found in sources, definitions and proofs.

@@ -7,7 +7,6 @@ use Rattle.std.proofs.lemmas.List.{drop-append-le, drop-map, length-append, leng
 use Rattle.std.proofs.lemmas.List.Elements.{All-append, All-cons, All-nil}
 use Rattle.std.proofs.lemmas.Option.{get_or_from_slice_get}
 use Rattle.column_core.specs.Value.{Value}
-use Rattle.column_sums.specs.SumAnswer.{number_in}
 use Rattle.runend_array.specs.Array.{rows}
 use Rattle.runend_array.specs.Column.{column_rows}
 use Rattle.runend_windows.specs.Starts.{starts_from}
@@ -103,7 +102,7 @@ answers_even t ends [] [] zipped = All-nil (λ c. length (column_rows c.column) 
 answers_even t ends [] (answer ∷ answers) zipped = absurd zipped
 answers_even t ends (asks ∷ asked) [] zipped = absurd zipped
 answers_even t ends (asks ∷ asked) (answer ∷ answers) zipped =
-    All-cons (λ c. length (column_rows c.column) ≡ length ends) answer answers (sym (length-map (column_rows answer.column) number_in) ∙ zipped.0.folded.answers.counted) (answers_even t ends asked answers zipped.1)
+    All-cons (λ c. length (column_rows c.column) ≡ length ends) answer answers zipped.0.folded.counted (answers_even t ends asked answers zipped.1)
 
 columns_even : (t : TableForm) (keys : List (List ℕ)) (asked : List AskedForm) (ends : List ℕ) (made : List TypedForm) → AreColumnsOf t keys asked ends made → AreEven made (length ends)
 columns_even t keys asked ends made are =

@@ -1,23 +1,16 @@
 -- The columns of groups: the rows at which they begin, and answers of their rows.
-use Rattle.std.proofs.Common.{◌≡◌, ◌∙◌, ◌+◌, ◌-◌, ◌<◌, ◌++◌, ℕ, ℤ, pos, List, [], ◌∷◌, Option, Some, ap, arith, drop, get_or, length, length-drop, length-take, map, min, refl, slice_index, subst, sym, inl, inr}
+use Rattle.std.proofs.Common.{◌≡◌, ◌∙◌, ◌+◌, ◌-◌, ◌<◌, ◌++◌, ℕ, List, [], ◌∷◌, Option, Some, ap, arith, get_or, length, map, refl, subst, sym, inl, inr}
 use Rattle.std.specs.Prelude.{All, Err, IfOk, Ok, Result, slice_get}
 use Rattle.std.specs.List.{AllZip, range_with_len}
 use Rattle.std.proofs.lemmas.Bool.{cases_lt}
 use Rattle.std.proofs.lemmas.Option.{get_or_from_slice_get}
-use Rattle.std.proofs.lemmas.List.{length-replicate}
 use Rattle.std.proofs.lemmas.List.Elements.{All-cons, All-head, All-nil, All-tail}
 use Rattle.column_base.specs.declared.dtype.DType.{DType}
-use Rattle.column_base.specs.declared.error.VortexError.TheVariants.{OutOfMemory}
-use Rattle.column_core.specs.Value.{Number, Single, Value}
-use Rattle.column_sums.specs.SumAnswer.{number_in}
-use Rattle.runend_array.specs.Column.{column_dtype, column_rows}
+use Rattle.column_core.specs.Value.{Value}
+use Rattle.runend_array.specs.Column.{column_rows}
 use Rattle.runend_encode.specs.Starts.{rows_at}
-use Rattle.runend_pairs.specs.GroupAnswers.{IsGiven, answer_of, row_count_of}
-use Rattle.runend_pairs.specs.GroupFaults.{IsFoldRefusal}
-use Rattle.runend_pairs.specs.Groups.{AreGroupAnswers, first_row, group_rows}
 use Rattle.runend_pairs.specs.declared.group_fault.GroupError.{GroupError}
 use Rattle.runend_pairs.specs.declared.group_fault.GroupError.TheVariants as groups
-use Rattle.runend_pairs.specs.declared.group_fold.GroupFold.TheVariants as fold
 use Rattle.runend_windows.specs.Starts.{starts_from}
 use Rattle.row_groups.specs.Groups.{AreEndsOf, row_alone}
 use Rattle.row_groups.proofs.Changes.{starts_within}
@@ -26,36 +19,11 @@ use Rattle.row_stretches.specs.Stretches.{IsWithin, stretch_places, stretch_rows
 use Rattle.row_stretches.proofs.Places.{rows_of_places}
 use Rattle.typed_columns.specs.declared.typed_column.TypedColumn.{TypedColumn}
 use Rattle.typed_columns.specs.Typed.{TypedForm, typed_of}
+use Rattle.typed_groups.specs.Answers.{IsFoldedRefusal}
 use Rattle.tables.specs.GroupFaults.{IsAnswerRefusal, IsFirstUnserved, IsServed}
-use Rattle.tables.specs.Grouping.{AskedForm, IsHeadColumn, zeros_of}
+use Rattle.tables.specs.Grouping.{AskedForm, IsHeadColumn}
 use Rattle.tables.specs.Tables.{AreEven, IsNamed, TableForm}
 use Rattle.tables.proofs.Worked.{dtype_in, format_in, shown_in}
-
--- ---- numbers of rows
-
--- a group has as many rows of one column as of another
-group_long : (ends : List ℕ) (xs ys : List (Option ℤ)) (group : ℕ) → length xs ≡ length ys → length (group_rows ends xs group) ≡ length (group_rows ends ys group)
-group_long ends xs ys group same =
-    let start = first_row ends group in
-    let count = slice_index ends group - start in
-    length-take count (drop start xs) ∙ ap (min count) (length-drop start xs ∙ ap (λ (n : ℕ). n - start) same ∙ sym (length-drop start ys)) ∙ sym (length-take count (drop start ys))
-
-pub counts_alike : (ends : List ℕ) (xs ys answers : List (Option ℤ)) → length xs ≡ length ys → AreGroupAnswers row_count_of ends xs answers → AreGroupAnswers row_count_of ends ys answers
-counts_alike ends xs ys answers same made = record {
-  counted = made.counted;
-  each = λ group within. made.each group within ∙ ap (λ (n : ℕ). Some (Some (pos n))) (group_long ends xs ys group same);
-}
-
-pub zeros_long : (count : ℕ) → length (column_rows (zeros_of count)) ≡ count
-zeros_long count = length-replicate count (Some (Single (Number (pos 0))))
-
--- they are refused only for memory
-pub count_refused : (t : DType) (ends : List ℕ) (values : List (Option ℤ)) (error : GroupError) → IsFoldRefusal (IsGiven fold.Rows t) (answer_of fold.Rows) ends values error → error ≡ groups.Refused OutOfMemory
-count_refused t ends values (groups.Refused error) refused = ap groups.Refused refused
-count_refused t ends values (groups.SumOverflow group) refused = absurd (refused.here tt)
-
-pub refused_short : (has : ℤ → Type 0) (answer : List (Option ℤ) → Option ℤ) (ends : List ℕ) (values : List (Option ℤ)) (error : GroupError) → error ≡ groups.Refused OutOfMemory → IsFoldRefusal has answer ends values error
-refused_short has answer ends values error short = subst (IsFoldRefusal has answer ends values) (sym short) refl
 
 -- ---- the rows at which groups begin
 
@@ -103,8 +71,7 @@ ok_then3 (Ok value) P P' P'' Q then' h h' h'' = then' value h h' h''
 ok_then3 (Err error) P P' P'' Q then' h h' h'' = tt
 
 -- one answer is refused as its column is
-pub answer_refused : (t : TableForm) (ends : List ℕ) (asks : AskedForm) (column : TypedForm) (error : GroupError) → IsNamed t asks.column column
-    → IsFoldRefusal (IsGiven asks.fold (column_dtype column.column)) (answer_of asks.fold) ends (map number_in (column_rows column.column)) error → IsAnswerRefusal t ends asks error
+pub answer_refused : (t : TableForm) (ends : List ℕ) (asks : AskedForm) (column : TypedForm) (error : GroupError) → IsNamed t asks.column column → IsFoldedRefusal ends asks.fold column error → IsAnswerRefusal t ends asks error
 answer_refused t ends asks column (groups.Refused error) named refused = refused
 answer_refused t ends asks column (groups.SumOverflow group) named refused = record { column = column; named = named; first = refused }
 

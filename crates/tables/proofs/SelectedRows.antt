@@ -68,6 +68,12 @@ refused_for_memory t name dtype column error (Ok value) passed named none is = t
 refused_for_memory t name dtype column error (Err other) passed named none is =
     subst (λ (e : TableError). IsFilterByError t name dtype e) (sym passed) (column, named, ap (λ (f : Option VortexError). option_or f (Some OutOfMemory)) none ∙ ap Some (sym is))
 
+-- what a comparison of the column of the name is refused for, the filter is refused for
+pub refused_as_compared : {T : Type 0} (t : TableForm) (name : List ℕ) (dtype : DType) (column : TypedForm) (error : VortexError) (result : Result T TableError) → IsErrAnd result (λ passed. passed ≡ Refused error)
+    → IsNamed t name column → option_or (compare_scalar_fault (column_dtype column.column) dtype) (Some OutOfMemory) ≡ Some error → IfErr result (IsFilterByError t name dtype)
+refused_as_compared t name dtype column error (Ok value) passed named is = tt
+refused_as_compared t name dtype column error (Err other) passed named is = subst (λ (e : TableError). IsFilterByError t name dtype e) (sym passed) (column, named, is)
+
 -- a first error without a fault
 pub short_of_first : (fault : Option VortexError) (error : VortexError) → fault ≡ None → option_or fault (Some OutOfMemory) ≡ Some error → error ≡ OutOfMemory
 short_of_first fault error none first = let is : ◌≡◌ {A = Option VortexError} (Some OutOfMemory) (Some error) = sym (ap (λ (f : Option VortexError). option_or f (Some OutOfMemory)) none) ∙ first in cc

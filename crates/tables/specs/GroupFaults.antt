@@ -2,26 +2,25 @@
 use Rattle.std.specs.Prelude.{◌≡◌, ◌+◌, ◌<◌, ℕ, All, List, Some, length, map, slice_get}
 use Rattle.std.specs.List.{AllZip}
 use Rattle.column_base.specs.declared.error.VortexError.TheVariants.{OutOfMemory}
-use Rattle.column_sums.specs.SumAnswer.{number_in}
-use Rattle.runend_array.specs.Column.{column_dtype, column_rows}
-use Rattle.runend_pairs.specs.GroupAnswers.{IsGiven, answer_of}
-use Rattle.runend_pairs.specs.GroupFaults.{IsFirstLarge}
+use Rattle.runend_array.specs.Column.{column_rows}
 use Rattle.runend_pairs.specs.declared.group_fault.GroupError.{GroupError}
 use Rattle.runend_pairs.specs.declared.group_fault.GroupError.TheVariants as groups
 use Rattle.row_groups.specs.Groups.{AreGroupEnds}
 use Rattle.tables.specs.declared.fault.TableError.{TableError}
 use Rattle.tables.specs.declared.fault.TableError.TheVariants.{Refused, RepeatedAnswer, SumOverflow, UnknownColumn, UnsupportedAnswer}
-use Rattle.tables.specs.Grouping.{AskedForm, IsAnswered, group_names}
+use Rattle.tables.specs.Grouping.{AskedForm, group_names}
 use Rattle.tables.specs.KeyFaults.{AreKeys, IsKeyFault}
 use Rattle.tables.specs.TableFaults.{IsFirstRepeated}
 use Rattle.tables.specs.Tables.{AreDistinct, IsNamed, IsUnknown, TableForm}
 use Rattle.typed_columns.specs.Typed.{TypedForm}
+use Rattle.typed_groups.specs.Answering.{IsAnswered}
+use Rattle.typed_groups.specs.Answers.{IsLargeGroup}
 
 -- an answer of a column that is there, and whose rows have it
 pub record IsServed (t : TableForm) (asked : AskedForm) : Type 0 where
   pub column : TypedForm
   pub named : IsNamed t asked.column column
-  pub answered : IsAnswered asked.fold (column_dtype column.column)
+  pub answered : IsAnswered asked.fold column
 
 -- the first answer that is not served
 pub record IsFirstUnserved (t : TableForm) (asked : List AskedForm) (place : ℕ) (asks : AskedForm) : Type 0 where
@@ -40,7 +39,7 @@ pub record IsFirstWithoutAnswer (t : TableForm) (asked : List AskedForm) (place 
   pub first : IsFirstUnserved t asked place asks
   pub column : TypedForm
   pub named : IsNamed t asks.column column
-  pub unanswered : ¬ IsAnswered asks.fold (column_dtype column.column)
+  pub unanswered : ¬ IsAnswered asks.fold column
 
 -- what may be asked of groups: keys, answers under names of their own, and each served
 pub record AreAnswers (t : TableForm) (keys : List (List ℕ)) (asked : List AskedForm) : Type 0 where
@@ -70,7 +69,7 @@ IsGroupsFault t keys asked error = IsKeyFault t keys error
 pub record IsLargeSum (t : TableForm) (ends : List ℕ) (asks : AskedForm) (group : ℕ) : Type 0 where
   pub column : TypedForm
   pub named : IsNamed t asks.column column
-  pub first : IsFirstLarge (IsGiven asks.fold (column_dtype column.column)) (answer_of asks.fold) ends (map number_in (column_rows column.column)) group
+  pub first : IsLargeGroup ends asks.fold column group
 
 -- of the first answer that has one
 pub record IsFirstLargeSum (t : TableForm) (ends : List ℕ) (asked : List AskedForm) (place group : ℕ) : Type 0 where

@@ -1,25 +1,16 @@
 -- Groups of rows that are equal in several columns, and what is answered of each.
-use Rattle.std.specs.Prelude.{◌≡◌, ◌++◌, ⊤, ℕ, pos, Bool, true, false, List, [], Some, length, map, drop, if◌then◌else◌, take}
+use Rattle.std.specs.Prelude.{◌≡◌, ◌++◌, ℕ, List, length, map, drop, take}
 use Rattle.std.specs.List.{AllZip}
 use Rattle.std.specs.String.{string_bytes}
-use Rattle.column_base.specs.declared.dtype.DType.{DType}
-use Rattle.column_base.specs.declared.dtype.DType.TheVariants as column
-use Rattle.column_base.specs.declared.dtype.Nullability.TheVariants.{NonNullable, Nullable}
-use Rattle.column_base.specs.declared.dtype.PType.TheVariants.{U64}
-use Rattle.column_core.specs.Kinds.{is_numbers}
-use Rattle.column_core.specs.Value.{Number}
-use Rattle.column_sums.specs.SumAnswer.{number_in}
-use Rattle.runend_array.specs.Column.{Column, OfConstant, column_dtype, column_rows}
+use Rattle.runend_array.specs.Column.{column_dtype, column_rows}
 use Rattle.runend_encode.specs.Starts.{rows_at}
-use Rattle.runend_pairs.specs.GroupAnswers.{answer_of, answer_ptype}
-use Rattle.runend_pairs.specs.Groups.{AreGroupAnswers}
 use Rattle.runend_pairs.specs.declared.group_fold.GroupFold.{GroupFold}
-use Rattle.runend_pairs.specs.declared.group_fold.GroupFold.TheVariants.{Sum, Rows, Count, Least, Greatest, First, Last}
 use Rattle.runend_windows.specs.Starts.{starts_from}
 use Rattle.row_groups.specs.Groups.{AreGroupEnds}
 use Rattle.tables.specs.declared.groups.Asked.{Asked}
 use Rattle.tables.specs.Tables.{IsNamed, TableForm}
 use Rattle.typed_columns.specs.Typed.{TypedForm}
+use Rattle.typed_groups.specs.Answers.{IsFolded}
 
 -- what is asked: the name of the answer, that of the column, and what is answered of its rows
 pub record AskedForm : Type 0 where
@@ -35,27 +26,7 @@ asked_of asked = record { name = string_bytes asked.name; column = string_bytes 
 abbrev pub group_names : List (List ℕ) → List AskedForm → List (List ℕ)
 group_names keys asked = keys ++ map (λ a. a.name) asked
 
--- rows of a type have this answer: all are counted, and integers have each
-abbrev pub IsAnswered : GroupFold → DType → Type 0
-IsAnswered Rows t = ⊤
-IsAnswered fold t = is_numbers t ≡ true
-
--- an answer is a row of its column, and so has its format
-abbrev pub is_row_of : GroupFold → Bool
-is_row_of Sum = false
-is_row_of Rows = false
-is_row_of Count = false
-is_row_of Least = true
-is_row_of Greatest = true
-is_row_of First = true
-is_row_of Last = true
-
--- the answers of groups that end before these rows
-pub record IsFolded (ends : List ℕ) (fold : GroupFold) (source answer : TypedForm) : Type 0 where
-  pub answers : AreGroupAnswers (answer_of fold) ends (map number_in (column_rows source.column)) (map number_in (column_rows answer.column))
-  pub typed : column_dtype answer.column ≡ column.Primitive (answer_ptype fold (column_dtype source.column)) Nullable
-  pub format : answer.format ≡ (if is_row_of fold then source.format else [])
-
+-- an answer of the column of this name
 pub record IsAnswerColumn (before : TableForm) (ends : List ℕ) (asked : AskedForm) (answer : TypedForm) : Type 0 where
   pub source : TypedForm
   pub named : IsNamed before asked.column source
@@ -86,7 +57,3 @@ pub record AreGroups (before : TableForm) (keys : List (List ℕ)) (asked : List
 pub record AreGroupsOf (before : TableForm) (keys : List (List ℕ)) (asked : List AskedForm) (after : TableForm) : Type 0 where
   pub groups : AreGroups before keys asked after.columns after.count
   pub names : after.names ≡ group_names keys asked
-
--- zero in each of this many rows
-abbrev pub zeros_of : ℕ → Column
-zeros_of count = OfConstant (record { dtype = column.Primitive U64 NonNullable; value = Some (Number (pos 0)); count = count })

@@ -60,7 +60,8 @@ pub enum TableError {
     UnsupportedAnswer {
         answer: usize,
     },
-    /// Has the first answer with a sum that does not fit 64 bits, and the first group of which that is so.
+    /// Has the first answer with a sum that does not fit, in 64 bits or in 38 digits, and the first group of which that
+    /// is so.
     #[error("SumOverflow")]
     SumOverflow {
         answer: usize,

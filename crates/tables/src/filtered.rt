@@ -18,7 +18,7 @@ use crate::names::copies_of;
 use crate::refusals::fault_of_mask;
 use crate::table::Table;
 use column_core::{Mask, Scalar, VortexError, VortexResult};
-use column_ops::{CompareOperator, kind_fault};
+use column_ops::CompareOperator;
 use row_stretches::true_stretches;
 use runend_array::{ArrayRef, ExecutionCtx};
 use std::alloc::Allocator;
@@ -79,9 +79,6 @@ impl<A: Allocator + Copy> Table<A> {
         let Some(column) = self.column(name) else {
             return Err(TableError::UnknownName { name: 0 });
         };
-        if let Some(error) = kind_fault(column.array.dtype(), value.dtype()) {
-            return Err(TableError::Refused(error));
-        }
         let mask = compare_value(&column.array, operator, value, ctx)?;
         let kept = self.filter(&mask, ctx);
         drop(mask);

@@ -9,7 +9,6 @@ ghost use Rattle.tables.specs.TableFaults.{IsFirstRepeated};
 ghost use Rattle.tables.specs.Tables.{AreDistinct, AreEven};
 ghost use Rattle.typed_columns.specs.Typed.{typed_of};
 
-use crate::answers::{fold_answer, is_answered};
 use crate::columns::stretches_of_each;
 use crate::fault::TableError;
 use crate::keys::group_ends;
@@ -21,6 +20,7 @@ use runend_array::ExecutionCtx;
 use runend_pairs::{GroupError, GroupFold};
 use std::alloc::Allocator;
 use typed_columns::TypedColumn;
+use typed_groups::{answer_groups, is_answered};
 
 /// Asks for one answer of each group of rows.
 #[derive(Drop)]
@@ -44,17 +44,21 @@ impl<A: Allocator> Named for Asked<A> {
 impl<A: Allocator + Copy> Table<A> {
     /// Returns a row for each group of neighbouring rows that are equal in all columns of these names, null equal to
     /// null: the keys of the group under their names and formats, then what is asked of its rows under the names of
-    /// the answers. `GroupFold` says what each answer is, and its type. Columns are looked at as they are stored,
-    /// whatever their format says: the least, greatest, first and last of a column have its format, a number of rows
-    /// and a sum have none. Takes a step for each run of the keys, and for each run of a column that is asked of.
+    /// the answers. `GroupFold` says what each answer is. Keys are compared as they are stored, whatever their format
+    /// says, and columns are asked as what they mean (`typed_groups::answer_groups`): floats are added exactly and
+    /// rounded once, to 64 bits, and their least and greatest are numbers; decimals are added in 38 digits. The least,
+    /// greatest, first and last value have the format of their column, a sum of floats that of floats of 64 bits, a sum
+    /// of lengths of time theirs; other sums and numbers of rows have none. Takes a step for each run of the keys, and
+    /// for each run of a column that is asked of, within each group where that is not of integers.
     ///
     /// Refused, in this order and however little memory there is, as `NoKeys` without a key, as `RepeatedName` at the
     /// first key whose name an earlier one has, as `UnknownName` at the first whose name no column has, as
     /// `UnsupportedKey` at the first whose column has lists, as `RepeatedAnswer` at the first answer whose name a key
     /// or an earlier answer has, and then at the first answer that is not served: as `UnknownColumn` where no column
-    /// has the name of its column, or as `UnsupportedAnswer` where that is not of integers, unless rows are counted.
-    /// Else as `SumOverflow` at the first answer with a sum that does not fit 64 bits and the first group of which
-    /// that is so, or as `Refused(OutOfMemory)`.
+    /// has the name of its column, or as `UnsupportedAnswer` for a sum of what is not added (dates, timestamps, times
+    /// of a day, and rows that are not numbers), and for a least, greatest, first or last list. Else as `SumOverflow`
+    /// at the first answer with a sum that does not fit, in 64 bits or in 38 digits, and the first group of which that
+    /// is so, or as `Refused(OutOfMemory)`.
     pub fn group_by(
         &self,
         keys: &[String<A>],
@@ -113,7 +117,7 @@ impl<A: Allocator + Copy> Table<A> {
             let Some(column) = self.column(one.column.as_str()) else {
                 return Some(TableError::UnknownColumn { answer });
             };
-            if !is_answered(one.fold, column.array.dtype()) {
+            if !is_answered(column, one.fold) {
                 return Some(TableError::UnsupportedAnswer { answer });
             }
         }
@@ -217,7 +221,7 @@ impl<A: Allocator + Copy> Table<A> {
         ensures session { ctx.new ≡ ctx.old }
     {
         let column = &self.columns[self.place_of(asked.column.as_str())];
-        fold_answer(column, ends, asked.fold, ctx)
+        answer_groups(column, ends, asked.fold, ctx)
     }
 }
 

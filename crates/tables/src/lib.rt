@@ -1,7 +1,6 @@
 //! Tables: named columns of one number of rows, each with the format of Arrow that says what its rows mean.
 #![tactic(auto)]
 
-mod answers;
 mod appended;
 mod columns;
 mod comparisons;

@@ -4,30 +4,27 @@ use Rattle.std.specs.List.{AllZip}
 use Rattle.std.specs.Prelude.{option_map}
 use Rattle.std.proofs.lemmas.Int.{to_z-of_z}
 use Rattle.column_base.specs.declared.dtype.DType.{DType}
+use Rattle.column_base.specs.declared.error.VortexError.{VortexError}
 use Rattle.column_core.specs.ScalarForm.{ScalarForm}
 use Rattle.column_core.specs.Value.{FlatValue, Single}
 use Rattle.column_ops.specs.CompareFault.{compare_scalar_fault}
 use Rattle.column_ops.specs.Comparing.{compare_dtype, compare_with}
 use Rattle.exact_comparisons.specs.ExactRows.{flat_number, stored_fault, IsExactTruth}
 use Rattle.runend_array.specs.Array.{dtype_of, rows}
+use Rattle.tables.specs.TableFaults.{IsRefusedFirstBy}
 use Rattle.runend_column.proofs.ComputedRows.{ok_then}
 use Rattle.typed_kernels.specs.declared.meanings.Served.TheVariants.{Stored}
 use Rattle.exact_comparisons.proofs.AnsweredRows.{stored_truths}
-use Rattle.exact_comparisons.proofs.Filtering.{only_memory}
 use Rattle.exact_comparisons.proofs.NumberTypes.{compared_type, decided_for, no_kind_fault, no_stored_fault}
 use Rattle.exact_comparisons.proofs.comparisons.compare_stored.Goals as goal
 
-pub compare_value-truths-requires : goal.compare_value-truths-requires
-compare_value-truths-requires g c =
-    let t = c.dtype-dtype.result in
-    let own = ap (λ (s : ScalarForm). s.dtype) c.scalar_of-value.ensures in
-    record {
-      kind = ap (λ (u : DType). compare_scalar_fault (dtype_of c.args.column.now) u) own ∙ ap (λ (u : DType). compare_scalar_fault u t) (sym c.dtype-dtype.ensures) ∙ no_kind_fault t c.in-Some.ensures.0;
-    }
-
 pub returns-clause-refused : goal.returns-clause-refused
 returns-clause-refused g c =
-    only_memory (stored_fault (dtype_of c.args.column.now)) c.compare_value-truths.result (ap stored_fault (sym c.dtype-dtype.ensures) ∙ no_stored_fault c.dtype-dtype.result c.in-Some.ensures.0) c.compare_value-truths.ensures.only
+    let t = c.dtype-dtype.result in
+    let own = ap (λ (s : ScalarForm). s.dtype) c.scalar_of-value.ensures in
+    let kind = ap (λ (u : DType). compare_scalar_fault (dtype_of c.args.column.now) u) own ∙ ap (λ (u : DType). compare_scalar_fault u t) (sym c.dtype-dtype.ensures) ∙ no_kind_fault t c.in-Some.ensures.0 in
+    let none = ap stored_fault (sym c.dtype-dtype.ensures) ∙ no_stored_fault t c.in-Some.ensures.0 in
+    subst (λ (fault : Option VortexError). IsRefusedFirstBy fault c.compare_value-truths.result) (kind ∙ sym none) c.compare_value-truths.ensures.refused
 
 pub returns-clause-truths : goal.returns-clause-truths
 returns-clause-truths g c =

@@ -2,9 +2,9 @@ use Rattle.std.proofs.Common.{ℕ, List, map, subst, sym}
 use Rattle.std.specs.String.{string_bytes}
 use Rattle.std.proofs.lemmas.Result.{IfErr-weaker, IfOk-weaker}
 use Rattle.row_groups.specs.Groups.{AreEndsOf}
-use Rattle.runend_array.specs.Column.{column_dtype}
-use Rattle.typed_columns.specs.Typed.{TypedForm, typed_of}
-use Rattle.tables.specs.Grouping.{IsAnswered, asked_of}
+use Rattle.typed_columns.specs.Typed.{typed_of}
+use Rattle.typed_groups.specs.Answering.{IsAnswered}
+use Rattle.tables.specs.Grouping.{asked_of}
 use Rattle.tables.specs.Tables.{IsNamed, IsPlaceOf, TableForm}
 use Rattle.tables.proofs.GroupTables.{answer_refused}
 use Rattle.tables.proofs.Keyed.{named_once}
@@ -14,8 +14,8 @@ use Rattle.tables.proofs.Selections.{rows_named}
 use Rattle.tables.proofs.TableRows.{table_seen}
 use Rattle.tables.proofs.table.Table.answer_of.Goals as goal
 
-pub fold_answer-requires-clause-ends : goal.fold_answer-requires-clause-ends
-fold_answer-requires-clause-ends g c =
+pub answer_groups-requires-clause-ends : goal.answer_groups-requires-clause-ends
+answer_groups-requires-clause-ends g c =
     let own = c.self.inside in
     let seen = c.args.self.now in
     let column = c.index-column.result.now in
@@ -25,8 +25,8 @@ fold_answer-requires-clause-ends g c =
     let long = rows_named seen (string_bytes c.args.asked.now.column) (typed_of column) (table_seen c.self.view_is c.self.invariant) named in
     subst (λ (n : ℕ). AreEndsOf n c.args.ends.now) (sym long) c.requires.ends
 
-pub fold_answer-requires-clause-answered : goal.fold_answer-requires-clause-answered
-fold_answer-requires-clause-answered g c =
+pub answer_groups-requires-clause-answered : goal.answer_groups-requires-clause-answered
+answer_groups-requires-clause-answered g c =
     let own = c.self.inside in
     let seen = c.args.self.now in
     let column = c.index-column.result.now in
@@ -35,7 +35,7 @@ fold_answer-requires-clause-answered g c =
     let named = subst (λ (bytes : List ℕ). IsNamed seen bytes (typed_of column)) c.as_str.ensures.value found in
     let served = c.requires.served in
     let same = named_once seen (string_bytes c.args.asked.now.column) served.column (typed_of column) (table_seen c.self.view_is c.self.invariant) served.named named in
-    subst (λ (form : TypedForm). IsAnswered c.args.asked.now.fold (column_dtype form.column)) same served.answered
+    subst (IsAnswered c.args.asked.now.fold) same served.answered
 
 pub returns-clause-answer : goal.returns-clause-answer
 returns-clause-answer g c =
@@ -45,7 +45,7 @@ returns-clause-answer g c =
     let there = subst (λ (t : TableForm). IsPlaceOf t.names c.as_str.result.now c.place_of.result) (sym c.self.view_is) c.place_of.ensures.place in
     let found = named_at (map string_bytes own.names.items) own.columns.items own.rows seen c.as_str.result.now c.place_of.result column c.self.view_is c.self.invariant there c.index-column.ensures in
     let named = subst (λ (bytes : List ℕ). IsNamed seen bytes (typed_of column)) c.as_str.ensures.value found in
-    IfOk-weaker c.fold_answer.result _ _ (λ made folded. record { source = typed_of column; named = named; folded = folded }) c.fold_answer.ensures.folded
+    IfOk-weaker c.answer_groups.result _ _ (λ made folded. record { source = typed_of column; named = named; folded = folded }) c.answer_groups.ensures.folded
 
 pub returns-clause-refused : goal.returns-clause-refused
 returns-clause-refused g c =
@@ -55,7 +55,7 @@ returns-clause-refused g c =
     let there = subst (λ (t : TableForm). IsPlaceOf t.names c.as_str.result.now c.place_of.result) (sym c.self.view_is) c.place_of.ensures.place in
     let found = named_at (map string_bytes own.names.items) own.columns.items own.rows seen c.as_str.result.now c.place_of.result column c.self.view_is c.self.invariant there c.index-column.ensures in
     let named = subst (λ (bytes : List ℕ). IsNamed seen bytes (typed_of column)) c.as_str.ensures.value found in
-    IfErr-weaker c.fold_answer.result _ _ (λ error refused. answer_refused seen c.args.ends.now (asked_of c.args.asked.now) (typed_of column) error named refused) c.fold_answer.ensures.refused
+    IfErr-weaker c.answer_groups.result _ _ (λ error refused. answer_refused seen c.args.ends.now (asked_of c.args.asked.now) (typed_of column) error named refused) c.answer_groups.ensures.refused
 
 pub returns-clause-fits : goal.returns-clause-fits
 returns-clause-fits g c =
@@ -65,4 +65,4 @@ returns-clause-fits g c =
     let there = subst (λ (t : TableForm). IsPlaceOf t.names c.as_str.result.now c.place_of.result) (sym c.self.view_is) c.place_of.ensures.place in
     let found = named_at (map string_bytes own.names.items) own.columns.items own.rows seen c.as_str.result.now c.place_of.result column c.self.view_is c.self.invariant there c.index-column.ensures in
     let named = subst (λ (bytes : List ℕ). IsNamed seen bytes (typed_of column)) c.as_str.ensures.value found in
-    IfOk-weaker c.fold_answer.result _ _ (λ made fits. none_large_named seen c.args.ends.now (asked_of c.args.asked.now) (typed_of column) (table_seen c.self.view_is c.self.invariant) named fits) c.fold_answer.ensures.fits
+    IfOk-weaker c.answer_groups.result _ _ (λ made fits. none_large_named seen c.args.ends.now (asked_of c.args.asked.now) (typed_of column) (table_seen c.self.view_is c.self.invariant) named fits) c.answer_groups.ensures.fits

@@ -1,7 +1,6 @@
-use Rattle.std.proofs.Common.{◌≡◌, ℕ, List, map, subst, sym, false, true}
-use Rattle.column_base.specs.declared.dtype.DType.{DType}
+use Rattle.std.proofs.Common.{◌≡◌, ℕ, List, map, subst, false, true}
 use Rattle.typed_columns.specs.Typed.{typed_of}
-use Rattle.tables.specs.Grouping.{IsAnswered, asked_of}
+use Rattle.tables.specs.Grouping.{asked_of}
 use Rattle.tables.specs.Tables.{IsNamed, IsUnknown}
 use Rattle.tables.proofs.GroupTables.{first_unserved, served_more}
 use Rattle.tables.proofs.NameLists.{mapped_at}
@@ -30,7 +29,7 @@ returns-then-not-is_answered g c =
       first = first_unserved seen (map asked_of c.args.asked.now) c.loop-answer.answer (asked_of one) there c.loop-answer.invariant;
       column = typed_of column;
       named = named;
-      unanswered = λ has. let yes = c.is_answered.ensures.1 (subst (λ (t : DType). IsAnswered one.fold t) (sym c.dtype.ensures) has) in let no = c.if-not-is_answered.true in let told = c.if-not-is_answered.ensures in absurd (cc);
+      unanswered = λ has. let yes = c.is_answered.ensures.1 has in let no = c.if-not-is_answered.true in let told = c.if-not-is_answered.ensures in absurd (cc);
     }
 
 pub loop-answer-preserved : goal.loop-answer-preserved
@@ -44,4 +43,4 @@ loop-answer-preserved g c =
     let no = c.if-not-is_answered.false in
     let yes : c.is_answered.result ≡ true = cc in
     served_more seen (map asked_of c.args.asked.now) c.loop-answer.answer (asked_of one) there
-    (record { column = typed_of column; named = named; answered = subst (λ (t : DType). IsAnswered one.fold t) c.dtype.ensures (c.is_answered.ensures.0 yes) }) c.loop-answer.invariant
+    (record { column = typed_of column; named = named; answered = c.is_answered.ensures.0 yes }) c.loop-answer.invariant

@@ -1,59 +1,41 @@
-use Rattle.std.proofs.Common.{◌≡◌, ◌∙◌, Bool, List, None, ap, length, map, sym}
+use Rattle.std.proofs.Common.{◌≡◌, ◌∙◌, Bool, List, None, ap, length, map}
 use Rattle.std.specs.Option.{option_or}
 use Rattle.std.specs.Prelude.{count_by, option_map}
 use Rattle.column_base.specs.declared.dtype.DType.{DType}
 use Rattle.column_core.specs.Value.{Single}
-use Rattle.column_ops.specs.CompareFault.{compare_scalar_fault}
 use Rattle.column_ops.specs.Filter.{filter_fault, filter_rows}
 use Rattle.runend_array.specs.Array.{dtype_of, rows}
-use Rattle.runend_array.specs.Column.{column_dtype}
 use Rattle.row_stretches.specs.Masks.{mask_fault, truths_of}
 use Rattle.tables.specs.Selected.{held_bits}
 use Rattle.tables.specs.Tables.{rows_of}
 use Rattle.typed_columns.specs.Typed.{typed_of}
-use Rattle.tables.proofs.SelectedRows.{mask_fits, refused_for_memory, same_bits, short_of_first}
-use Rattle.tables.proofs.TableRows.{told}
+use Rattle.tables.proofs.SelectedRows.{mask_fits, refused_as_compared, refused_for_memory, same_bits, short_of_first}
 use Rattle.tables.proofs.table.Table.filter_by.Goals as goal
-
-pub returns-in-Some-kind_fault-clause-refused : goal.returns-in-Some-kind_fault-clause-refused
-returns-in-Some-kind_fault-clause-refused g c =
-    let column = typed_of c.in-Some.column.now in
-    let same = ap (λ (t : DType). compare_scalar_fault t c.args.value.now.dtype) (sym c.dtype.ensures) ∙ ap (compare_scalar_fault c.dtype.result) (sym c.dtype-2.ensures) in
-    (column, c.in-Some.ensures.found, told (compare_scalar_fault (column_dtype column.column) c.args.value.now.dtype) c.in-Some-kind_fault.error (same ∙ sym c.in-Some-kind_fault.ensures))
-
-pub compare_value-requires : goal.compare_value-requires
-compare_value-requires g c =
-    let same = ap (λ (t : DType). compare_scalar_fault t c.args.value.now.dtype) (sym c.dtype.ensures) ∙ ap (compare_scalar_fault c.dtype.result) (sym c.dtype-2.ensures) in
-    record { kind = same ∙ sym c.in_default-kind_fault.ensures }
 
 pub returns-in_err-mask-clause-refused : goal.returns-in_err-mask-clause-refused
 returns-in_err-mask-clause-refused g c =
-    let column = typed_of c.in-Some.column.now in
-    let same = ap (λ (t : DType). compare_scalar_fault t c.args.value.now.dtype) (sym c.dtype.ensures) ∙ ap (compare_scalar_fault c.dtype.result) (sym c.dtype-2.ensures) in
-    refused_for_memory c.args.self.now c.args.name.now c.args.value.now.dtype column c.in_err-mask.field-0.0 c.from_residual.result c.from_residual.ensures.1 c.in-Some.ensures.found (same ∙ sym c.in_default-kind_fault.ensures)
-    c.in_err-mask.ensures.only
+    refused_as_compared c.args.self.now c.args.name.now c.args.value.now.dtype (typed_of c.in-Some.column.now) c.in_err-mask.field-0.0 c.from_residual.result c.from_residual.ensures.1 c.in-Some.ensures.found
+    c.in_err-mask.ensures.refused
 
 pub returns-in_err-kept-clause-refused : goal.returns-in_err-kept-clause-refused
 returns-in_err-kept-clause-refused g c =
     let column = typed_of c.in-Some.column.now in
     let mask = c.in_ok-mask.mask in
-    let same = ap (λ (t : DType). compare_scalar_fault t c.args.value.now.dtype) (sym c.dtype.ensures) ∙ ap (compare_scalar_fault c.dtype.result) (sym c.dtype-2.ensures) in
     let fits = mask_fits (rows mask) c.args.operator (rows c.in-Some.column.now.array) (option_map Single c.args.value.now.value) c.args.self.now.count c.in_ok-mask.ensures.rows c.in-Some.ensures.even in
     let none : option_or (mask_fault (dtype_of mask)) (filter_fault (length (rows mask)) c.args.self.now.count) ≡ None =
     ap (λ (t : DType). option_or (mask_fault t) (filter_fault (length (rows mask)) c.args.self.now.count)) c.in_ok-mask.ensures.dtype ∙ fits in
     let error = c.in_err-kept.field-0.0 in
-    refused_for_memory c.args.self.now c.args.name.now c.args.value.now.dtype column error c.from_residual-in_err-kept.result c.from_residual-in_err-kept.ensures.1 c.in-Some.ensures.found (same ∙ sym c.in_default-kind_fault.ensures)
+    refused_for_memory c.args.self.now c.args.name.now c.args.value.now.dtype column error c.from_residual-in_err-kept.result c.from_residual-in_err-kept.ensures.1 c.in-Some.ensures.found c.in_ok-mask.ensures.refused
     (short_of_first (option_or (mask_fault (dtype_of mask)) (filter_fault (length (rows mask)) c.args.self.now.count)) error none c.in_err-kept.ensures.refused)
 
 pub returns-clause-filtered : goal.returns-clause-filtered
 returns-clause-filtered g c =
     let column = typed_of c.in-Some.column.now in
-    let same = ap (λ (t : DType). compare_scalar_fault t c.args.value.now.dtype) (sym c.dtype.ensures) ∙ ap (compare_scalar_fault c.dtype.result) (sym c.dtype-2.ensures) in
     let bits : truths_of (rows c.in_ok-mask.mask) ≡ held_bits c.args.operator column (option_map Single c.args.value.now.value) = ap truths_of c.in_ok-mask.ensures.rows ∙ same_bits _ in
     record {
       column = column;
       named = c.in-Some.ensures.found;
-      compared = same ∙ sym c.in_default-kind_fault.ensures;
+      compared = c.in_ok-mask.ensures.refused;
       rows = c.in_ok-kept.ensures.rows ∙ ap (λ (b : List Bool). map (filter_rows b) (rows_of c.args.self.now)) bits;
       count = c.in_ok-kept.ensures.count ∙ ap (λ (b : List Bool). count_by (λ bit. bit) b) bits;
     }

@@ -7,8 +7,8 @@ use Rattle.column_sums.specs.SumAnswer.{number_in}
 use Rattle.row_groups.specs.Groups.{AreEndsOf}
 use Rattle.runend_array.specs.Array.{dtype_of, rows}
 use Rattle.runend_array.specs.Column.{Column, column_dtype, column_rows}
-use Rattle.tables.proofs.GroupTables.{count_refused, counts_alike, zeros_long}
-use Rattle.tables.proofs.answers.row_counts.Goals as goal
+use Rattle.typed_groups.proofs.Counts.{count_refused, counts_alike, zeros_long}
+use Rattle.typed_groups.proofs.folds.row_counts.Goals as goal
 
 pub fold_groups-counts-requires-clause-ends : goal.fold_groups-counts-requires-clause-ends
 fold_groups-counts-requires-clause-ends g c =

@@ -1,0 +1,9 @@
+pub mod Counts
+pub mod LargeSums
+pub mod EachAnswered
+pub mod Parts
+pub mod NumberEnds
+pub mod Values
+pub mod Types
+pub mod Shown
+pub mod Refusals

@@ -1,0 +1,5 @@
+pub mod Answering
+pub mod Answers
+pub mod Group
+pub mod Questions
+pub mod Zeros
