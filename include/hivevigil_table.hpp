@@ -20,7 +20,6 @@
 #include "hivevigil_stored_file.hpp"
 #include "hivevigil_arrow_errors.h"
 #include "hivevigil_table_file.h"
-#include "hivevigil_table_groups.h"
 #include "hivevigil_tables.h"
 #include <map>
 
@@ -193,6 +192,7 @@ public:
     hv_table *raw() const;
 
 private:
+    friend class TableGroups;
     mutable hv_table handle = HV_EMPTY;      // none where there are neither columns nor rows, until a call needs one
     mutable std::vector<NamedColumn> copies; // of all columns, or none yet
 
@@ -257,12 +257,15 @@ inline TableError refusal(int32_t answer, hv_error fields, const Table &table, c
     }
 }
 
-// A refusal within says of which column it is.
+// A refusal that says of which column it is; so does one within.
+inline TableError about(const std::string &name, const Error &error) {
+    return {error.number, error.fields, "column '" + name + "': " + error.what()};
+}
 template <class Work> auto about_column(const std::string &name, Work work) {
     try {
         return work();
     } catch (const Error &error) {
-        throw TableError(error.number, error.fields, "column '" + name + "': " + error.what());
+        throw about(name, error);
     }
 }
 

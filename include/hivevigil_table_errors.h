@@ -12,7 +12,6 @@ extern "C" {
 
 /* The third field of HV_UNSUPPORTED says what a call of tables does not serve; 0: a column of this type or form. */
 enum {
-    HV_TABLE_WITHOUT_SUM = 2,     /* texts, bytes, booleans, dates, times and lists have no sum */
     HV_TABLE_WITHOUT_BATCHES = 3, /* the stream has arrays, or batches without columns */
     HV_TABLE_WITHOUT_COLUMNS = 4, /* a table without columns does not go out to Arrow */
     HV_TABLE_WITH_ZERO_BYTE = 5   /* a name has a zero byte, which a name of Arrow has not */
@@ -44,7 +43,6 @@ static inline const char *hv_table_error_name(int32_t number) {
 /* The sentence of HV_UNSUPPORTED by its third field. */
 static inline const char *hv_table_not_served(uint64_t what) {
     switch (what) {
-    case HV_TABLE_WITHOUT_SUM: return "rows of this type have no sum";
     case HV_TABLE_WITHOUT_BATCHES: return "a table comes from batches that have columns";
     case HV_TABLE_WITHOUT_COLUMNS: return "a table without columns does not go out to Arrow";
     case HV_TABLE_WITH_ZERO_BYTE: return "a name of Arrow has no zero byte, and that of a column has";
@@ -75,11 +73,11 @@ static inline char *hv_table_error_text(int32_t number, const hv_error *error, c
     case HV_TABLE_NO_KEYS: return HV_TABLE_SAY("rows are put in order, and in groups, by at least one column");
     case HV_TABLE_KEY_OF_LISTS: return HV_TABLE_SAY("key %" PRIu64 " is a column of lists", first);
     case HV_TABLE_UNKNOWN_COLUMN: return HV_TABLE_SAY("the column of answer %" PRIu64 " is not there", first);
-    case HV_TABLE_UNSUPPORTED_ANSWER: return HV_TABLE_SAY("the column of answer %" PRIu64 " is not of integers", first);
+    case HV_TABLE_UNSUPPORTED_ANSWER: return HV_TABLE_SAY("the column of answer %" PRIu64 " has no such answer", first);
     case HV_TABLE_ANSWER_TWICE:
         return HV_TABLE_SAY("answer %" PRIu64 " has the name of column %" PRIu64 " of the groups", second, first);
     case HV_TABLE_SUM_OVERFLOW:
-        return HV_TABLE_SAY("the sum of group %" PRIu64 " in answer %" PRIu64 " does not fit 64 bits", second, first);
+        return HV_TABLE_SAY("the sum of group %" PRIu64 " in answer %" PRIu64 " does not fit", second, first);
     case HV_UNSUPPORTED: return HV_TABLE_SAY("%s", hv_table_not_served(error->third));
     case HV_BAD_METADATA: return HV_TABLE_SAY("the bytes, or those of the file, are not those of a table");
     default: return hv_arrow_error_text(number, error, text);

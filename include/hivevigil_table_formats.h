@@ -1,5 +1,5 @@
 /* What the formats of columns say of their rows, as far as tables in C ask: which are floats, dates, times, timestamps
- * and durations. A part of hivevigil_table_file.h, _groups.h and _arrow.h, which include it. Nothing here is proved. */
+ * and durations. A part of hivevigil_table_file.h and _arrow.h, which include it. Nothing here is proved. */
 #ifndef HIVEVIGIL_TABLE_FORMATS_H
 #define HIVEVIGIL_TABLE_FORMATS_H
 #include "hivevigil_table_errors.h"
@@ -26,21 +26,15 @@ static inline bool hv_table_is_logical_type(const char *format) {
 
 /* ---- Floats by their keys ---- */
 
-/* What the sum of no row is, whose kind says how such rows are added up; HV_UNSUPPORTED. */
-static inline int32_t hv_table_sum_of_none(const hv_column *column, hv_total *total, hv_error *error) {
+/* Are the rows of a column floats, by its format? Then the sum of none of them is a double. */
+static inline int32_t hv_table_is_float(const hv_column *column, bool *truth, hv_error *error) {
+    hv_total total = {0, 0, HV_NULL, 1, 0};
     hv_column none = HV_EMPTY;
     hv_session session;
     hv_session_initial(&session);
     int32_t answer = hv_slice(&session, column, 0, 0, &none, error);
-    if (!answer) answer = hv_sum(&session, &none, total, error);
+    if (!answer) answer = hv_sum(&session, &none, &total, error);
     hv_free(&none);
-    return answer;
-}
-
-/* Are the rows of a column floats, by its format? */
-static inline int32_t hv_table_is_float(const hv_column *column, bool *truth, hv_error *error) {
-    hv_total total = {0, 0, HV_NULL, 1, 0};
-    const int32_t answer = hv_table_sum_of_none(column, &total, error);
     *truth = total.kind == HV_DOUBLE;
     return answer == HV_UNSUPPORTED ? HV_OK : answer;
 }
@@ -49,18 +43,6 @@ static inline int32_t hv_table_is_float(const hv_column *column, bool *truth, hv
 static inline uint64_t hv_table_infinity(const hv_column *floats) {
     const uint8_t number = hv_kind_of(floats).number;
     return number == HV_I16 ? 0x7C00 : number == HV_I32 ? 0x7F800000 : 0x7FF0000000000000;
-}
-
-/* Is a float NaN? The keys of these lie outside of those of all numbers. */
-static inline int32_t hv_table_has_nan(const hv_column *floats, bool *truth, hv_error *error) {
-    const int64_t infinity = (int64_t)hv_table_infinity(floats);
-    hv_value least, greatest;
-    hv_session session;
-    hv_session_initial(&session);
-    int32_t answer = hv_extreme(&session, floats, 0, &least, NULL, 0, error);
-    if (!answer) answer = hv_extreme(&session, floats, 1, &greatest, NULL, 0, error);
-    *truth = !answer && least.kind != HV_NULL && (least.as_signed < -1 - infinity || greatest.as_signed > infinity);
-    return answer;
 }
 
 /* The bounds of floats, under their format, with the infinity on its side in place of a NaN: up to there numbers may

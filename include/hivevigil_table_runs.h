@@ -1,5 +1,5 @@
-/* The runs of a column of integers in C's own arrays, by which tables are grouped and kept as differences: a part of
- * hivevigil_table_groups.h and _differences.h, which include it. Nothing here is proved. */
+/* The runs of a column of integers in C's own arrays, by which it is kept as differences: a part of
+ * hivevigil_table_differences.h, which includes it. Nothing here is proved. */
 #ifndef HIVEVIGIL_TABLE_RUNS_H
 #define HIVEVIGIL_TABLE_RUNS_H
 #include "hivevigil_table_helpers.h"

@@ -51,7 +51,7 @@ enum {
     HV_TABLE_UNSUPPORTED_ANSWER = 214, /* answer: the first that its column does not have */
     HV_TABLE_ANSWER_TWICE = 215,      /* earlier, answer: the first whose name a key or an earlier answer has; answers
                                          come after the keys in the first number */
-    HV_TABLE_SUM_OVERFLOW = 216       /* answer, group: the first group whose sum does not fit 64 bits */
+    HV_TABLE_SUM_OVERFLOW = 216       /* answer, group: the first group whose sum does not fit */
 };
 
 #ifndef HV_EXPORTS_ALONE
@@ -285,14 +285,19 @@ HV_ANSWER hv_table_sort(const hv_table *table, const hv_column *names, const uin
 /* A row for each group of neighbouring rows that are equal in the columns of all keys, null equal to null: sort first
  * where each key is to come once. It has the keys under their names and formats, and then for each name in `answers`
  * what is answered of the rows of the group: by the fold of its number, HV_FOLD_SUM to HV_FOLD_LAST (hivevigil.h), in
- * the column that `columns` names at its place. That column has integers, or is any, such as a key, for HV_FOLD_ROWS.
- * Values are looked at as they are stored, whatever the format says; the least, greatest, first and last keep the
- * format, sums and numbers have none. HV_BAD_NUMBER for no fold, before HV_NO_COLUMN; HV_TYPE_MISMATCH and
- * HV_NULL_NOT_ALLOWED as for hv_table_select for the keys; HV_TYPE_MISMATCH unless the answers are texts,
- * HV_COLUMN_LENGTH (answers, folds), the same for the columns, HV_NULL_NOT_ALLOWED where one of these is null;
+ * the column that `columns` names at its place, by what its format says that it means. Answers are flat, of a type that
+ * has null, and null where the group has no value (a count: 0): rows, and the values of any type, in u64; the sum of
+ * integers in i64 or u64, of lengths of time in their unit, of floats exactly, as doubles that are rounded once, of
+ * decimals in 38 digits; the least, greatest, first or last value of all but lists, in the order of hv_min_max, where
+ * NaN is neither the least nor the greatest. Dates, times of a day and timestamps have no sum. The least, greatest,
+ * first and last, and sums of lengths of time, keep the format, sums of floats have "g", other sums and numbers none.
+ * HV_BAD_NUMBER for no fold, before HV_NO_COLUMN; HV_TYPE_MISMATCH and HV_NULL_NOT_ALLOWED as for hv_table_select for
+ * the keys; HV_TYPE_MISMATCH unless the answers are texts, HV_COLUMN_LENGTH (answers, folds), the same for the columns,
+ * HV_NULL_NOT_ALLOWED where one of these is null;
  * HV_TABLE_NO_KEYS, HV_TABLE_NAME_TWICE, HV_TABLE_UNKNOWN_NAME, HV_TABLE_KEY_OF_LISTS, HV_TABLE_ANSWER_TWICE, then
  * HV_TABLE_UNKNOWN_COLUMN or HV_TABLE_UNSUPPORTED_ANSWER for the first answer that its column does not have, then
- * HV_TABLE_SUM_OVERFLOW, before which memory may be refused. */
+ * HV_TABLE_SUM_OVERFLOW for the first sum that does not fit 64 bits, or 38 digits, before which memory may be refused.
+ */
 HV_ANSWER hv_table_group_by(const hv_table *table, const hv_column *keys, const hv_column *answers,
                             const hv_column *columns, const uint8_t *folds, size_t folds_len, hv_table *out,
                             hv_error *error);

@@ -42,18 +42,48 @@ static size_t groups_of(const size_t *places, size_t count, size_t *stops) {
     return groups;
 }
 
-static plain_row answer_of(const plain_column *column, uint8_t fold, size_t start, size_t stop) {
-    plain_row found = {fold == HV_FOLD_ROWS || fold == HV_FOLD_COUNT, 0, 0, {0}};
+static bool is_float(const plain_column *column) { return *column->format && strchr("efg", *column->format); }
+static bool is_nan(const plain_column *column, plain_number key) {
+    const int place = *column->format - 'e', width = 16 << place;
+    return key > key_of(floats[place][5], width) || key < key_of(floats[place][6], width); /* the two infinities */
+}
+static bool is_row(uint8_t fold) { return fold >= HV_FOLD_LEAST; }
+
+/* The sum of floats, which are few and small, so that adding them up in doubles is exact. */
+static plain_row sum_of_floats(const plain_column *column, size_t start, size_t stop) {
+    const int place = *column->format - 'e';
+    const uint64_t quiet = 0x7FF8000000000000;
+    plain_row found = {false, 0, 0, {0}};
+    double sum = 0;
     for (size_t row = start; row < stop; row++) {
         const plain_row *const next = &column->rows[row];
-        const plain_number before = found.number;
+        double value = 0;
+        if (!next->is_valid) continue;
+        for (int i = 0; i < FLOATS; i++)
+            if (key_of(floats[place][i], 16 << place) == next->number) memcpy(&value, &floats[2][i], sizeof value);
+        sum = found.is_valid ? sum + value : value;
+        found.is_valid = true;
+    }
+    uint64_t bits;
+    memcpy(&bits, &sum, sizeof bits);
+    if (found.is_valid) found.number = key_of(sum == sum ? bits : quiet, 64);
+    return found;
+}
+
+static plain_row answer_of(const plain_column *column, uint8_t fold, size_t start, size_t stop) {
+    plain_row found = {fold == HV_FOLD_ROWS || fold == HV_FOLD_COUNT, 0, 0, {0}};
+    const bool leaves_nan = is_float(column) && (fold == HV_FOLD_LEAST || fold == HV_FOLD_GREATEST);
+    if (fold == HV_FOLD_SUM && is_float(column)) return sum_of_floats(column, start, stop);
+    for (size_t row = start; row < stop; row++) {
+        const plain_row *const next = &column->rows[row];
         if (fold == HV_FOLD_ROWS) found.number++;
         if (fold == HV_FOLD_ROWS || !next->is_valid) continue;
+        if (leaves_nan && is_nan(column, next->number)) continue;
         if (fold == HV_FOLD_COUNT) found.number++;
         else if (fold == HV_FOLD_SUM) found.number += next->number;
-        else if (!found.is_valid || fold == HV_FOLD_LAST) found.number = next->number;
-        else if (fold == HV_FOLD_LEAST) found.number = next->number < before ? next->number : before;
-        else if (fold == HV_FOLD_GREATEST) found.number = next->number > before ? next->number : before;
+        else if (!found.is_valid || fold == HV_FOLD_LAST) found = *next;
+        else if (fold == HV_FOLD_LEAST && compare_values(next, &found, column->kind) < 0) found = *next;
+        else if (fold == HV_FOLD_GREATEST && compare_values(next, &found, column->kind) > 0) found = *next;
         found.is_valid = true;
     }
     return found;
@@ -61,19 +91,33 @@ static plain_row answer_of(const plain_column *column, uint8_t fold, size_t star
 
 static bool has_numbers(const plain_column *column) { return column->kind.number <= HV_I64; }
 static bool has_sign(const plain_column *column) { return column->kind.number >= HV_I8; }
-static bool is_row(uint8_t fold) { return fold >= HV_FOLD_LEAST; }
 
+/* Dates, times of a day and timestamps are not added, and lists have no order. */
+static bool has_answer(const plain_column *column, uint8_t fold) {
+    const bool is_number = has_numbers(column) || column->kind.number == HV_DECIMAL;
+    if (fold == HV_FOLD_ROWS || fold == HV_FOLD_COUNT) return true;
+    if (fold == HV_FOLD_SUM) return is_number && (column->format[0] != 't' || column->format[1] == 'D');
+    return column->kind.number != HV_LIST;
+}
+
+/* Decimals here are far from 38 digits. */
 static bool fits(const plain_column *column, const plain_row *sum) {
     const plain_number least = has_sign(column) ? INT64_MIN : 0;
     const plain_number greatest = has_sign(column) ? (plain_number)INT64_MAX : (plain_number)UINT64_MAX;
-    return least <= sum->number && sum->number <= greatest;
+    return !has_numbers(column) || is_float(column) || (least <= sum->number && sum->number <= greatest);
 }
 
 static hv_kind type_of_answer(const plain_column *column, uint8_t fold) {
     hv_kind kind = {HV_U64, 1, 0, 0};
-    if (fold == HV_FOLD_SUM && has_sign(column)) kind.number = HV_I64;
-    if (is_row(fold)) kind.number = column->kind.number;
+    if (is_row(fold) || (fold == HV_FOLD_SUM && column->kind.number == HV_DECIMAL)) kind = column->kind;
+    else if (fold == HV_FOLD_SUM && has_sign(column)) kind.number = HV_I64;
+    kind.nullable = 1;
     return kind;
+}
+
+static const char *format_of_answer(const plain_column *column, uint8_t fold) {
+    if (fold == HV_FOLD_SUM && is_float(column)) return "g";
+    return is_row(fold) || (fold == HV_FOLD_SUM && strcmp(column->format, "tDs") == 0) ? column->format : "";
 }
 
 static bool same_kind(hv_kind left, hv_kind right) { return memcmp(&left, &right, sizeof left) == 0; }
@@ -91,9 +135,10 @@ static void check_keys(const hv_table *found, const size_t *places, size_t count
 
 static void check_answer(const hv_table *found, size_t place, const char *name, const plain_column *asked, uint8_t fold,
                          const size_t *stops, size_t groups) {
-    hv_column column = checked_column(found, place, name, is_row(fold) ? asked->format : "");
+    hv_column column = checked_column(found, place, name, format_of_answer(asked, fold));
     const hv_kind kind = type_of_answer(asked, fold);
     CHECK(same_kind(hv_kind_of(&column), kind) && hv_length(&column) == groups);
+    CHECK(hv_form(&column) == HV_FORM_FLAT);
     for (size_t at = 0; at < groups; at++) {
         const plain_row due = answer_of(asked, fold, at ? stops[at - 1] : 0, stops[at]);
         check_value(&column, at, &due, kind);
@@ -130,7 +175,7 @@ static bool check_random(const hv_table *table) {
     for (size_t i = asked.count; i-- > 0;) {
         of[i] = &plain.columns[chance(plain.count)];
         asked.answers[i] = names[i], asked.columns[i] = of[i]->name, asked.folds[i] = (uint8_t)chance(7);
-        if (asked.folds[i] != HV_FOLD_ROWS && !has_numbers(of[i])) unserved = i;
+        if (!has_answer(of[i], asked.folds[i])) unserved = i;
     }
     if (lists < plain.count)
         return CHECK_REFUSED(group(table, &asked, &found), HV_TABLE_KEY_OF_LISTS, lists, 0, 0), false;
@@ -261,8 +306,9 @@ static void check_many(void) {
     static const char *const names[] = {"price", "number"};
     static uint64_t prices[ROWS];
     static uint32_t numbers[ROWS];
-    const asking asked = {{"price"}, {"sum", "last"}, {"number", "number"}, {HV_FOLD_SUM, HV_FOLD_LAST}, 1, 2};
-    hv_column columns[3] = {HV_EMPTY, HV_EMPTY, HV_EMPTY}, flat = HV_EMPTY;
+    const asking asked = {{"price"}, {"sum", "last", "cost"}, {"number", "number", "price"},
+                          {HV_FOLD_SUM, HV_FOLD_LAST, HV_FOLD_SUM}, 1, 3};
+    hv_column columns[4] = {HV_EMPTY, HV_EMPTY, HV_EMPTY, HV_EMPTY}, flat = HV_EMPTY;
     hv_table table = HV_EMPTY, out = HV_EMPTY;
     for (uint32_t row = 0; row < ROWS; row++) {
         const double price = (double)(row / 3) / 4 - 1000;
@@ -273,19 +319,22 @@ static void check_many(void) {
     give_format(&columns[0], "g");
     CHECK(!hv_u32(numbers, ROWS, NOT_NULLABLE, &columns[1], &error));
     CHECK(!hv_table_of(names, columns, 2, &table, &error) && !group(&table, &asked, &out));
-    CHECK(has_shape(&out, GROUPS, 3));
+    CHECK(has_shape(&out, GROUPS, 4));
     columns[2] = checked_column(&out, 0, "price", "g");
     CHECK(!hv_float_decode(&columns[2], &flat, &error) && !hv_read_u64(&flat, 0, prices, GROUPS, &error));
-    for (size_t i = 1; i < 3; i++) CHECK(!hv_table_column(&out, i, &columns[i], &error));
+    for (size_t i = 1; i < 4; i++) CHECK(!hv_table_column(&out, i, &columns[i], &error));
     for (uint32_t at = 0; at < GROUPS; at++) {
-        hv_value sum, last;
-        double price;
+        hv_value sum, last, cost;
+        double price, total;
         memcpy(&price, &prices[at], sizeof price);
         CHECK(price == (double)at / 4 - 1000);
+        CHECK(!hv_at(&columns[3], at, &cost, NO_TEXT, &error) && cost.kind == HV_DOUBLE);
+        memcpy(&total, &cost.as_unsigned, sizeof total);
+        CHECK(total == 3 * price);
         CHECK(!hv_at(&columns[1], at, &sum, NO_TEXT, &error) && sum.as_unsigned == 9 * (uint64_t)at + 3);
         CHECK(!hv_at(&columns[2], at, &last, NO_TEXT, &error) && last.as_unsigned == 3 * (uint64_t)at + 2);
     }
-    for (int i = 0; i < 3; i++) hv_free(&columns[i]);
+    for (int i = 0; i < 4; i++) hv_free(&columns[i]);
     hv_free(&flat);
     hv_table_free(&table), hv_table_free(&out);
 }

@@ -1,161 +1,10 @@
-/* Groups of tables: random tables of every type and form against plain loops over their rows, each refusal with
- * its fields, and each request for memory refused in turn (linked with the malloc of refusing_malloc.h). */
+/* Groups by names that are texts of C: what is answered by hand, each refusal with its fields, and each request for
+ * memory refused in turn (linked with the malloc of refusing_malloc.h). table_group_by.c has random tables. */
 #include "hivevigil_table_groups.h"
 #include "refusing_malloc.h"
-#include "table_rows.h"
-#include <math.h>
+#include "table_checks.h"
 
-enum { TABLES = 3000 };
-
-/* ---- Against plain rows ---- */
-
-static plain_table plain;
-
-/* Where the groups by some columns stop. */
-static size_t groups_of(const size_t *places, size_t count, size_t *stops) {
-    size_t groups = 0;
-    for (size_t row = 1; row <= plain.rows; row++) {
-        bool is_end = row == plain.rows;
-        for (size_t i = 0; i < count && !is_end; i++) {
-            const plain_column *const column = &plain.columns[places[i]];
-            is_end = !are_equal(&column->rows[row - 1], &column->rows[row], column->kind);
-        }
-        if (is_end) stops[groups++] = row;
-    }
-    return groups;
-}
-
-static double double_of(plain_number key, const char *format) {
-    const int place = *format - 'e';
-    size_t which = 0;
-    double number = 0;
-    while (which < FLOATS && key_of(floats[place][which], 16 << place) != key) which++;
-    CHECK(which < FLOATS);
-    memcpy(&number, &floats[2][which], sizeof number);
-    return number;
-}
-
-static bool is_float(const plain_column *column) { return *column->format && strchr("efg", *column->format); }
-
-/* The sum of valid rows, of floats the key of the double: these are few, and quarters, so that nothing is rounded. */
-static plain_row sum_of(const plain_column *column, size_t start, size_t stop) {
-    plain_row total = {false, 0, 0, {0}};
-    double sum = -0.0;
-    for (size_t row = start; row < stop; row++) {
-        if (!column->rows[row].is_valid) continue;
-        total.is_valid = true;
-        if (is_float(column)) sum += double_of(column->rows[row].number, column->format);
-        else total.number += column->rows[row].number;
-    }
-    uint64_t bits = 0;
-    memcpy(&bits, &sum, sizeof bits);
-    if (isnan(sum)) bits = 0x7FF8000000000000;
-    if (is_float(column) && total.is_valid) total.number = key_of(bits, 64);
-    return total;
-}
-
-static plain_row chosen(const plain_column *column, uint8_t fold, size_t start, size_t stop) {
-    const bool is_by_number = is_float(column) && (fold == HV_FOLD_LEAST || fold == HV_FOLD_GREATEST);
-    plain_row found = {false, 0, 0, {0}};
-    for (size_t row = start; row < stop; row++) {
-        const plain_row *const next = &column->rows[row];
-        if (!next->is_valid || (is_by_number && isnan(double_of(next->number, column->format)))) continue;
-        const int order = found.is_valid ? compare_values(next, &found, column->kind) : 0;
-        const bool is_better = fold == HV_FOLD_LAST || (fold == HV_FOLD_LEAST && order < 0) ||
-                               (fold == HV_FOLD_GREATEST && order > 0);
-        if (!found.is_valid || is_better) found = *next;
-    }
-    return found;
-}
-
-static plain_row answer_of(const plain_column *column, uint8_t fold, size_t start, size_t stop) {
-    plain_row count = {true, 0, 0, {0}};
-    if (fold == HV_FOLD_SUM) return sum_of(column, start, stop);
-    if (fold != HV_FOLD_ROWS && fold != HV_FOLD_COUNT) return chosen(column, fold, start, stop);
-    for (size_t row = start; row < stop; row++) count.number += fold == HV_FOLD_ROWS || column->rows[row].is_valid;
-    return count;
-}
-
-/* Is a column asked this? */
-static bool is_asked(const plain_column *column, uint8_t fold) {
-    if (fold == HV_FOLD_ROWS || fold == HV_FOLD_COUNT) return true;
-    if (fold == HV_FOLD_SUM)
-        return !has_letters(column->kind) && column->kind.number != HV_BOOL && strcmp(column->format, "tdD") != 0;
-    return column->kind.number != HV_LIST;
-}
-
-/* The type of an answer, which has null. */
-static hv_kind type_of_answer(const plain_column *column, uint8_t fold) {
-    hv_kind kind = column->kind;
-    if (fold == HV_FOLD_ROWS || fold == HV_FOLD_COUNT) kind.number = HV_U64;
-    else if (fold == HV_FOLD_SUM && kind.number != HV_DECIMAL) kind.number = kind.number < HV_I8 ? HV_U64 : HV_I64;
-    if (kind.number != HV_DECIMAL) kind.precision = 0, kind.scale = 0;
-    kind.nullable = 1;
-    return kind;
-}
-
-static const char *format_of_answer(const plain_column *column, uint8_t fold) {
-    if (fold == HV_FOLD_ROWS || fold == HV_FOLD_COUNT) return "";
-    return fold == HV_FOLD_SUM && is_float(column) ? "g" : column->format;
-}
-
-static bool same_kind(hv_kind left, hv_kind right) { return memcmp(&left, &right, sizeof left) == 0; }
-
-static void check_answers(const hv_table *found, const size_t *places, size_t keys, const plain_column *asked,
-                          uint8_t fold, const size_t *stops, size_t groups) {
-    hv_column columns[MOST_COLUMNS] = {HV_EMPTY};
-    hv_column answers = checked_column(found, keys, "answer", format_of_answer(asked, fold));
-    CHECK(hv_table_len(found) == groups && hv_table_width(found) == keys + 1 && hv_form(&answers) == HV_FORM_FLAT);
-    hv_kind kind = type_of_answer(asked, fold);
-    if (fold == HV_FOLD_ROWS || fold == HV_FOLD_COUNT) kind.nullable = hv_kind_of(&answers).nullable;
-    CHECK(same_kind(hv_kind_of(&answers), kind));
-    for (size_t i = 0; i < keys; i++) {
-        const plain_column *const key = &plain.columns[places[i]];
-        columns[i] = checked_column(found, i, key->name, key->format);
-        CHECK(same_kind(hv_kind_of(&columns[i]), key->kind));
-    }
-    for (size_t group = 0; group < groups; group++) {
-        const size_t start = group ? stops[group - 1] : 0;
-        const plain_row due = answer_of(asked, fold, start, stops[group]);
-        for (size_t i = 0; i < keys; i++) {
-            const plain_column *const key = &plain.columns[places[i]];
-            check_value(&columns[i], group, &key->rows[start], key->kind);
-        }
-        check_value(&answers, group, &due, kind);
-    }
-    for (size_t i = 0; i < keys; i++) hv_free(&columns[i]);
-    hv_free(&answers);
-}
-
-static bool check_random(const hv_table *table) {
-    static size_t stops[MOST_ROWS];
-    size_t places[MOST_COLUMNS];
-    const char *keys[MOST_COLUMNS];
-    const size_t count = 1 + chance(plain.count < 3 ? plain.count : 3), first = chance(plain.count);
-    const plain_column *const asked = &plain.columns[chance(plain.count)];
-    const uint8_t fold = (uint8_t)chance(7);
-    const hv_table_answer answer = {"answer", fold, fold == HV_FOLD_ROWS ? NULL : asked->name};
-    hv_table found = HV_EMPTY;
-    size_t lists = count;
-    for (size_t i = count; i-- > 0;) {
-        places[i] = (first + i) % plain.count;
-        keys[i] = plain.columns[places[i]].name;
-        if (plain.columns[places[i]].kind.number == HV_LIST) lists = i;
-    }
-    if (lists < count || !is_asked(asked, fold)) {
-        const int32_t number = lists < count ? HV_TABLE_KEY_OF_LISTS : HV_UNSUPPORTED;
-        const uint64_t why = fold == HV_FOLD_SUM && lists == count ? HV_TABLE_WITHOUT_SUM : 0;
-        CHECK_REFUSED(hv_table_grouping(&session, table, keys, count, &answer, 1, &found, &error), number,
-                      lists < count ? lists : 0, 0, why);
-        CHECK(!found.at);
-        return false;
-    }
-    CHECK(!hv_table_grouping(&session, table, keys, count, &answer, 1, &found, &error));
-    check_answers(&found, places, count, asked, fold, stops, groups_of(places, count, stops));
-    check_table(table, &plain, NULL);
-    hv_table_free(&found);
-    return true;
-}
+static hv_error error;
 
 /* ---- By hand ---- */
 
@@ -201,7 +50,7 @@ static const hv_table_answer nans[] = {{"high", HV_FOLD_GREATEST, "price"}, {"lo
 
 static void check_by_hand(const hv_table *table) {
     hv_table out = HV_EMPTY;
-    CHECK(!hv_table_grouping(&session, table, station, 1, all, COUNT(all), &out, &error) && hv_table_width(&out) == 12);
+    CHECK(!hv_table_grouping(table, station, 1, all, COUNT(all), &out, &error) && hv_table_width(&out) == 12);
     CHECK_ROWS_AT(&out, 0, "1 2 1");
     CHECK_ROWS_AT(&out, 1, "2 3 1");
     CHECK_ROWS_AT(&out, 2, "1 2 1");
@@ -219,16 +68,16 @@ static void check_by_hand(const hv_table *table) {
         CHECK(hv_form(&column) == HV_FORM_FLAT);
         hv_free(&column);
     }
-    CHECK(!hv_table_grouping(&session, table, both, 2, nans, COUNT(nans), &out, &error)); /* "a" has only NaN */
+    CHECK(!hv_table_grouping(table, both, 2, nans, COUNT(nans), &out, &error)); /* "a" has only NaN */
     CHECK_ROWS_AT(&out, 2, "1.5 null 0.5 null");
     CHECK_ROWS_AT(&out, 3, "1.5 null -0.5 null");
     CHECK_ROWS_AT(&out, 4, "1 1 3 0");
     CHECK_ROWS_AT(&out, 5, "1.5 nan 0.5 null");
-    CHECK(!hv_table_grouping(&session, table, both, 2, all, 1, &out, &error) && hv_table_width(&out) == 3);
+    CHECK(!hv_table_grouping(table, both, 2, all, 1, &out, &error) && hv_table_width(&out) == 3);
     CHECK_ROWS_AT(&out, 0, "1 1 2 1");
     CHECK_ROWS_AT(&out, 1, "\"b\" \"a\" null \"\"");
     CHECK_ROWS_AT(&out, 2, "1 1 3 1");
-    CHECK(!hv_table_grouping(&session, table, station, 1, NULL, 0, &out, &error));
+    CHECK(!hv_table_grouping(table, station, 1, NULL, 0, &out, &error));
     CHECK(hv_table_width(&out) == 1 && hv_table_len(&out) == 3);
     hv_table_free(&out);
 }
@@ -238,20 +87,23 @@ static void check_refusals(const hv_table *table) {
     static const hv_table_answer names[] = {{"a", HV_FOLD_ROWS, NULL}, {"station", HV_FOLD_ROWS, NULL}};
     static const hv_table_answer none[] = {{"a", HV_FOLD_LAST, "to"}}, bad[] = {{"a", HV_FOLD_LAST + 1, "level"}};
     static const hv_table_answer text[] = {{"a", HV_FOLD_SUM, "text"}}, bytes[] = {{"\xff", HV_FOLD_ROWS, NULL}};
-    const char *const twice[] = {"text", "station", "text"}, *const gone[] = {"to"};
+    static const hv_table_answer of_bytes[] = {{"a", HV_FOLD_LAST, "\xff"}};
+    static const hv_table_answer large[] = {{"sum", HV_FOLD_SUM, "level"}, {"a", HV_FOLD_SUM, "text"}};
+    const char *const twice[] = {"text", "station", "text"}, *const gone[] = {"to"}, *const key[] = {"\xff"};
     hv_table out = HV_EMPTY;
     CHECK(!hv_table_slice(table, 0, 1, &out, &error));
-    CHECK_REFUSED(hv_table_grouping(&session, table, station, 0, sum, 1, &out, &error), HV_TABLE_NO_KEYS, 0, 0, 0);
-    CHECK_REFUSED(hv_table_grouping(&session, table, twice, 3, sum, 1, &out, &error), HV_TABLE_NAME_TWICE, 0, 2, 0);
-    CHECK_REFUSED(hv_table_grouping(&session, table, station, 1, names, 2, &out, &error), HV_TABLE_NAME_TWICE, 0, 2, 0);
-    CHECK_REFUSED(hv_table_grouping(&session, table, gone, 1, sum, 1, &out, &error), HV_TABLE_UNKNOWN_NAME, 0, 0, 0);
-    CHECK_REFUSED(hv_table_grouping(&session, table, station, 1, none, 1, &out, &error), HV_TABLE_UNKNOWN_NAME, 0, 0,
-                  0);
-    CHECK_REFUSED(hv_table_grouping(&session, table, station, 1, sum, 2, &out, &error), HV_CAST_OUT_OF_RANGE, 1, 0, 0);
-    CHECK_REFUSED(hv_table_grouping(&session, table, station, 1, text, 1, &out, &error), HV_UNSUPPORTED, 0, 0,
-                  HV_TABLE_WITHOUT_SUM);
-    CHECK(hv_table_grouping(&session, table, station, 1, bad, 1, &out, &error) == HV_BAD_NUMBER);
-    CHECK(hv_table_grouping(&session, table, station, 1, bytes, 1, &out, &error) == HV_TYPE_MISMATCH);
+    CHECK_REFUSED(hv_table_grouping(table, station, 0, sum, 2, &out, &error), HV_TABLE_NO_KEYS, 0, 0, 0);
+    CHECK_REFUSED(hv_table_grouping(table, twice, 3, sum, 1, &out, &error), HV_TABLE_NAME_TWICE, 0, 2, 0);
+    CHECK_REFUSED(hv_table_grouping(table, gone, 1, names, 2, &out, &error), HV_TABLE_UNKNOWN_NAME, 0, 0, 0);
+    CHECK_REFUSED(hv_table_grouping(table, station, 1, names, 2, &out, &error), HV_TABLE_ANSWER_TWICE, 0, 1, 0);
+    CHECK_REFUSED(hv_table_grouping(table, station, 1, none, 1, &out, &error), HV_TABLE_UNKNOWN_COLUMN, 0, 0, 0);
+    CHECK_REFUSED(hv_table_grouping(table, station, 1, text, 1, &out, &error), HV_TABLE_UNSUPPORTED_ANSWER, 0, 0, 0);
+    CHECK_REFUSED(hv_table_grouping(table, station, 1, large, 2, &out, &error), HV_TABLE_UNSUPPORTED_ANSWER, 1, 0, 0);
+    CHECK_REFUSED(hv_table_grouping(table, station, 1, sum, 2, &out, &error), HV_TABLE_SUM_OVERFLOW, 1, 1, 0);
+    CHECK(hv_table_grouping(table, station, 1, bad, 1, &out, &error) == HV_BAD_NUMBER);
+    CHECK(hv_table_grouping(table, key, 1, sum, 1, &out, &error) == HV_TYPE_MISMATCH);
+    CHECK(hv_table_grouping(table, station, 1, bytes, 1, &out, &error) == HV_TYPE_MISMATCH);
+    CHECK(hv_table_grouping(table, station, 1, of_bytes, 1, &out, NULL) == HV_TYPE_MISMATCH);
     CHECK(hv_table_len(&out) == 1 && hv_table_width(&out) == 5);
     hv_table_free(&out);
 }
@@ -269,7 +121,7 @@ static void check_zero_format(void) {
     CHECK(!hv_u8(keys, 2, NOT_NULLABLE, &columns[0], &error) && !hv_i64(numbers, 2, NO_NULLS, &columns[1], &error));
     CHECK(!hv_table_give_format(&columns[1], "tDs", 4, &error));
     CHECK(!hv_table_of(names, columns, 2, &table, &error));
-    CHECK(!hv_table_grouping(&session, &table, key, 1, asked, 2, &out, &error));
+    CHECK(!hv_table_grouping(&table, key, 1, asked, 2, &out, &error));
     CHECK(!hv_table_column(&out, 1, &columns[0], &error) && !hv_table_column(&out, 2, &columns[1], &error));
     CHECK(!hv_type(&columns[0], format, sizeof format, &size, &error) && size == 4 && !memcmp(format, "tDs", 4));
     CHECK(!hv_type(&columns[1], format, sizeof format, &size, &error) && size == 0);
@@ -292,10 +144,8 @@ static void check_decimals(void) {
         CHECK(!hv_u8(keys, 4, NOT_NULLABLE, &columns[0], &error));
         CHECK(!hv_decimals(pairs, 4, 5, 2, NOT_NULLABLE, &columns[1], &error));
         CHECK(!hv_table_of(names, columns, 2, &table, &error));
-        if (is_small) CHECK(!hv_table_grouping(&session, &table, key, 1, sum, 1, &out, &error));
-        else
-            CHECK_REFUSED(hv_table_grouping(&session, &table, key, 1, sum, 1, &out, &error), HV_CAST_OUT_OF_RANGE, 1,
-                          0, 0);
+        if (is_small) CHECK(!hv_table_grouping(&table, key, 1, sum, 1, &out, &error));
+        else CHECK_REFUSED(hv_table_grouping(&table, key, 1, sum, 1, &out, &error), HV_TABLE_SUM_OVERFLOW, 0, 1, 0);
         pairs[2] = few;
     }
     CHECK(!hv_table_column(&out, 1, &columns[1], &error));
@@ -315,7 +165,7 @@ static void check_memory(const hv_table *table) {
         CHECK(!hv_table_slice(table, 0, 1, &out, &error));
         const long before = blocks;
         requests = refused = 0, refuse_at = at;
-        const int32_t answer = hv_table_grouping(&session, table, both, 2, all, COUNT(all), &out, &error);
+        const int32_t answer = hv_table_grouping(table, both, 2, all, COUNT(all), &out, &error);
         refuse_at = -1;
         if (refused == 0) {
             CHECK(!answer);
@@ -332,21 +182,13 @@ static void check_memory(const hv_table *table) {
 
 int main(void) {
     hv_table table = HV_EMPTY;
-    size_t grouped = 0;
-    hv_session_initial(&session);
     make_measures(&table);
     check_by_hand(&table);
     check_refusals(&table);
     check_zero_format();
     check_decimals();
     check_memory(&table);
-    for (int i = 0; i < TABLES; i++) {
-        random_table(&plain, &table);
-        grouped += check_random(&table);
-    }
-    CHECK(grouped > TABLES / 2);
     hv_table_free(&table);
     CHECK(blocks == 0);
-    printf("%zu random tables grouped as loops over their rows do\n", grouped);
     return 0;
 }

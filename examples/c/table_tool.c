@@ -58,7 +58,7 @@ static int32_t sort(const hv_table *table, char **words, size_t count, hv_table 
 
 static int32_t group(const hv_table *table, char **words, size_t count, hv_table *out) {
     const hv_table_answer asked = {"answer", (uint8_t)atoi(words[1]), words[0]};
-    return hv_table_grouping(&session, table, (const char *const *)words + 2, count - 2, &asked, 1, out, &error);
+    return hv_table_grouping(table, (const char *const *)words + 2, count - 2, &asked, 1, out, &error);
 }
 
 static int32_t append(const hv_table *table, const char *path, hv_table *out) {

@@ -2,6 +2,7 @@
 // examples/corpus`. Tables and columns go in and out by C++; what no call of C does is skipped.
 #include "table_cases.hpp"
 #include "hivevigil_table_concat.h"
+#include "hivevigil_table_groups.h"
 
 namespace {
 
@@ -70,7 +71,10 @@ std::string grouped(const hv::Table &table, const Words &names, const Words &wor
         asked.push_back({texts[at + 1], fold, fold == HV_FOLD_ROWS ? nullptr : texts[at + 3]});
     }
     return made([&](auto *out, auto *error) {
-        return hv_table_grouping(&session(), table.raw(), texts.data(), keys, asked.data(), asked.size(), out, error);
+        const int32_t answer =
+            hv_table_grouping(table.raw(), texts.data(), keys, asked.data(), asked.size(), out, error);
+        if (answer == HV_TABLE_ANSWER_TWICE) error->second += keys; // its place among all columns
+        return answer;
     });
 }
 
@@ -167,10 +171,14 @@ hv::Error in_other_languages(const hv::Error &error) {
     switch (error.number) {
     case HV_TABLE_ROW_COUNT: return {HV_COLUMN_LENGTH, {fields.third, fields.second, 0}};
     case HV_TABLE_NEW_NAME_TWICE: return {HV_TABLE_NAME_TWICE, fields};
-    case HV_TABLE_OTHER_NAMES: return {HV_TABLE_UNKNOWN_NAME, {}};
+    case HV_TABLE_ANSWER_TWICE: return {HV_TABLE_NAME_TWICE, fields};
+    case HV_TABLE_OTHER_NAMES:
+    case HV_TABLE_UNKNOWN_COLUMN: return {HV_TABLE_UNKNOWN_NAME, {}};
     case HV_TABLE_OTHER_TYPE: return {HV_TYPE_MISMATCH, {}};
+    case HV_TABLE_SUM_OVERFLOW: return {HV_CAST_OUT_OF_RANGE, {fields.second, 0, 0}};
     case HV_TABLE_NO_KEYS:
-    case HV_TABLE_KEY_OF_LISTS: return {HV_UNSUPPORTED, {}};
+    case HV_TABLE_KEY_OF_LISTS:
+    case HV_TABLE_UNSUPPORTED_ANSWER: return {HV_UNSUPPORTED, {}};
     default: return error;
     }
 }

@@ -120,6 +120,12 @@ def check_order(chance: random.Random, tool: Tool, table: Table) -> None:
     tool.makes("sort", table.sort(chosen, descending=flags, nulls=nulls).to_bytes(), nulls, *words)
 
 
+def flat_bytes(data: bytes) -> bytes:
+    """Of a table the bytes with each column flat."""
+    table = Table.from_bytes(data)
+    return Table({name: column.decode() for name, column in table.items()}).to_bytes()
+
+
 def check_groups(chance: random.Random, tool: Tool, table: Table) -> bool:
     """Whether both answer, and not refuse."""
     keys, asked = chance.sample(table.names, chance.randint(1, min(2, len(table)))), chance.choice(table.names)
@@ -130,7 +136,8 @@ def check_groups(chance: random.Random, tool: Tool, table: Table) -> bool:
     except (HivevigilError, TypeError, OverflowError):
         assert tool.says("groups", *words), f"groups {words} is not refused"
         return False
-    tool.makes("groups", due, *words)
+    assert not tool.says("groups", *words)  # in whatever forms
+    assert flat_bytes((tool.folder / "to.hv").read_bytes()) == flat_bytes(due), f"groups {words}"
     return True
 
 

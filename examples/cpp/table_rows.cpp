@@ -267,14 +267,13 @@ static Value answer_of(Fold fold, const Row &values) {
 }
 
 static void check_groups(const Table &table, const Rows &model) {
-    const size_t asked = below(model.names.size());
-    const hv_kind kind = model.kinds[asked];
-    const bool is_decimal = kind.number == HV_DECIMAL;
-    if (!(kind.number <= HV_I64 || is_decimal)) return;
     static const Fold folds[] = {Fold::rows,  Fold::count, Fold::least, Fold::greatest,
                                  Fold::first, Fold::last,  Fold::sum};
-    const Fold fold = is_decimal ? Fold::sum : folds[below(std::size(folds))];
-    if (fold == Fold::sum && model.formats[asked] == "tdD") return;
+    const size_t asked = below(model.names.size());
+    const hv_kind kind = model.kinds[asked];
+    const bool is_decimal = kind.number == HV_DECIMAL, is_date = model.formats[asked] == "tdD";
+    const Fold fold = folds[below(std::size(folds))];
+    if (fold == Fold::sum && (is_date || !(kind.number <= HV_I64 || is_decimal))) return;
     std::vector<size_t> keys{0};
     if (model.names.size() > 1 && below(2)) keys.push_back(1 + below(model.names.size() - 1));
     Rows due;

@@ -197,6 +197,17 @@ static void check_groups() {
     const Table odd = table.group_by({"at"}).agg({{"least", Fold::least, "share"}, {"first", Fold::first, "share"}});
     CHECK(hv::Floats<double>(odd["least"].clone()).at(2) == std::nullopt);
     CHECK(std::isnan(*hv::Floats<double>(odd["first"].clone()).at(2)));
+    CHECK(groups.fold({"station", Fold::last, "station"}).name == "station"); // a key's name, which agg refuses
+    const std::string zero("g\0", 2); // none of Arrow, by which these are no floats
+    const hv::TableGroups odds = Table{{"key", {1, 1}}, {"number", {int64_t{5}, int64_t{6}}, zero}}.group_by({"key"});
+    const hv::NamedColumn total = odds.fold({"sum", Fold::sum, "number"});
+    CHECK(rows_of(total.column) == numbers({11}) && total.logical_type().empty());
+    CHECK(odds.fold({"least", Fold::least, "number"}).logical_type() == zero);
+}
+
+static void check_groups_refused() {
+    const Table table = readings();
+    const hv::TableGroups groups = table.group_by({"station"});
     check_refused(HV_UNSUPPORTED, "column 'at': rows of the logical type tts have no sum",
                   [&] { groups.fold({"sum", Fold::sum, "at"}); });
     check_refused(HV_UNSUPPORTED, "column 'station': utf8 has no sum",
@@ -204,15 +215,25 @@ static void check_groups() {
     check_refused(HV_TABLE_UNKNOWN_NAME, no_to, [&] { groups.fold({"sum", Fold::sum, "to"}); });
     check_refused(HV_TABLE_NAME_TWICE, "two columns have the name 'station'",
                   [&] { groups.agg({{"station", Fold::rows}}); });
+    check_refused(HV_TABLE_NAME_TWICE, "two columns have the name 'a'",
+                  [&] { groups.agg({{"a", Fold::sum, "to"}, {"a", Fold::rows}}); });
+    check_refused(HV_TYPE_MISMATCH, "the name of a column is not UTF-8", [&] { groups.agg({{"\xff", Fold::rows}}); });
     check_refused(HV_UNSUPPORTED, "at least one column has the keys", [&] { table.group_by({}); });
-    const std::string zero("g\0", 2); // none of Arrow, by which these are no floats
-    const hv::TableGroups odds = Table{{"key", {1, 1}}, {"number", {int64_t{5}, int64_t{6}}, zero}}.group_by({"key"});
-    const hv::NamedColumn total = odds.fold({"sum", Fold::sum, "number"});
-    CHECK(rows_of(total.column) == numbers({11}) && total.logical_type().empty());
-    CHECK(odds.fold({"least", Fold::least, "number"}).logical_type() == zero);
+    check_refused(HV_TABLE_NAME_TWICE, "two columns have the name 'at'", [&] { table.group_by({"at", "to", "at"}); });
+    check_refused(HV_TABLE_UNKNOWN_NAME, no_to, [&] { table.group_by({"at", "to"}); });
+    const Table lists{{"key", {1, 1}}, {"lists", Column::lists(Column::of({1, 2}), {0, 1}, {1, 1})}};
+    const char *const unserved = "column 'lists': the call does not serve columns of this type or form";
+    check_refused(HV_UNSUPPORTED, unserved, [&] { lists.group_by({"lists"}); });
+    check_refused(HV_UNSUPPORTED, unserved, [&] { lists.group_by({"key"}).fold({"a", Fold::last, "lists"}); });
     const Table large{{"key", {1, 1, 2}}, {"number", {INT64_MAX, int64_t{1}, int64_t{1}}}};
     check_refused(HV_CAST_OUT_OF_RANGE, "column 'number': integer overflow: the sum of group 0 does not fit i64",
                   [&] { large.group_by({"key"}).fold({"sum", Fold::sum, "number"}); });
+    check_refused(HV_TABLE_UNKNOWN_NAME, "no column has the name 'to': the names are 'key', 'number'",
+                  [&] { large.group_by({"key"}).agg({{"sum", Fold::sum, "number"}, {"b", Fold::sum, "to"}}); });
+    const hv_pair most{UINT64_MAX, INT64_MAX}; // 2^127 - 1, next to 10^38
+    const Table decimals{{"key", {1, 2, 2}}, {"cost", Column::decimals({{1, 0}, most, most}, 38, 0)}};
+    check_refused(HV_CAST_OUT_OF_RANGE, "column 'cost': decimal overflow: the sum of group 1 leaves 38 digits",
+                  [&] { decimals.group_by({"key"}).agg({{"sum", Fold::sum, "cost"}}); });
 }
 
 // Each refusal by its number, its name and its sentence; the table is as it was.
@@ -544,6 +565,7 @@ int main() {
     check_rows();
     check_order();
     check_groups();
+    check_groups_refused();
     check_refusals();
     check_many_rows();
     check_files();

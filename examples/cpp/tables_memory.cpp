@@ -57,7 +57,11 @@ static std::vector<Call> calls() {
         {"append one by one",
          [](const Table &table) { return table.append(table.with_column({"level", table["level"].fill(0)})); }},
         {"group_by",
-         [](const Table &table) { return table.group_by({"station"}).agg({{"most", Fold::greatest, "level"}}); }},
+         [](const Table &table) {
+             const hv::TableGroups groups = table.group_by({"station"});
+             return groups.agg({{"most", Fold::greatest, "level"}, {"shares", Fold::sum, "share"}})
+                 .with_column(groups.fold({"rows", Fold::rows}));
+         }},
         {"bytes", [](const Table &table) { return Table::from_bytes(table.to_bytes(true)); }},
     };
 }
