@@ -303,17 +303,14 @@ impl Error {
         self
     }
 
-    /// Names the group of which a sum was refused, where it does not fit.
-    pub(crate) fn in_group(self, group: usize, kind: Kind) -> Error {
+    /// Refuses the sum of this group, which is the first field and does not fit this type.
+    pub(crate) fn group_overflow(group: usize, kind: Kind) -> Error {
         let first = group as u64;
         let fields = Fields {
             first,
             ..Fields::default()
         };
-        match self.kind() {
-            Some(ErrorKind::CastOutOfRange) => Error { fields, ..self }.of_group(kind),
-            _ => self,
-        }
+        Error::new(ErrorKind::CastOutOfRange as i32, fields).of_group(kind)
     }
 
     /// Names the run at whose end the total does not fit, where that is what was refused.

@@ -81,10 +81,15 @@ impl Column {
     }
 }
 
-/// Returns the type of the sums of integers of a type.
+/// Returns the type of the sums of integers, or of decimals, of a type.
 pub(crate) fn sums_of(kind: Kind) -> Kind {
+    if kind.is_decimal() {
+        return Kind::decimal(GREATEST_PRECISION, kind.scale);
+    }
     match kind.is_signed() {
         true => Kind::I64,
         false => Kind::U64,
     }
 }
+
+const GREATEST_PRECISION: u8 = 38;

@@ -99,7 +99,7 @@ impl Column {
     }
 
     /// Puts the refusal of a sum in words.
-    fn without_sum(&self, error: Error) -> Error {
+    pub(crate) fn without_sum(&self, error: Error) -> Error {
         let kind = self.kind();
         match error.kind() {
             Some(ErrorKind::Unsupported) if kind.is_unsigned() || kind.is_signed() => {

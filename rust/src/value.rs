@@ -127,7 +127,7 @@ impl Operator {
 #[derive(Clone, Copy, Debug, PartialEq, Eq)]
 #[repr(u8)]
 pub enum Fold {
-    /// Sums them, in `i64` for signed values and in `u64` for unsigned ones.
+    /// Sums them, in `i64` for signed values and in `u64` for unsigned ones; `Groups` add floats and decimals too.
     Sum = 0,
     /// Counts the rows, in `u64`, null too.
     Rows = 1,

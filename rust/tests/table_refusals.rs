@@ -117,6 +117,7 @@ fn names_that_come_twice_are_refused() -> Result<(), Error> {
     assert!(is_repeated("level", table.select(names)));
     assert!(is_repeated("level", table.drop_null(names)));
     assert!(is_repeated("level", table.sort(names)));
+    assert!(is_repeated("level", table.group_by(names).map(drop)));
     assert!(is_repeated("station", table.rename([("level", "station")])));
     assert!(is_repeated(
         "level",

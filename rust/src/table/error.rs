@@ -1,7 +1,9 @@
 //! Refusals of tables.
+use super::groups::Asked;
 use super::{no_such, Table};
 use crate::arrow::ArrowError;
-use crate::{Error, ErrorKind, Kind};
+use crate::groups::sums_of;
+use crate::{Error, ErrorKind, Fold, Kind};
 use std::fmt;
 use std::io;
 use std::path::PathBuf;
@@ -133,6 +135,10 @@ pub(super) mod number {
     pub const NEW_NAME_TWICE: i32 = 210;
     pub const NO_KEYS: i32 = 211;
     pub const KEY_OF_LISTS: i32 = 212;
+    pub const UNKNOWN_COLUMN: i32 = 213;
+    pub const UNSUPPORTED_ANSWER: i32 = 214;
+    pub const ANSWER_TWICE: i32 = 215;
+    pub const SUM_OVERFLOW: i32 = 216;
 }
 
 impl Table {
@@ -145,6 +151,34 @@ impl Table {
             number::NO_KEYS => TableError::NoKeys,
             number::KEY_OF_LISTS => TableError::of(names[first])(Error::of(ErrorKind::Unsupported)),
             _ => TableError::Refused(error),
+        }
+    }
+
+    /// Says what a call refused that was asked this of groups by columns of these names.
+    pub(super) fn refusal_of_groups(
+        &self,
+        error: Error,
+        keys: &[&str],
+        asked: &[Asked],
+    ) -> TableError {
+        let (first, second) = (error.fields.first as usize, error.fields.second as usize);
+        match error.number {
+            number::UNKNOWN_COLUMN => no_such(asked[first].column, self.names()),
+            number::ANSWER_TWICE => TableError::RepeatedName(asked[second].name.to_string()),
+            number::UNSUPPORTED_ANSWER => {
+                let Asked { column, fold, .. } = asked[first];
+                let error = Error::of(ErrorKind::Unsupported);
+                TableError::of(column)(match fold {
+                    Fold::Sum => self[column].without_sum(error),
+                    _ => error,
+                })
+            }
+            number::SUM_OVERFLOW => {
+                let column = asked[first].column;
+                let kind = sums_of(self[column].kind());
+                TableError::of(column)(Error::group_overflow(second, kind))
+            }
+            _ => self.refusal(error, keys),
         }
     }
 }

@@ -1,8 +1,9 @@
 //! Tables that the library holds.
+use super::groups::Asked;
 use super::TableError;
 use crate::column::turn_if;
 use crate::raw::{self, Handle, TableHandle};
-use crate::{ask, Column, Error, Fields, Fold};
+use crate::{ask, Column, Error, Fields};
 use std::cell::UnsafeCell;
 use std::ops::Range;
 use std::ptr;
@@ -80,17 +81,18 @@ impl Held {
         })
     }
 
-    /// Returns the keys of each group of neighbouring rows that are equal in the columns of these names, and under one
-    /// more name how many rows it has.
-    pub(super) fn groups(&self, names: &[&str], rows: &str) -> Result<Held, Error> {
-        let any = names.first().copied().unwrap_or("");
-        let text = |name| Column::texts(&[name], None);
-        let (keys, answer, counted) = (Column::texts(names, None)?, text(rows)?, text(any)?);
-        let (keys, answer) = (keys.handle.get(), answer.handle.get());
-        let (counted, folds) = (counted.handle.get(), [Fold::Rows as u8]);
+    /// Returns the keys of each group of neighbouring rows that are equal in the columns of these names, and after them
+    /// what is asked of its rows.
+    pub(super) fn group_by(&self, keys: &[&str], asked: &[Asked]) -> Result<Held, Error> {
+        let answers: Vec<&str> = asked.iter().map(|one| one.name).collect();
+        let columns: Vec<&str> = asked.iter().map(|one| one.column).collect();
+        let folds: Vec<u8> = asked.iter().map(|one| one.fold as u8).collect();
+        let texts = |names: &[&str]| Column::texts(names, None);
+        let (keys, answers, columns) = (texts(keys)?, texts(&answers)?, texts(&columns)?);
+        let (keys, answers) = (keys.handle.get(), answers.handle.get());
         self.part(|table, out, fields| unsafe {
-            let (folds, len) = (folds.as_ptr(), folds.len());
-            raw::hv_table_group_by(table, keys, answer, counted, folds, len, out, fields)
+            let (columns, folds, len) = (columns.handle.get(), folds.as_ptr(), folds.len());
+            raw::hv_table_group_by(table, keys, answers, columns, folds, len, out, fields)
         })
     }
 

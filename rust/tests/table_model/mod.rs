@@ -129,6 +129,8 @@ pub fn flat(kind: Kind, rows: &[Value]) -> Result<Column, Error> {
         }
         Kind::U64 => Column::with_validity(&items(rows, |row| number(row) as u64), valid),
         Kind::I8 => Column::with_validity(&items(rows, |row| number(row) as i8), valid),
+        Kind::I16 => Column::with_validity(&items(rows, |row| number(row) as i16), valid),
+        Kind::I64 => Column::with_validity(&items(rows, |row| number(row) as i64), valid),
         _ => Column::with_validity(&items(rows, |row| number(row) as i32), valid),
     }
 }
