@@ -16,6 +16,7 @@ from pathlib import Path
 ROOT = Path(__file__).resolve().parent.parent
 SIGNS = {"EQ": "==", "NE": "!=", "GT": ">", "GE": ">=", "LT": "<", "LE": "<="}
 WORDS = {"EQ": "Equal", "NE": "NotEqual", "GT": "Greater", "GE": "GreaterOrEqual", "LT": "Less", "LE": "LessOrEqual"}
+PYTHON_FOLDS = {"ROWS": "size", "LEAST": "min", "GREATEST": "max"}
 
 
 def text_of(path: str) -> str:
@@ -169,7 +170,8 @@ class Lists:
         self.same("exceptions of Python", classes, expected)
         self.same("types of Python", list(package.TYPES), [name.lower() for name in self.types])
         self.same("operators of Python", list(package.OPERATORS), [SIGNS[name] for name in self.operators])
-        self.same("folds of Python", list(package._grouping.FOLDS), [name.lower() for name in self.folds])
+        folds = {PYTHON_FOLDS.get(name, name.lower()): number for name, number in self.folds.items()}
+        self.same("folds of Python", package._grouping.FOLDS, folds)
         forms = {number: name.lower() for name, number in without(self.forms, "NONE").items()}
         self.same("forms of Python", dict(package.FORMS), forms)
 

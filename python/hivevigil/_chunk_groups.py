@@ -7,134 +7,100 @@ from dataclasses import dataclass, replace
 from fractions import Fraction
 from typing import TYPE_CHECKING, Any, NamedTuple, Optional
 
-from . import _float_columns, _floats, _runs
+from . import _floats, _runs
 from ._common_types import NOTHING, Sources, common, merged, name_of, widened, written_type
 from ._table_making import about
-from ._types import TYPES, text_of
+from ._types import TYPES
 from ._values import decimal_of
 from .chunks import FloatSums, Partial
 from .column import Column
-from .errors import in_words
-from .logical import LogicalType, asked_type
+from .errors import CastOutOfRange, in_words
+from .logical import asked_type
 from .table_groups import TableGroups, parts_of
 
 if TYPE_CHECKING:
     from .table import Table
 
+_ADDED = ("sum", "mean")  # what is asked of the sums of groups
+_AGAIN = {"size": "sum", "count": "sum"}  # what is asked of the answers of parts of a group, of all others what was
 
-class Values(NamedTuple):
-    """What is known of the values of a group in one column: how many are not null, their sum, and the others of these
-    as they are stored, None where there is none."""
 
-    valid: int = 0
-    total: Any = 0
-    least: Any = None
-    greatest: Any = None
-    first: Any = None
-    last: Any = None
+class Total(NamedTuple):
+    """What the values of a group in one column add to a sum, before it is rounded or held against a type: an integer,
+    of decimals a fraction, of floats their sums. `valid` counts the values that are not null."""
+
+    valid: int
+    total: Any
 
     @classmethod
-    def of(cls, column: Column) -> Values:
+    def of(cls, column: Column) -> Total:
         """Those of a column of numbers."""
-        part = Partial.of(column.storage())
-        if not part.count:
-            return cls()
-        there = column.storage().to_runs().drop_null()
-        return cls(part.count, _total_of(column), *_ends_of(column), there[0], there[-1])
+        valid = column._length - column.null_count
+        if _floats.is_float(column._logical):
+            return cls(valid, FloatSums.of(column))
+        if TYPES[column._kind.number] == "decimal":
+            return cls(valid, Fraction(column.sum()))
+        sums = Partial.of(column.storage()).sums
+        return cls(valid, sums.total if sums else 0)
 
-    def then(self, after: Values) -> Values:
+    def then(self, after: Total) -> Total:
         """Those of this part of the group and of the part after it."""
         if not self.valid or not after.valid:
             return after if after.valid else self
-        return Values(
-            self.valid + after.valid, self._total_with(after), _best(min, self.least, after.least),
-            _best(max, self.greatest, after.greatest), self.first, after.last,
-        )
+        is_float = isinstance(self.total, FloatSums)
+        return Total(self.valid + after.valid, self.total.then(after.total) if is_float else self.total + after.total)
 
-    def _total_with(self, after: Values) -> Any:
-        """The sum of both."""
-        return self.total.then(after.total) if isinstance(self.total, FloatSums) else self.total + after.total
-
-    def widened(self, before: str, after: str, call: str) -> Values:
+    def widened(self, before: str, after: str) -> Total:
         """The same values, of a type, as those of another one that has them."""
         if not self.valid or before.rstrip("?") == after.rstrip("?"):
             return self
-        (kind, logical), meant = asked_type(before), asked_type(after)[1]
-        stored = Column.of([self.least, self.greatest, self.first, self.last], text_of(kind))._meaning(logical)
-        rows = widened(stored, after, call).storage().to_list()
-        return Values(self.valid, self._total_in(logical, meant, after), *rows)
-
-    def _total_in(self, before: Optional[LogicalType], after: Optional[LogicalType], name: str) -> Any:
-        """The sum as that of another type."""
-        if _floats.is_float(after):
-            return self.total if isinstance(self.total, FloatSums) else FloatSums.of_whole(self.total, self.valid)
-        if before is not None and after is not None:
-            return self.total * (before.nanoseconds // after.nanoseconds)
-        return Fraction(self.total) if name.startswith("decimal") else self.total
+        finer, meant = asked_type(before)[1], asked_type(after)[1]
+        if _floats.is_float(meant):
+            is_float = isinstance(self.total, FloatSums)
+            return self if is_float else Total(self.valid, FloatSums.of_whole(self.total, self.valid))
+        if finer is not None and meant is not None:
+            return Total(self.valid, self.total * (finer.nanoseconds // meant.nanoseconds))
+        return Total(self.valid, Fraction(self.total) if after.startswith("decimal") else self.total)
 
     def answer(self, fold: str) -> Any:
-        """What is asked of the values."""
+        """The sum or the mean; None where no value has one."""
+        if not self.valid:
+            return None
         total = self.total.rounded() if isinstance(self.total, FloatSums) else self.total
-        if fold == "mean":
-            return float(total / self.valid) if self.valid else None
-        named = {"sum": total, "min": self.least, "max": self.greatest, "first": self.first, "last": self.last}
-        if fold == "count":
-            return self.valid
-        return named[fold] if self.valid else None
-
-
-def _ends_of(column: Column) -> tuple[Any, Any]:
-    """The least and the greatest value as they are stored, None twice where there is none; of floats NaN is left out."""
-    is_float = _floats.is_float(column._logical)
-    return (_float_columns.without_nan(column) if is_float else column).storage().min_max()
-
-
-def _best(choose: Any, left: Any, right: Any) -> Any:
-    """The lesser or the greater of two values, of which None is neither."""
-    return choose((each for each in (left, right) if each is not None), default=None)
-
-
-def _total_of(column: Column) -> Any:
-    """The sum of the rows before it is rounded or held against a type: of decimals a fraction, 0 of what has none."""
-    if TYPES[column._kind.number] == "decimal":
-        return Fraction(column.sum())
-    part = Partial.of(column)
-    return part.float_sums or 0 if part.sums is None else part.sums.total
+        return total if fold == "sum" else float(total / self.valid)
 
 
 @dataclass(frozen=True)
 class Edge:
-    """The first or the last group of a part: its key as a column of one row, its rows, and its values by column."""
+    """The first or the last group of a part: the row of its key and its answers but sums and means, and what these are
+    made of, by the names of the answers."""
 
-    key: Column
-    rows: int
-    values: dict[str, Values]
+    row: Table
+    totals: dict[str, Total]
 
     @classmethod
-    def of(cls, table: Table, name: str, columns: Iterable[str]) -> Edge:
+    def of(cls, table: Table, name: str, asked: Mapping[str, Any]) -> Edge:
         """The one group that a table has."""
-        values = {column: Values.of(table._column(column)) for column in columns}
-        return cls(table._column(name).slice(0, 1), table.rows, values)
+        named = {alias: parts_of(alias, question) for alias, question in asked.items()}
+        totals = {alias: Total.of(table._column(column)) for alias, (column, fold) in named.items() if fold in _ADDED}
+        others = {alias: question for alias, question in asked.items() if alias not in totals}
+        return cls(TableGroups(table, name).agg(others), totals)
 
-    def is_same(self, other: Edge) -> bool:
-        """Whether the keys are equal, null equal to null."""
-        return bool(self.key.storage().to_list() == other.key.storage().to_list())
-
-    def then(self, after: Edge) -> Edge:
-        values = {name: part.then(after.values[name]) for name, part in self.values.items()}
-        return Edge(self.key, self.rows + after.rows, values)
-
-    def widened(self, name: str, before: Mapping[str, str], after: Mapping[str, str], call: str) -> Edge:
-        """The same group by a key of this name, of other types of the columns, which have its rows."""
-        values = {column: part.widened(before[column], after[column], call) for column, part in self.values.items()}
-        return Edge(widened(self.key, after[name], call), self.rows, values)
+    def then(self, after: Edge, name: str, asked: Mapping[str, Any]) -> list[Edge]:
+        """This group and that after it, or one where their keys are equal, null equal to null."""
+        folds = {alias: parts_of(alias, asked[alias])[1] for alias in self.row if alias != name}
+        again = {alias: (alias, _AGAIN.get(fold, fold)) for alias, fold in folds.items()}
+        rows = TableGroups(self.row.append(after.row), name).agg(again)
+        if rows.rows > 1:
+            return [self, after]
+        return [Edge(rows, {alias: total.then(after.totals[alias]) for alias, total in self.totals.items()})]
 
 
 @dataclass(frozen=True)
 class Groups:
-    """The groups of a part. `sources` are the types of the columns that are used, and where a refusal says that they are
-    from; `empty` are these columns without rows; `none` is the answer of no rows, `whole` are the answers of groups that
-    are known to be whole; a part of one group has only `first`."""
+    """The groups of a part. `sources` are the types of the columns that are used, and where a refusal says that they
+    are from; `empty` are these columns without rows; `none` is the answer of no rows, `whole` are the answers of groups
+    that are known to be whole; a part of one group has only `first`."""
 
     name: str
     asked: dict[str, Any]
@@ -148,7 +114,7 @@ class Groups:
     @classmethod
     def of(cls, table: Table, name: str, asked: Mapping[str, Any]) -> Groups:
         """Those of a table, by equal neighbouring rows of the column of a name."""
-        columns = list(dict.fromkeys(column for column, _ in map(parts_of, asked, asked.values()) if column is not None))
+        columns = (column for column, _ in map(parts_of, asked, asked.values()) if column is not None)
         used = table.select(*dict.fromkeys([name, *columns]))
         sources: dict[str, Sources] = {column: ((name_of(rows), ""),) for column, rows in used.items()}
         for column in used:
@@ -160,11 +126,11 @@ class Groups:
             return found
         keys = used._column(name).storage().to_runs()
         stop, start = _runs.run_at(keys, 0).stop, _runs.run_at(keys, -1).start
-        first = Edge.of(used.slice(0, stop), name, columns)
+        first = Edge.of(used.slice(0, stop), name, asked)
         if stop == used.rows:
             return replace(found, first=first)
         whole = (_answered(used.slice(stop, start), name, asked),)
-        return replace(found, first=first, whole=whole, last=Edge.of(used.slice(start, used.rows), name, columns))
+        return replace(found, first=first, whole=whole, last=Edge.of(used.slice(start, used.rows), name, asked))
 
     def of_part(self, part: str) -> Groups:
         """The same, of rows that are from a part of this name."""
@@ -183,9 +149,7 @@ class Groups:
             return after if self.first is None else self
         left = [self.first] if self.last is None else [self.first, self.last]
         right = [after.first] if after.last is None else [after.first, after.last]
-        is_one = left[-1].is_same(right[0])
-        seam = [left[-1].then(right[0])] if is_one else [left[-1], right[0]]
-        edges = [*left[:-1], *seam, *right[1:]]
+        edges = [*left[:-1], *left[-1].then(right[0], self.name, self.asked), *right[1:]]
         if len(edges) == 1:
             return replace(self, first=edges[0])
         closed = tuple(map(self._row, edges[1:-1]))
@@ -199,9 +163,17 @@ class Groups:
         call = ": ".join(["group_by", *(part for _, part in self.sources[self.name][:1] if part)])
         empty = self.empty._of({name: widened(column, types[name], call) for name, column in self.empty.items()}, 0)
         none = TableGroups(empty, self.name).agg(self.asked)
-        first, last = (edge and edge.widened(self.name, before, types, call) for edge in (self.first, self.last))
         whole = tuple(self._answers(part, none, call) for part in self.whole)
+        first, last = (edge and self._widened(edge, none, types, call) for edge in (self.first, self.last))
         return replace(self, empty=empty, none=none, first=first, whole=whole, last=last)
+
+    def _widened(self, edge: Edge, none: Table, types: Mapping[str, str], call: str) -> Edge:
+        """A group as that of columns of these types, whose answers are of the types that those of no rows have."""
+        before, totals = _types_of(self.sources), {}
+        for alias, total in edge.totals.items():
+            column = parts_of(alias, self.asked[alias])[0]
+            totals[alias] = total.widened(before[column], types[column])
+        return Edge(self._answers(edge.row, none, call), totals)
 
     def _answers(self, part: Table, none: Table, call: str) -> Table:
         """Answers as those of other types of the columns. Only sums of floats are rounded."""
@@ -236,11 +208,12 @@ class Groups:
 
     def _row(self, edge: Edge) -> Table:
         """The answers of a group that is whole."""
-        columns = {self.name: edge.key}
+        key = edge.row._column(self.name)
+        columns = {self.name: key}
         for name, asked in self.asked.items():
-            column, fold = parts_of(name, asked)
-            answer = edge.rows if column is None or fold == "size" else edge.values[column].answer(fold)
-            columns[name] = self._cell(name, answer, edge.key)
+            total = edge.totals.get(name)
+            fold = parts_of(name, asked)[1]
+            columns[name] = edge.row._column(name) if total is None else self._cell(name, total.answer(fold), key)
         return self.none._of(columns, 1)
 
     def _cell(self, name: str, answer: Any, key: Column) -> Column:
@@ -282,19 +255,13 @@ def joined(parts: Iterable[Groups]) -> Groups:
 
 
 def _answered(table: Table, name: str, asked: Mapping[str, Any]) -> Table:
-    """The answers of whole groups; where a sum leaves 64 bits, which group it is."""
+    """The answers of whole groups; where a sum is too large, which group it is."""
     try:
         return TableGroups(table, name).agg(asked)
-    except OverflowError:
-        for group in _each(table, name):
-            Groups.of(group, name, asked).table()
+    except CastOutOfRange as large:
+        group = _runs.run_at(table._column(name).storage().to_runs(), large.fields[0])
+        Groups.of(table.slice(group.start, group.stop), name, asked).table()
         raise
-
-
-def _each(table: Table, name: str) -> Iterable[Table]:
-    """The rows of each group."""
-    for start, stop, _ in table._column(name).storage().to_runs().runs():
-        yield table.slice(start, stop)
 
 
 def concatenated(tables: Iterable[Table], parts: Sequence[str] = ()) -> Table:

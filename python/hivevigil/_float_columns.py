@@ -189,19 +189,6 @@ def number_bounds(bounds: Column) -> Column:
     return bounds.of(ends, f"{bounds._logical}{'?' * bounds.nullable}")
 
 
-def without_nan(column: Column) -> Column:
-    """The rows with null in place of each NaN, by runs; the same column where no row is a NaN."""
-    if not has_nan(column):
-        return column
-    return _of_values(column, _numbers)._meaning(column._logical)
-
-
-def _numbers(values: Column) -> Column:
-    """The keys of the rows, flat, with null in place of each NaN."""
-    nulls = values.constant(None, values._length, f"{TYPES[values._kind.number]}?")
-    return values._made(calls.hv_if_else, values.le(math.inf), values, nulls).decode()
-
-
 # ---- Comparisons ----
 
 

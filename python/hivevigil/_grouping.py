@@ -1,188 +1,178 @@
-"""What is asked of groups of rows, neighbours that are equal in some columns of keys: by one call of the library, which
-answers of integers, and by what is made of its answers for values of other types.
+"""What is asked of groups of rows, neighbours that are equal in the columns of all keys: by one call of the library,
+and means by the sums and the numbers of values that it answers.
 """
 from __future__ import annotations
 
-import contextlib
-from collections.abc import Callable, Iterable, Sequence
-from itertools import accumulate
-from typing import TYPE_CHECKING, Any, NamedTuple
+from collections.abc import Callable, Iterator, Sequence
+from decimal import Decimal
+from fractions import Fraction
+from itertools import accumulate, count
+from typing import TYPE_CHECKING, Any, NamedTuple, Optional
 
-from . import _float_columns, _floats, _questions, _statistics
+from . import _floats, _questions, _statistics
 from ._handles import Held, refuse, texts_of
-from ._library import answered, calls
-from ._types import GREATEST_PRECISION, TYPES, WHOLE_NUMBERS
-from .errors import CastOutOfRange, Unsupported
+from ._library import Fields, answered, calls
+from ._lists import is_list
+from ._types import GREATEST_PRECISION, TYPES
+from .errors import CastOutOfRange, NoName, Unsupported, in_words
 
 if TYPE_CHECKING:
     from .column import Column
 
-FOLDS = ("sum", "rows", "count", "least", "greatest", "first", "last")  # as hivevigil.h numbers them
-_CHOSEN = {"min": "least", "max": "greatest", "first": "first", "last": "last"}
-_PLACED = ("utf8", "binary", "bool", "decimal")  # values that are answered by their places among the distinct ones
-_KEY_OF_LISTS, _SUM_OVERFLOW = 212, 216  # of hivevigil_tables.h
-
-
-class Fold(NamedTuple):
-    """What the library answers of the rows of each group in a column of integers, or of any type for 'rows'."""
-
-    values: Column
-    name: str
+FOLDS = {"sum": 0, "size": 1, "count": 2, "min": 3, "max": 4, "first": 5, "last": 6}  # as hivevigil.h numbers them
+_INTEGERS = f"decimal({GREATEST_PRECISION // 2 + 1}, 0)?"  # has those of 64 bits
+# refusals of hivevigil_tables.h
+_KEY_OF_LISTS, _UNKNOWN_COLUMN, _UNSUPPORTED_ANSWER, _ANSWER_TWICE, _SUM_OVERFLOW = 212, 213, 214, 215, 216
 
 
 class Asked(NamedTuple):
-    """What is asked of each group: folds, and what is made of the columns that answer them."""
+    """What is asked of the rows of each group in the column of a name: one of FOLDS, or 'mean'. `name` is that of the
+    answers."""
 
-    folds: tuple[Fold, ...]
-    made: Callable[..., Column]
-
-
-def answers(keys: Sequence[Column], asked: Sequence[Asked], names: Sequence[str] = ()) -> list[Column]:
-    """The keys of the groups, and then what is asked of each, all flat. `names` are those of the columns of the keys and
-    of what is asked, as a refusal has them."""
-    folds = [(place, fold) for place, each in enumerate(asked, len(keys)) for fold in each.folds]
-    found = Held()
-    number, fields = _answered(keys, [fold for _, fold in folds], found)
-    if number == _KEY_OF_LISTS:
-        with _about(names, fields.first):
-            raise Unsupported().saying("group_by: lists cannot be keys")
-    if number == _SUM_OVERFLOW:
-        place, (values, _) = folds[fields.first]
-        with _about(names, place):
-            name = _questions.sum_type(values)
-            raise CastOutOfRange(fields.second).saying(f"sum: group {fields.second} does not fit {name}")
-    refuse(number, fields)
-    columns = iter(found.columns.values())
-    made = [next(columns)._flat() for _ in keys]
-    for place, each in enumerate(asked, len(keys)):
-        with _about(names, place):
-            made.append(each.made(*(next(columns) for _ in each.folds)))
-    return made
+    name: str
+    column: str
+    fold: str
 
 
-def _answered(keys: Sequence[Column], folds: Sequence[Fold], found: Held) -> Any:
-    """What the library answers of the groups, the number of its refusal, and the fields."""
-    columns = {str(place): column for place, column in enumerate([*keys, *(fold.values for fold in folds)])}
-    names = list(columns)
-    by, named, of = (texts_of(each) for each in (names[: len(keys)], names[len(keys) :], names[len(keys) :]))
-    numbers = bytes(FOLDS.index(fold.name) for fold in folds)
-    return answered(calls.hv_table_group_by, Held.of(columns), by, named, of, numbers, len(numbers), found._handle)
+class Grouping(NamedTuple):
+    """The rows of a table by runs of neighbours that are equal in the columns of these names. `about` says in a refusal
+    which column it is about."""
+
+    table: Held
+    keys: Sequence[str]
+    about: Callable[[str], Any]
+
+    def answers(self, asked: Sequence[Asked]) -> Held:
+        """A row for each group: its keys under their names, and what is asked of it, all flat."""
+        has_means = any(each.fold == "mean" for each in asked)
+        found = self._with_means(asked) if has_means else self._folded(asked)
+        for name in self.keys:
+            if found.column(name).form != "flat":
+                found.put(name, found.column(name).decode())
+        return found
+
+    def _folded(self, asked: Sequence[Asked]) -> Held:
+        """The same of what the library answers."""
+        found = Held()
+        names, columns = texts_of(each.name for each in asked), texts_of(each.column for each in asked)
+        folds = bytes(FOLDS[each.fold] for each in asked)
+        question = self.table, texts_of(self.keys), names, columns, folds, len(folds)
+        number, fields = answered(calls.hv_table_group_by, *question, found._handle)
+        if number:
+            self._refuse(asked, number, fields)
+        return found
+
+    def _refuse(self, asked: Sequence[Asked], number: int, fields: Fields) -> None:
+        """Raises what the library refused."""
+        if number == _KEY_OF_LISTS:
+            with self.about(self.keys[fields.first]):
+                raise Unsupported().saying("group_by: lists cannot be keys")
+        if number == _ANSWER_TWICE:
+            name = asked[fields.second].name
+            raise ValueError(f"two columns have the name {in_words(name)}: it is that of the keys")
+        if number == _UNKNOWN_COLUMN:
+            raise NoName(asked[fields.first].column, self.table.names)
+        if number in (_UNSUPPORTED_ANSWER, _SUM_OVERFLOW):
+            _, name, fold = asked[fields.first]
+            values = self.table.column(name)
+            with self.about(name):
+                raise _unserved(values, fold) if number == _UNSUPPORTED_ANSWER else _large(values, fields.second)
+        refuse(number, fields)
+
+    # ---- Means ----
+
+    def _with_means(self, asked: Sequence[Asked]) -> Held:
+        """The answers where means are among them, of which each takes two: it is asked of a column by itself, and both
+        that column and the numbers of values have a name that no other has."""
+        table, folds, means = self.table.made(calls.hv_table_clone), [], []
+        free = _other_names({*table.names, *(each.name for each in asked)})
+        for each in asked:
+            if each.fold != "mean":
+                folds.append(each)
+                continue
+            with self.about(each.column):
+                mean = _Mean.of(self.table.column(each.column), each.name, next(free))
+            source = next(free)
+            table.put(source, mean.values)
+            folds += [Asked(mean.name, source, mean.fold), Asked(mean.counts, source, "count")]
+            means.append(mean)
+        found = self._replace(table=table)._folded(folds)
+        for mean in means:
+            found.put(mean.name, mean.answers(found.column(mean.name), found.column(mean.counts)))
+        return found.made_by_names(calls.hv_table_select, [*self.keys, *(each.name for each in asked)])
 
 
-def _about(names: Sequence[str], place: int) -> Any:
-    """What says in a refusal of which column it is, where columns have names."""
-    from ._table_making import about
+class _Mean(NamedTuple):
+    """A mean that is asked: of numbers, by their sums where each fits, and else by the numbers of rows; and the names
+    of its answers and of the numbers of values."""
 
-    return about(names[place]) if names else contextlib.nullcontext()
+    values: Column
+    fold: str
+    name: str
+    counts: str
 
+    @classmethod
+    def of(cls, values: Column, name: str, counts: str) -> _Mean:
+        if not _is_decimal(values):
+            _statistics.refuse_other_than_numbers(values, "mean")
+            if not _sums_fit(values):
+                values = values.cast(_INTEGERS)
+        return cls(values, "sum" if _sums_fit(values) else "size", name, counts)
 
-# ---- What is asked, by name ----
-
-
-def asked(values: Column, name: str) -> Asked:
-    """What is asked of a column by sum, mean, size, count, min, max, first or last."""
-    if name == "size":
-        return Asked((Fold(values, "rows"),), _as_it_is)
-    if name == "count":
-        return _count(values)
-    if name == "sum":
-        return _sum(values)
-    return _mean(values) if name == "mean" else _chosen(values, name)
-
-
-def _as_it_is(answer: Column) -> Column:
-    return answer
-
-
-def _holds(values: Column, *names: str) -> bool:
-    """Whether values are stored as one of these types."""
-    return TYPES[values._there()._kind.number] in names
-
-
-def _count(values: Column) -> Asked:
-    if _holds(values, *WHOLE_NUMBERS):
-        return Asked((Fold(values, "count"),), _as_it_is)
-    return Asked((Fold(values.is_valid().cast("u8"), "sum"),), _as_it_is)
-
-
-def _sum(values: Column) -> Asked:
-    """The sum of each group; of floats and decimals as `Column.sum` has it."""
-    logical = values._logical
-    if _floats.is_float(logical):
-        return _each(values, _sum_of, "float64?")
-    if _holds(values, "decimal"):
-        return _each(values, _sum_of, f"decimal({GREATEST_PRECISION}, {values._kind.scale})?")
-    if logical is not None and logical.sort != "duration":
-        raise TypeError(f"sum: rows of type {logical} have no sum; values.storage() are their integers")
-    if not _holds(values, *WHOLE_NUMBERS):
-        said = f"sum: rows of type {values.type.rstrip('?')} have no sum; ask min, max, first, last, count or size"
-        raise Unsupported().saying(said)
-
-    def made(sums: Column) -> Column:
-        return sums._meaning(logical)
-
-    return Asked((Fold(values, "sum"),), made)
-
-
-def _sum_of(part: Column) -> Any:
-    """The sum of the rows; None where all are null."""
-    return part.sum() if part.null_count < part._length else None
-
-
-def _mean(values: Column) -> Asked:
-    """The mean of each group: of integers by their sums, unless one may leave 64 bits."""
-    if not _holds(values, "decimal"):
-        _statistics.refuse_other_than_numbers(values, "mean")
-    if values._logical is not None or _holds(values, "decimal") or _may_be_large(values):
-        return _each(values, _statistics.mean, "float64?")
-    return Asked((Fold(values, "sum"), Fold(values, "count")), _quotients)
-
-
-def _may_be_large(values: Column) -> bool:
-    """Whether a sum of some rows may leave 64 bits."""
-    ends: Any = values.min_max()
-    return any(abs(end or 0) * values._length >= 2**63 for end in ends)
-
-
-def _quotients(sums: Column, counts: Column) -> Column:
-    pairs: Iterable[Any] = zip(sums.to_list(), counts.to_list())
-    return sums.of([None if total is None else total / rows for total, rows in pairs], "float64?")
-
-
-def _each(values: Column, answer: Callable[[Column], Any], name: str) -> Asked:
-    """What is answered of the rows of each group, as a column of a type."""
-
-    def made(sizes: Column) -> Column:
-        rows: list[Any] = sizes.to_list()
+    def answers(self, found: Column, counts: Column) -> Column:
+        """The mean of each group, by what the fold answered."""
+        rows: list[Any] = found.to_list()
+        if self.fold == "sum":
+            numbers: list[Any] = counts.to_list()
+            return found.of(list(map(_quotient, rows, numbers)), "float64?")
         stops = list(accumulate(rows))
-        found = []
-        for group, (start, stop) in enumerate(zip([0, *stops], stops)):
-            try:
-                found.append(answer(values.slice(start, stop)))
-            except OverflowError as large:
-                raise OverflowError(f"sum: group {group}: {large}") from None
-        return values.of(found, name)
-
-    return Asked((Fold(values, "rows"),), made)
+        parts = (self.values.slice(start, stop) for start, stop in zip([0, *stops], stops))
+        return found.of(list(map(_statistics.mean, parts)), "float64?")
 
 
-def _chosen(values: Column, name: str) -> Asked:
-    """A value of each group, that is not null: the least and the greatest leave NaN out too."""
-    if name in ("min", "max") and _floats.is_float(values._logical):
-        values = _float_columns.without_nan(values)
-    if _holds(values, *WHOLE_NUMBERS):
-        return Asked((Fold(values, _CHOSEN[name]),), _as_it_is)
-    if not _holds(values, *_PLACED):
-        raise Unsupported().about(name, values)
-    places, distinct = _places_of(values)
-    return Asked((Fold(places, _CHOSEN[name]),), distinct.take)
+def _sums_fit(values: Column) -> bool:
+    """Whether the sum of any of the rows fits 64 bits, or of decimals 38 digits; floats always have one."""
+    if _floats.is_float(values._logical):
+        return True
+    limit = Fraction(10) ** (GREATEST_PRECISION - values._kind.scale) if _is_decimal(values) else 2**63
+    ends: Any = values.min_max()
+    return all(abs(Fraction(end or 0)) * values._length < limit for end in ends)
 
 
-def _places_of(values: Column) -> tuple[Column, Column]:
-    """The place of each row among the distinct values in order, in runs and null where the row is; and these values."""
-    runs, name = list(values.runs()), values.type.rstrip("?")
-    found = {run.value for run in runs if run.value is not None}
-    distinct = values.of(list(found), f"{name}?")._meaning(values.logical_type).sort().decode()
-    place_of = {value: place for place, value in enumerate(distinct.to_list())}
-    places = values.of([None if run.value is None else place_of[run.value] for run in runs], "u64?")
-    return values.from_runs([run.stop for run in runs], places), distinct
+def _quotient(total: Any, rows: int) -> Optional[float]:
+    """The quotient, rounded once."""
+    if isinstance(total, Decimal):
+        above, below = total.as_integer_ratio()
+        return above / (below * rows)
+    return None if total is None else total / rows
+
+
+def _other_names(names: set[str]) -> Iterator[str]:
+    """Names that are none of these."""
+    return (name for name in map(str, count()) if name not in names)
+
+
+# ---- Refusals ----
+
+
+def _unserved(values: Column, fold: str) -> Exception:
+    """What says that a column has no such answer."""
+    if fold != "sum" or is_list(values):
+        return Unsupported().about(fold, values)
+    if values._logical is not None:
+        return TypeError(f"sum: rows of type {values._logical} have no sum; values.storage() are their integers")
+    name = values.type.rstrip("?")
+    return Unsupported().saying(f"sum: rows of type {name} have no sum; ask min, max, first, last, count or size")
+
+
+def _large(values: Column, group: int) -> CastOutOfRange:
+    """What says which group has a sum that is too large."""
+    is_decimal = _is_decimal(values)
+    name = f"decimal({GREATEST_PRECISION}, {values._kind.scale})" if is_decimal else _questions.sum_type(values)
+    refused = CastOutOfRange(group)
+    refused.saying(f"sum: group {group} does not fit {name}")
+    return refused
+
+
+def _is_decimal(values: Column) -> bool:
+    return TYPES[values._there()._kind.number] == "decimal"

@@ -88,7 +88,7 @@ class Held:
     def made_by_names(self, call: Any, names: Sequence[Any], *arguments: Any, **said: Any) -> Held:
         """The same of a call that is lent names of columns before its other arguments."""
         for name in names:
-            if not _is_utf8(checked(name)):
+            if not is_utf8(checked(name)):
                 raise NoName(name, self.names)
         return self.made(call, texts_of(names), *arguments, names=names, **said)
 
@@ -175,7 +175,7 @@ def texts_of(names: Iterable[str]) -> Column:
     return Column.of(list(names), "utf8")
 
 
-def _is_utf8(text: str) -> bool:
+def is_utf8(text: str) -> bool:
     """Whether a text has no half of a surrogate pair."""
     return text.isascii() or text.encode("utf-8", "replace").decode() == text
 

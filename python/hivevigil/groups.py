@@ -1,9 +1,11 @@
 """The rows of a column, grouped by runs of equal neighbouring rows of another: `values.group_by(keys)`."""
 from __future__ import annotations
 
+from contextlib import nullcontext
 from typing import TYPE_CHECKING
 
-from . import _grouping
+from ._grouping import Asked, Grouping
+from ._handles import Held
 from .errors import ColumnLength
 
 if TYPE_CHECKING:
@@ -29,7 +31,7 @@ class Groups:
     def sum(self) -> tuple[Column, Column]:
         """The sum of each group: 'i64?' or 'u64?' of integers, the duration of durations, of floats a 'float64' and of
         decimals one of 38 digits, each as `Column.sum` has it. OverflowError, with the group counted from 0 in its
-        first field, where one does not fit 64 bits; a sum of decimals names it."""
+        first field, where one does not fit 64 bits, or 38 digits."""
         return self._answers("sum")
 
     def mean(self) -> tuple[Column, Column]:
@@ -45,7 +47,8 @@ class Groups:
         return self._answers("count")
 
     def min(self) -> tuple[Column, Column]:
-        """The least value of each group; of texts by their bytes, False is below True, and NaN is left out as null is."""
+        """The least value of each group; of texts by their bytes, False is below True, and NaN is left out as null
+        is."""
         return self._answers("min")
 
     def max(self) -> tuple[Column, Column]:
@@ -63,5 +66,6 @@ class Groups:
     def _answers(self, name: str) -> tuple[Column, Column]:
         if self._keys._length != self._values._length:
             raise ColumnLength(self._keys._length, self._values._length)
-        keys, answers = _grouping.answers([self._keys], [_grouping.asked(self._values, name)])
-        return keys, answers
+        table = Held.of({"keys": self._keys, "values": self._values})
+        found = Grouping(table, ["keys"], nullcontext).answers([Asked("answers", "values", name)])
+        return found.column("keys"), found.column("answers")

@@ -254,9 +254,55 @@ def test_other_values_of_groups_in_parts(data, keys, cuts):
 def test_a_sum_of_decimals_that_has_no_room_names_its_group():
     most = Decimal(10**38 - 1)
     groups = Column.of([most, most, most]).group_by([1, 2, 2])
-    with pytest.raises(OverflowError, match="^sum: group 1: sum: it leaves 38 digits at row 1"):
+    with pytest.raises(errors.CastOutOfRange, match=r"^sum: group 1 does not fit decimal\(38, 0\)$") as refused:
         groups.sum()
+    assert refused.value.fields == (1, 0, 0)
     assert groups.mean()[1].to_list() == [1e38, 1e38]
+
+
+def test_means_beside_other_answers():
+    """Each takes two answers of the library, and leaves the names of columns and answers as they are."""
+    most = 2**63 - 1
+    table = Table({"0": [1, 1, 2], "1": [most, most - 2, -4], "2": [0.5, math.nan, None], "3": ["b", "a", None]})
+    asked = {"4": ("1", "mean"), "5": ("2", "mean"), "6": ("3", "min"), "1": ("1", "max"), "count": ("2", "count")}
+    found = table.group_by("0").agg(asked)
+    assert found.names == ["0", *asked] and found.types["4"] == "i64?"
+    assert [found[name].to_list() for name in ("4", "6", "1", "count")] == [[2.0**63, -4.0], ["a", None], [most, -4], [2, 0]]
+    assert alike(found["5"].to_list(), [math.nan, None])
+    wide = Column.of([2**64 - 1, 2**64 - 1, 0, 1], "u64").group_by([1, 1, 2, 2])
+    assert wide.mean()[1].to_list() == [2.0**64, 0.5]
+
+
+def test_a_mean_of_integers_under_few_keys():
+    """A sum of 2**62 rows of 2**40 leaves 64 bits, and those of rows that are more leave 38 digits."""
+    for rows, number in ((2**62, 2**40 + 1), (2**64 - 1, 2**63 - 1)):
+        values = Column.constant(number, rows, "i64")
+        assert values.group_by(Column.constant(0, rows)).mean()[1].to_list() == [float(number)]
+
+
+def test_a_key_of_one_value_is_flat():
+    table = Table({"key": Column.constant("a", 4), "row": [1, 2, 3, None]})
+    found = table.group_by("key").agg(total=("row", "sum"), mean=("row", "mean"))
+    assert [column.form for column in found.values()] == ["flat"] * 3
+    assert found.to_dict() == {"key": ["a"], "total": [6], "mean": [2.0]}
+
+
+@pytest.mark.parametrize("cut", [0, 1, 2, 3, 4])
+def test_lists_of_groups_in_parts_are_counted(cut):
+    lists = Column.from_lists([1, 2, 3], [0, 1, 2, 0], [1, 1, 1, 0], [True, False, True, True])
+    table = Table({"key": [1, 1, 1, 2], "row": lists})
+    asked = {"rows": "size", "count": ("row", "count")}
+    parts = [_chunk_groups.Groups.of(part, "key", asked) for part in (table.slice(0, cut), table.slice(cut, 4))]
+    found = _chunk_groups.joined(parts).table()
+    assert found.equals(table.group_by("key").agg(asked)) and found["count"].to_list() == [2, 1]
+
+
+def test_sums_of_integers_next_to_floats_in_parts_are_exact():
+    """Where all that is asked of them is a sum: no row is widened."""
+    parts = [Table({"key": [1], "row": [2**53 + 1]}), Table({"key": [1], "row": [-float(2**53)]})]
+    asked = {"sum": ("row", "sum"), "mean": ("row", "mean")}
+    found = _chunk_groups.joined(_chunk_groups.Groups.of(part, "key", asked) for part in parts).table()
+    assert (found["sum"].to_list(), found["mean"].to_list()) == ([1.0], [0.5])
 
 
 def test_a_column_by_itself():

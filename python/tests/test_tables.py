@@ -264,6 +264,7 @@ def test_lists():
 
 
 T = Table({"a": [1, 2, None], "b": ["x", "y", "z"]}, {"a": "tiM"})
+LISTS = Column.from_lists([1, 2, 3], [0, 1, 2], [1, 1, 1])
 
 
 @pytest.mark.parametrize(
@@ -331,6 +332,15 @@ T = Table({"a": [1, 2, None], "b": ["x", "y", "z"]}, {"a": "tiM"})
          "agg: 'c' is asked by 'size', or a column and one of sum, mean, size, count, min, max, first, last, not by ('a', "),
         (lambda: T.group_by("b").agg(c=("d", "min")), KeyError, "no column has the name 'd': the names are 'a', 'b'"),
         (lambda: T.group_by("a").agg(c=("b", "sum")), errors.Unsupported, "column 'b': sum: rows of type utf8 have no sum; ask min"),
+        (lambda: T.group_by("a").agg(c=("b\ud800", "min")), KeyError, "no column has the name 'b\\ud800': the names are "),
+        # of several refusals the one that the library finds first
+        (lambda: T.group_by("a").agg(c=("d", "sum"), a="size"), ValueError, "two columns have the name 'a': it is that of"),
+        (lambda: T.group_by("a").agg(c=("b", "sum"), d=("d", "sum")), errors.Unsupported, "column 'b': sum: rows of type "),
+        (lambda: T.group_by("a").agg(d=("d", "sum"), c=("b", "sum")), KeyError, "no column has the name 'd': the names "),
+        (lambda: T.with_column("l", LISTS).group_by("b", "l").agg(b=("d", "sum")), errors.Unsupported,
+         "column 'l': group_by: lists cannot be keys"),
+        (lambda: T.with_column("l", LISTS).group_by("b").agg(l=("l", "min")), errors.Unsupported,
+         "column 'l': min does not serve columns of list"),
         (lambda: T.equals(3), TypeError, "a table is compared with a Table, not with 3"),
     ],
 )  # fmt: skip
