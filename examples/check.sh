@@ -144,7 +144,8 @@ declared_names() {
 
 # each call, and what it refuses
 c_tests="errors answers refusals kept_outputs levels forms constants lists groups pairs sorts sums totals floats \
-    float_casts float_pairs decimals decimal_casts exact builders messages typed_messages arrow_arrays long_rows"
+    float_casts float_pairs decimals decimal_casts exact builders messages typed_messages arrow_arrays long_rows \
+    long_answers"
 c_programs() {
     for test in first layout $c_tests; do
         run "c/$test.c" built "$cc" "$c_flags $level" "examples/c/$test.c"
@@ -178,9 +179,9 @@ cpp_sanitized() {
 }
 
 # Arrow: each rule by hand, random legal arrays and broken ones, and each request for memory refused. arrow_random,
-# arrow_lists and arrow_broken take a number of arrays and a seed: ten thousand each run here, more by hand.
+# arrow_long, arrow_lists and arrow_broken take a number of arrays and a seed: thousands each run here, more by hand.
 arrow_programs() {
-    for test in arrow_rules arrow_options arrow_streams arrow_random arrow_lists arrow_broken; do
+    for test in arrow_rules arrow_options arrow_streams arrow_random arrow_long arrow_lists arrow_broken; do
         run "c/$test.c$arrow_how" built "$cc" "$c_flags $arrow_flags" "examples/c/$test.c"
     done
     run "c/arrow_memory.c" built "$cc" "$c_flags -O0 $wraps" examples/c/arrow_memory.c

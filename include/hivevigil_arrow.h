@@ -199,9 +199,10 @@ static inline int32_t hv_arrow_concat(const hv_session *session, hv_column *colu
  * The columns as a stream of chunks of `chunk_rows` rows, the last one of what is left; of all rows where it is 0.
  * Batches with these names, or, where `names` is null, arrays of the one column. All is copied now, so that the stream
  * is free of the columns and their thread. Every chunk has the schema of the first: options (one for each column, or
- * null) that are 0 are of 32 bits here, a column that lies as runs or a constant goes out as runs over flat values, and
- * one of lists as lists. 11 (rows of the first, rows) where columns differ in their number of rows; 13 for no columns,
- * or for arrays of more than one; else as hv_arrow_export_with. A dictionary goes out once, and the chunks share it. */
+ * null) that are 0 are of 32 bits here, run ends of chunks of 2^31 rows or more of 64; a column that lies as runs or a
+ * constant goes out as runs over flat values, and one of lists as lists. 11 (rows of the first, rows) where columns
+ * differ in their number of rows; 13 for no columns, or for arrays of more than one; else as hv_arrow_export_with. A
+ * dictionary goes out once, and the chunks share it. */
 static inline int32_t hv_arrow_export_stream(const hv_session *session, hv_column *columns, const char *const *names,
                                              size_t count, size_t chunk_rows, const hv_arrow_options *options,
                                              struct ArrowArrayStream *stream, hv_error *error);

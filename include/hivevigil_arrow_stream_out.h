@@ -120,15 +120,16 @@ typedef struct hv_arrow_field {
     hv_arrow_shared *shared; /* NULL: none */
 } hv_arrow_field;
 
-/* Options that leave nothing to the rows of a chunk. */
-static inline hv_arrow_options hv_arrow_settled(hv_column *column, const hv_arrow_options *options) {
+/* Options that leave nothing to the rows of a chunk, which are `chunk_rows` at most, all where it is 0. */
+static inline hv_arrow_options hv_arrow_settled(hv_column *column, size_t chunk_rows, const hv_arrow_options *options) {
     const hv_arrow_options none = {0, 0, 0, 0, NULL, NULL};
+    const size_t rows = hv_length(column), most_rows = chunk_rows && chunk_rows < rows ? chunk_rows : rows;
     hv_arrow_options settled = options ? *options : none;
     const uint8_t form = hv_form(column);
     const bool flat = form == HV_ARROW_FLAT || form == HV_ARROW_OF_LISTS; /* lists stay lists in every chunk */
     uint8_t as_it_lies = flat ? HV_ARROW_AS_FLAT : HV_ARROW_AS_RUNS;
     if (settled.form == HV_ARROW_AS_IT_LIES) settled.form = as_it_lies;
-    if (settled.end_bits == 0) settled.end_bits = 32;
+    if (settled.end_bits == 0) settled.end_bits = most_rows > INT32_MAX ? 64 : 32;
     if (settled.offset_bits == 0) settled.offset_bits = 32;
     return settled;
 }
@@ -265,7 +266,7 @@ static inline int32_t hv_arrow_export_stream(const hv_session *session, hv_colum
     for (size_t i = 0; i < count; i++) {
         fields[i].column = &columns[i];
         fields[i].name = names && names[i] ? names[i] : "";
-        fields[i].options = hv_arrow_settled(&columns[i], options ? &options[i] : NULL);
+        fields[i].options = hv_arrow_settled(&columns[i], chunk_rows, options ? &options[i] : NULL);
     }
     int32_t answer = hv_arrow_make_stream(session, fields, count, names != NULL, chunk_rows, stream, error);
     hv_arrow_free_fields(fields, count);

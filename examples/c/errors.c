@@ -100,10 +100,11 @@ static void check_tables(void) {
     CHECK(strcmp(hv_table_error_text(HV_BAD_METADATA, &error, text),
                  "the bytes, or those of the file, are not those of a table") == 0);
     CHECK(strcmp(hv_table_error_text(HV_UNSUPPORTED, &error, text), hv_error_sentence(HV_UNSUPPORTED)) == 0);
-    for (error.third = HV_TABLE_WITHOUT_SUM; error.third <= HV_TABLE_WITH_ZERO_BYTE; error.third++)
+    for (error.third = HV_TABLE_WITHOUT_BATCHES; error.third <= HV_TABLE_WITH_ZERO_BYTE; error.third++)
         CHECK(strcmp(hv_table_error_text(HV_UNSUPPORTED, &error, text), hv_error_sentence(HV_UNSUPPORTED)) != 0);
-    error.third = HV_TABLE_WITHOUT_SUM;
-    CHECK(strcmp(hv_table_error_text(HV_UNSUPPORTED, &error, text), "rows of this type have no sum") == 0);
+    error.third = HV_TABLE_WITHOUT_BATCHES;
+    CHECK(strcmp(hv_table_error_text(HV_UNSUPPORTED, &error, text), "a table comes from batches that have columns") ==
+          0);
     const hv_error greatest = {UINT64_MAX, UINT64_MAX, UINT64_MAX};
     for (int32_t number = HV_TABLE_UNKNOWN_NAME; number <= HV_TABLE_SUM_OVERFLOW; number++) {
         CHECK(strcmp(hv_table_error_name(number), "unknown") != 0);

@@ -119,7 +119,8 @@ static void random_column_type(plain_column *column) {
         const char *format;
     } types[] = {{HV_U8, ""},  {HV_U16, ""},  {HV_U32, ""},  {HV_U64, ""},  {HV_I8, ""},      {HV_I16, ""},
                  {HV_I32, ""}, {HV_I64, ""},  {HV_BOOL, ""}, {HV_UTF8, ""}, {HV_BINARY, ""},  {HV_DECIMAL, ""},
-                 {HV_I16, "e"}, {HV_I32, "f"}, {HV_I64, "g"}, {HV_I32, "tdD"}, {HV_I64, "tDs"}, {HV_LIST, ""}};
+                 {HV_I16, "e"}, {HV_I32, "f"}, {HV_I64, "g"}, {HV_I32, "tdD"}, {HV_I64, "tDs"}, {HV_LIST, ""},
+                 {HV_I32, "ttm"}, {HV_I64, "tsu:UTC"}};
     const size_t which = chance(COUNT(types));
     const bool is_decimal = types[which].number == HV_DECIMAL;
     column->kind.number = types[which].number;
