@@ -20,6 +20,23 @@ def structs_of(schema_capsule, array_capsule):
     return schema, ArrowArray.from_address(_pointer(array_capsule, b"arrow_array"))
 
 
+def streamed(column, read):
+    """What is read of each array of the stream of a column, one after the other."""
+    capsule = column.__arrow_c_stream__()
+    stream = ArrowArrayStream.from_address(_pointer(capsule, b"arrow_array_stream"))
+    schema, found = ArrowSchema(), []
+    assert stream.get_schema(stream, schema) == 0
+    while True:
+        items = ArrowArray()
+        assert stream.get_next(stream, items) == 0
+        if not items.release:
+            break
+        found += read(schema, items)
+        items.release(items)
+    schema.release(schema)
+    return found
+
+
 def rows_of(schema, items):
     """The rows that an array shows."""
     format, start, count = schema.format.decode(), items.offset, items.length

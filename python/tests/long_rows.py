@@ -4,6 +4,7 @@ The model of a column is a list of stretches, (rows, value), which shares nothin
 worked by the stretches in which both stay the same.
 """
 import math
+import operator
 from dataclasses import dataclass
 
 from hivevigil import Column
@@ -11,6 +12,9 @@ from hypothesis import strategies as st
 from rows import TYPES, values
 
 FAR = 2**40
+SIGNS = {
+    "==": operator.eq, "!=": operator.ne, ">": operator.gt, ">=": operator.ge, "<": operator.lt, "<=": operator.le,
+}  # fmt: skip
 KINDS = (*TYPES, "float64")
 
 
@@ -59,6 +63,16 @@ def beside(*sides):
 def worked(function, *sides):
     """The stretches of what a function makes of the rows at each place."""
     return joined((rows, function(*chosen)) for rows, chosen in beside(*sides))
+
+
+def nothing_or(function):
+    """A function of rows that is null where one of them is."""
+    return lambda *rows: None if None in rows else function(*rows)
+
+
+def held(sign):
+    """Whether a comparison holds of two rows, null where either is."""
+    return nothing_or(SIGNS[sign])
 
 
 def kept(parts, mask):

@@ -9,7 +9,7 @@ from pathlib import Path
 
 import hivevigil
 import pytest
-from arrow_model import Made, MadeStream, _pointer, batch, numbers, rows_of, structs_of
+from arrow_model import Made, MadeStream, _pointer, batch, numbers, rows_of, streamed, structs_of
 from hivevigil import ArrowArray, ArrowArrayStream, ArrowSchema, Column, columns_from_arrow, errors
 from hypothesis import given
 from rows import samples
@@ -27,19 +27,7 @@ def test_arrays_out_and_in(sample):
 
 @given(samples())
 def test_streams_out_and_in(sample):
-    capsule = sample.column.__arrow_c_stream__()
-    stream = ArrowArrayStream.from_address(_pointer(capsule, b"arrow_array_stream"))
-    schema, rows = ArrowSchema(), []
-    assert stream.get_schema(stream, schema) == 0
-    while True:
-        items = ArrowArray()
-        assert stream.get_next(stream, items) == 0
-        if not items.release:
-            break
-        rows += rows_of(schema, items)
-        items.release(items)
-    schema.release(schema)
-    assert rows == sample.rows
+    assert streamed(sample.column, rows_of) == sample.rows
     again = Column.from_arrow(OnlyStream(sample.column))
     assert (again.type, again.to_list()) == (sample.column.type, sample.rows)
 

@@ -7,21 +7,10 @@ import pytest
 from hivevigil import Column, Table, concat
 from hypothesis import given
 from hypothesis import strategies as st
-from long_rows import FAR, beside, joined, kept, longs, masks, parts_of, totals, worked
+from long_rows import FAR, SIGNS, beside, held, joined, kept, longs, masks, nothing_or, parts_of, totals, worked
 from rows import BITS, values
 
-SIGNS = {
-    "==": operator.eq, "!=": operator.ne, ">": operator.gt, ">=": operator.ge, "<": operator.lt, "<=": operator.le,
-}  # fmt: skip
 LONG_FORMS = ("runs", "constant")
-
-
-def held(sign):
-    return lambda left, right: None if left is None or right is None else SIGNS[sign](left, right)
-
-
-def nothing_or(function):
-    return lambda *rows: None if None in rows else function(*rows)
 
 
 @given(st.data(), totals(), st.sampled_from(list(SIGNS)))
