@@ -69,7 +69,7 @@ class Parameter:
 
 @dataclass(frozen=True)
 class Call:
-    """A call as the header declares it, under the heading that stands above it."""
+    """A call as the header declares it, under the heading above it."""
 
     heading: str
     answers: str

@@ -3,10 +3,10 @@
 
     python3 tools/ended_scripts.py [PROGRAM ..]     ends in 'N passed, M failed', N the runs that ended as they should
 
-A script ends early at a line that is no command, where a read or a write fails, where the input does not end, and where
-memory is refused: each request alone, and each with all after it. Scripts whose lines are all answered are the stored
-run of `crates/runend_tool`. Without a PROGRAM both builds of it are run, as `rt ci` leaves them in its `out`. Needs a C
-compiler (cc, or $CC) for the calls that fail (`failing_calls.c`).
+A script ends early at a line that is not a command, where a read or a write fails, where the input does not end, and
+where memory is refused: each request alone, and each with all after it. Scripts whose lines are all answered are the
+stored run of `crates/runend_tool`. Without a PROGRAM both builds of it are run, as `rt ci` leaves them in its `out`.
+Needs a C compiler (cc, or $CC) for the calls that fail (`failing_calls.c`).
 """
 
 import os
@@ -129,7 +129,7 @@ class Program:
 
 
 def bad_at(number: int) -> bytes:
-    """The answer to a line that is no command."""
+    """The answer to a line that is not a command."""
     return b"line %d: bad command\n" % number
 
 
@@ -173,7 +173,7 @@ def is_short(run: Ended, answers: bytes) -> bool:
 
 
 def refused_requests(program: Program) -> Iterator[tuple[str, bool]]:
-    """Each request for memory refused, alone and with all after it."""
+    """Each request for memory refused, by itself and with all after it."""
     script, answers = SERVED
     whole = program.run(script)
     requests = whole.counts[0]

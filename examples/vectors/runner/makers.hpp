@@ -250,7 +250,7 @@ inline Call read_views(const Words &words, const Workspace &) {
 // ---- Builders ----
 
 struct BuilderPart {
-    Shared rows; // or so many rows of the scalar
+    Shared rows; // or this many rows of the scalar
     Scalar scalar;
     uint64_t count;
 };
